@@ -1,0 +1,4 @@
+pub mod Sums
+pub mod Walk
+pub mod Places
+pub mod Searches

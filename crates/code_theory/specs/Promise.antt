@@ -1,0 +1,39 @@
+-- What is known of a sound card's code, and what the position code may know of it: the chunk promise.
+-- Assumes nothing.
+use mathlib.Core.Path.{_≡_}
+use Prim.Native.Nat.{ℕ, _+_, _^_, _≤_, _<_}
+use Rattle.bits.specs.Sums.{distance}
+use Rattle.bits.specs.Places.{bit}
+use Rattle.model.specs.Card.{Code, sumOfRows, leastWeight, radius}
+use Rattle.model.specs.Order.{codeword, lastCodeword, changedWeight, blockLength, start}
+use Rattle.model.specs.Reading.{chunkDistance, chunkReading}
+use Rattle.model.specs.declared.Chunk.the-variants.{Codeword}
+
+-- a code that a sound card gives: within the card's limits, no row wider than n, rows independent, D the least weight
+pub record Sound (C : Code) : Type 0 where
+  pub n-low : 1 ≤ C .n
+  pub n-high : C .n ≤ 64
+  pub k-low : 1 ≤ C .k
+  pub k-high : C .k ≤ 12
+  pub k-n : C .k ≤ C .n
+  pub narrow : (z : ℕ) → z < 12 → C .row z < 2 ^ C .n
+  pub unused : (z : ℕ) → C .k ≤ z → z < 12 → C .row z ≡ 0
+  pub independent : (g : ℕ) → 0 < g → g < 2 ^ C .k → sumOfRows (C .row) (C .k) g ≡ 0 → ⊥
+  pub least : C .D ≡ leastWeight (C .n) (sumOfRows (C .row) (C .k)) (2 ^ C .k)
+
+-- The chunk promise: all that the position code knows of the chunk code. Any reader of chunks that answers as
+-- `chunkReading` does meets it, whatever its search.
+pub record ChunkPromise (C : Code) : Type 0 where
+  pub D-pos : 1 ≤ C .D
+  -- a chunk within the radius of c(p) reads p
+  pub reads : (x : ℕ → ℕ) (p : ℕ) → p ≤ lastCodeword C → chunkDistance C x p ≤ radius C
+      → chunkReading C x ≡ Codeword p (chunkDistance C x p)
+  -- a chunk that reads p lies within the radius of c(p), a codeword of the code, in the count of places that it answers
+  pub read : (x : ℕ → ℕ) (p e : ℕ) → chunkReading C x ≡ Codeword p e
+      → (p ≤ lastCodeword C) × (e ≡ chunkDistance C x p) × (e ≤ radius C)
+  -- the first block starts at 0, and each one where the one before it ends
+  pub start-zero : start C 0 ≡ 0
+  pub start-next : (i : ℕ) → i < lastCodeword C → start C (i + 1) ≡ start C i + blockLength C i
+  -- codewords that follow one another differ in A(i) places
+  pub step : (i : ℕ) → i < lastCodeword C
+      → distance (C .n) (bit (codeword C i)) (bit (codeword C (i + 1))) ≡ changedWeight C i

@@ -1,0 +1,5 @@
+pub mod Card
+pub mod Order
+pub mod Words
+pub mod Reading
+pub mod Answers

@@ -1,0 +1,40 @@
+-- Document 01, "Order and words", second half: the word of a position, its bytes, and millimetres. Assumes nothing.
+use Prim.Native.Nat.{ℕ, _+_, _-_, _*_, _%_}
+use mathlib.Core.List.{List}
+use lib.Dec.{leb}
+use Rattle.bits.specs.Sums.{join}
+use Rattle.bits.specs.Walk.{walk}
+use Rattle.bits.specs.Places.{bit, pack}
+use Rattle.bits.specs.Searches.{greatest}
+use Rattle.model.specs.Card.{Code}
+use Rattle.model.specs.Order.{codeword, lastCodeword, start}
+
+-- d, the bits of a word: 2n + 3D
+abbrev pub wordBits : Code → ℕ
+wordBits C = 2 * C .n + 3 * C .D
+
+-- a word of five chunks: separator 1 (D bits), code chunk 1 (n), separator 2 (D), code chunk 2 (n), separator 3 (D)
+unfoldable pub fiveChunks : Code → (s₁ c₁ s₂ c₂ s₃ : ℕ → ℕ) → ℕ → ℕ
+fiveChunks C s₁ c₁ s₂ c₂ s₃ = join (C .D) s₁ (join (C .n) c₁ (join (C .D) s₂ (join (C .n) c₂ s₃)))
+
+-- w(i): c(i) in both code chunks and the parity of i in every separator bit
+unfoldable pub word : Code → ℕ → ℕ → ℕ
+word C i =
+    let parity : ℕ → ℕ = λ p. i % 2 in let c : ℕ → ℕ = bit (codeword C i) in fiveChunks C parity c parity c parity
+
+-- the block of a position: the greatest i up to 2^k - 1 with r(i) at most the position
+unfoldable pub blockOf : Code → ℕ → ℕ
+blockOf C position = greatest (λ i. leb (start C i) position) (lastCodeword C)
+
+-- the word of a position r(i) + m of block i: w(i) with the first m places in which w(i) and w(i+1) differ taken from w(i+1)
+unfoldable pub wordAt : Code → ℕ → ℕ → ℕ
+wordAt C position =
+    let i : ℕ = blockOf C position in walk (word C i) (word C (i + 1)) (position - start C i)
+
+-- the word of a position as it travels: place p is bit p mod 8, lowest first, of byte p / 8; bits past d are zero
+unfoldable pub wordBytes : Code → ℕ → List ℕ
+wordBytes C position = pack (wordBits C) (wordAt C position)
+
+-- distance from the buffer face: 50 mm × position
+abbrev pub millimetresOf : ℕ → ℕ
+millimetresOf position = 50 * position

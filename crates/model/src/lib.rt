@@ -1,0 +1,47 @@
+// What a code chunk reads as, and what the public calls answer. The definitions of specs/ give these values their meaning.
+// A refusal carries document 01's number for it and nothing else.
+
+// What a code chunk reads as: the number p of the codeword c(p) within the radius, and in how many places the two differ.
+pub enum Chunk {
+    Codeword { number: u32, unlike: u32 },
+    Unreadable,
+}
+
+// What a sound card is answered with: n, k, track, D, t, d and the last position.
+pub struct CardSummary {
+    pub n: u32,
+    pub k: u32,
+    pub track: u32,
+    pub distance: u32,
+    pub radius: u32,
+    pub bits: u32,
+    pub last: u32,
+}
+
+// The answer to a check of a card.
+pub enum CardAnswer {
+    Sound(CardSummary),
+    Refused(u32),
+}
+
+// The answer to a write.
+pub enum WriteAnswer {
+    Written,
+    Refused(u32),
+}
+
+// The answer to a read.
+pub enum ReadAnswer {
+    At {
+        position: u32,
+        residual: u32,
+        rule: u32,
+    },
+    Refused(u32),
+}
+
+// The answer to a call that asks for one number: a block's start, or a distance in millimetres.
+pub enum NumberAnswer {
+    Number(u32),
+    Refused(u32),
+}
