@@ -2,3 +2,4 @@ pub mod Numbers
 pub mod Sums
 pub mod Distance
 pub mod Walk
+pub mod Searches
