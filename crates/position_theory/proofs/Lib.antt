@@ -1,3 +1,5 @@
 pub mod Words
 pub mod Blocks
 pub mod Isometry
+pub mod Allowed
+pub mod TrueAllowed
