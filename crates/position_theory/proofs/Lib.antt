@@ -3,3 +3,4 @@ pub mod Blocks
 pub mod Isometry
 pub mod Allowed
 pub mod TrueAllowed
+pub mod WholeChunks
