@@ -3,3 +3,4 @@ pub mod Sums
 pub mod Distance
 pub mod Walk
 pub mod Searches
+pub mod Places
