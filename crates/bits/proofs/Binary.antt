@@ -4,7 +4,7 @@
 use mathlib.Core.Path.{_≡_, refl, sym, ap, _∙_}
 use mathlib.Core.Logic.{⊎-elim}
 use Prim.Native.Nat.{ℕ, zero, suc, _+_, _*_, _/_, _%_, _^_, _≤_, _<_}
-use native.Mathlib.Nat.{mod-lt, mod-eq-of-lt, mod-add-mod, add-mod-mod, div-one, zero-div, div-eq-of-lt, div-div-eq-div-mul, pow-succ', lt-of-lt-of-le, mul-add-mod-self-right, eq-or-lt-of-le, zero-lt-suc, mod-one, zero-add, add-zero, div-lt-iff-lt-mul}
+use native.Mathlib.Nat.{mod-lt, mod-eq-of-lt, mod-add-mod, add-mod-mod, div-one, zero-div, div-eq-of-lt, div-self, div-div-eq-div-mul, pow-succ', lt-of-lt-of-le, mul-add-mod-self-right, eq-or-lt-of-le, zero-lt-suc, mod-one, zero-add, add-zero, div-lt-iff-lt-mul}
 use native.Mathlib.Numerals.{one-add}
 use native.Mathlib.Omega.{arith}
 use lib.Bits.{bitXor, differ, xor-step, xor-shr}
@@ -63,7 +63,7 @@ pub bit-high : (x n p : ℕ) → x < 2 ^ n → n ≤ p → bit x p ≡ 0
 bit-high x n p h l = rw (div-eq-of-lt (lt-of-lt-of-le h (pow-mono l)))
 
 -- a number is below 2 to the number
-below-pow : (x : ℕ) → x < 2 ^ x
+pub below-pow : (x : ℕ) → x < 2 ^ x
 below-pow zero = omega arith
 below-pow (suc x) = let ih : x < 2 ^ x = below-pow x in omega arith
 
@@ -91,6 +91,18 @@ below-of-bits n x h =
     bit-ext (x / 2 ^ n) 0 (λ p. rw (shr-shr x n p) (h (n + p) (omega arith) ∙ sym (bit-zero p))) in
     let l : x < 1 * 2 ^ n = div-lt-iff-lt-mul (pow-pos n) .0 (omega arith) in omega arith
 
+-- 2 ^ z has one bit, bit z
+pub bit-pow-same : (z : ℕ) → bit (2 ^ z) z ≡ 1
+bit-pow-same z = rw (div-self (pow-pos z))
+
+pub bit-pow-other : (z p : ℕ) → (p ≡ z → ⊥) → bit (2 ^ z) p ≡ 0
+bit-pow-other zero zero h = absurd (h refl)
+bit-pow-other zero (suc p) h = bit-suc 1 p ∙ bit-zero p
+bit-pow-other (suc z) zero h = bit-lowest (2 ^ suc z) ∙ (omega arith)
+bit-pow-other (suc z) (suc p) h =
+    let half : 2 ^ suc z / 2 ≡ 2 ^ z = omega arith in
+    bit-suc (2 ^ suc z) p ∙ ap (λ (x : ℕ). bit x p) half ∙ bit-pow-other z p (λ e. h (ap suc e))
+
 -- ---- exclusive-or, bit by bit
 
 differ-parity : (a b : ℕ) → differ a b % 2 ≡ (a + b) % 2
@@ -98,7 +110,7 @@ differ-parity zero b = rw zero-add
 differ-parity (suc a) zero = rw add-zero
 differ-parity (suc a) (suc b) = let ih : differ a b % 2 ≡ (a + b) % 2 = differ-parity a b in omega arith
 
-xor-lowest : (a b : ℕ) → bitXor a b % 2 ≡ unlike (a % 2) (b % 2)
+pub xor-lowest : (a b : ℕ) → bitXor a b % 2 ≡ unlike (a % 2) (b % 2)
 xor-lowest a b =
     ap (λ (x : ℕ). x % 2) (xor-step a b)
     ∙ mul-add-mod-self-right (bitXor (a / 2) (b / 2)) 2 (differ (a % 2) (b % 2))
