@@ -1,0 +1,234 @@
+-- What the searches find. Each search is known by a few facts: where it lies, what holds there, and what holds of the numbers
+-- that it passed over; whatever has those facts is what it finds. Assumes nothing.
+use Prim.Native.Nat.{ℕ, zero, suc, _+_, _≤_, _<_, zero-le}
+use mathlib.Core.Path.{_≡_, refl, sym, _∙_}
+use mathlib.Core.Bool.{Bool, true, false, _||_, true≢false}
+use mathlib.Core.Logic.{_⊎_, inl, inr, ⊎-elim}
+use native.Mathlib.Nat.{eq-or-lt-of-le, lt-of-not-le, le-of-suc-le-suc, le-antisymm, le-refl, le-step, lt-suc-self}
+use native.Mathlib.Omega.{arith}
+use lib.Dec.{ltb}
+use borrow.Author.Tests.{ltb-true, ltb-false}
+use Rattle.bits.specs.Searches.{any, firstFrom, first, leastAt, greatest}
+
+-- a test is true or false
+pub true-or-false : (b : Bool) → (b ≡ true) ⊎ (b ≡ false)
+true-or-false true = inl refl
+true-or-false false = inr refl
+
+-- a number lies below a bound or not
+pub below-or-above : (p d : ℕ) → (p < d) ⊎ (d ≤ p)
+below-or-above p d = ⊎-elim (λ e. inl (ltb-true p d e)) (λ e. inr (ltb-false p d e)) (true-or-false (ltb p d))
+
+-- a test that is true is not false
+never : {b : Bool} → b ≡ true → b ≡ false → ⊥
+never t f = true≢false (sym t ∙ f)
+
+-- neither less nor greater
+equal : (a b : ℕ) → (a < b → ⊥) → (b < a → ⊥) → a ≡ b
+equal a b h k = le-antisymm (le-of-suc-le-suc (lt-of-not-le k)) (le-of-suc-le-suc (lt-of-not-le h))
+
+-- a number below m + 1 is m, or below m
+last-or-below : {i m : ℕ} → i < suc m → (i ≡ m) ⊎ (i < m)
+last-or-below h = eq-or-lt-of-le (le-of-suc-le-suc h)
+
+-- any: whether the test ever holds
+
+or-false-left : (a b : Bool) → (a || b) ≡ false → a ≡ false
+or-false-left true b h = h
+or-false-left false b h = refl
+
+or-false-right : (a b : Bool) → (a || b) ≡ false → b ≡ false
+or-false-right true b h = absurd (true≢false h)
+or-false-right false b h = h
+
+or-true-right : (a b : Bool) → b ≡ true → (a || b) ≡ true
+or-true-right true b h = refl
+or-true-right false b h = h
+
+pub any-none : (f : ℕ → Bool) (m : ℕ) → ((i : ℕ) → i < m → f i ≡ false) → any f m ≡ false
+unfolding any
+any-none f zero h = refl
+any-none f (suc m) h = rw (any-none f m (λ i l. h i (le-step l))) (h m (lt-suc-self m))
+
+pub none-of-any : (f : ℕ → Bool) (m : ℕ) → any f m ≡ false → (i : ℕ) → i < m → f i ≡ false
+unfolding any
+none-of-any f zero h i l = absurd (omega arith)
+none-of-any f (suc m) h i l =
+    ⊎-elim (λ e. rw e (or-false-right (any f m) (f m) h))
+    (none-of-any f m (or-false-left (any f m) (f m) h) i)
+    (last-or-below l)
+
+pub any-some : (f : ℕ → Bool) (m i : ℕ) → i < m → f i ≡ true → any f m ≡ true
+unfolding any
+any-some f zero i l t = absurd (omega arith)
+any-some f (suc m) i l t =
+    ⊎-elim (λ e. or-true-right (any f m) (f m) (rw e at t)) (λ k. rw (any-some f m i k t)) (last-or-below l)
+
+pub any-ext : (f g : ℕ → Bool) (m : ℕ) → ((i : ℕ) → i < m → f i ≡ g i) → any f m ≡ any g m
+unfolding any
+any-ext f g zero h = refl
+any-ext f g (suc m) h = rw (any-ext f g m (λ i l. h i (le-step l)), h m (lt-suc-self m))
+
+-- first: where the test first holds
+
+from-low : (f : ℕ → Bool) (from m : ℕ) → from ≤ firstFrom f from m
+unfolding firstFrom
+from-low f from zero = le-refl from
+from-low f from (suc m) =
+    ⊎-elim (λ e. rw e (le-refl from)) (λ e. rw e (omega (arith, from-low f (suc from) m))) (true-or-false (f from))
+
+from-high : (f : ℕ → Bool) (from m : ℕ) → firstFrom f from m ≤ from + m
+unfolding firstFrom
+from-high f from zero = omega arith
+from-high f from (suc m) =
+    ⊎-elim (λ e. rw e (omega arith)) (λ e. rw e (omega (arith, from-high f (suc from) m))) (true-or-false (f from))
+
+from-holds : (f : ℕ → Bool) (from m : ℕ) → firstFrom f from m < from + m → f (firstFrom f from m) ≡ true
+unfolding firstFrom
+from-holds f from zero = λ l. absurd (omega arith)
+from-holds f from (suc m) =
+    ⊎-elim (λ e. rw e (λ l. e)) (λ e. rw e (λ l. from-holds f (suc from) m (omega arith))) (true-or-false (f from))
+
+from-before : (f : ℕ → Bool) (from m j : ℕ) → from ≤ j → j < firstFrom f from m → f j ≡ false
+unfolding firstFrom
+from-before f from zero j h = λ l. absurd (omega arith)
+from-before f from (suc m) j h =
+    ⊎-elim (λ e. rw e (λ l. absurd (omega arith)))
+    (λ e. rw e (λ l. ⊎-elim (λ s. rw (← s) e) (λ k. from-before f (suc from) m j k l) (eq-or-lt-of-le h)))
+    (true-or-false (f from))
+
+from-ext : (f g : ℕ → Bool) (from m : ℕ) → ((j : ℕ) → from ≤ j → j < from + m → f j ≡ g j)
+    → firstFrom f from m ≡ firstFrom g from m
+unfolding firstFrom
+from-ext f g from zero h = refl
+from-ext f g from (suc m) h =
+    rw (h from (le-refl from) (omega arith), from-ext f g (suc from) m (λ j l k. h j (omega arith) (omega arith)))
+
+module _ (f : ℕ → Bool) (m : ℕ) where
+  pub first-le : first f m ≤ m
+  unfolding first
+  first-le = omega (arith, from-high f 0 m)
+
+  pub first-holds : first f m < m → f (first f m) ≡ true
+  unfolding first
+  first-holds l = from-holds f 0 m (omega arith)
+
+  pub first-before : (j : ℕ) → j < first f m → f j ≡ false
+  unfolding first
+  first-before j l = from-before f 0 m j zero-le l
+
+  pub first-is : (i : ℕ) → i < m → f i ≡ true → ((j : ℕ) → j < i → f j ≡ false) → first f m ≡ i
+  first-is i l t none =
+      equal (first f m) i (λ k. never (first-holds (omega arith)) (none (first f m) k)) (λ k. never t (first-before i k))
+
+  pub first-none : ((j : ℕ) → j < m → f j ≡ false) → first f m ≡ m
+  first-none none =
+      equal (first f m) m (λ k. never (first-holds k) (none (first f m) k)) (λ k. omega (arith, first-le))
+
+pub first-ext : (f g : ℕ → Bool) (m : ℕ) → ((j : ℕ) → j < m → f j ≡ g j) → first f m ≡ first g m
+unfolding first
+first-ext f g m h = from-ext f g 0 m (λ j l k. h j (omega arith))
+
+-- leastAt: where a count is least
+
+-- one number more: it is taken if f is less there
+abbrev Taken : (ℕ → ℕ) → (from m : ℕ) → Type 0
+Taken f from m =
+    (leastAt f from (suc m) ≡ from + suc m) × (f (from + suc m) < f (leastAt f from m))
+
+abbrev Kept : (ℕ → ℕ) → (from m : ℕ) → Type 0
+Kept f from m =
+    (leastAt f from (suc m) ≡ leastAt f from m) × (f (leastAt f from m) ≤ f (from + suc m))
+
+taken-or-kept : (f : ℕ → ℕ) (from m : ℕ) → Taken f from m ⊎ Kept f from m
+unfolding leastAt
+taken-or-kept f from m =
+    let new = from + suc m in
+    let before = leastAt f from m in
+    ⊎-elim (λ e. inl (rw e, ltb-true (f new) (f before) e))
+    (λ e. inr (rw e, ltb-false (f new) (f before) e))
+    (true-or-false (ltb (f new) (f before)))
+
+pub leastAt-low : (f : ℕ → ℕ) (from m : ℕ) → from ≤ leastAt f from m
+unfolding leastAt
+leastAt-low f from zero = le-refl from
+leastAt-low f from (suc m) =
+    let low = leastAt-low f from m in
+    ⊎-elim (λ t. rw (t .0) (omega arith)) (λ k. rw (k .0) low) (taken-or-kept f from m)
+
+pub leastAt-high : (f : ℕ → ℕ) (from m : ℕ) → leastAt f from m ≤ from + m
+unfolding leastAt
+leastAt-high f from zero = omega arith
+leastAt-high f from (suc m) =
+    let high = leastAt-high f from m in
+    ⊎-elim (λ t. rw (t .0) (le-refl (from + suc m))) (λ k. rw (k .0) (omega arith)) (taken-or-kept f from m)
+
+pub leastAt-least : (f : ℕ → ℕ) (from m q : ℕ) → from ≤ q → q ≤ from + m → f (leastAt f from m) ≤ f q
+unfolding leastAt
+leastAt-least f from zero q l h = let e : q ≡ from = omega arith in rw e (le-refl (f from))
+leastAt-least f from (suc m) q l h =
+    let least = leastAt-least f from m q l in
+    let where-q : (q ≡ from + suc m) ⊎ (q < from + suc m) = eq-or-lt-of-le h in
+    ⊎-elim
+    (λ t.
+    rw (t .0)
+    (⊎-elim (λ e. rw e (le-refl (f (from + suc m)))) (λ k. omega (arith, t .1, least (omega arith))) where-q))
+    (λ k. rw (k .0) (⊎-elim (λ e. rw e (k .1)) (λ b. least (omega arith)) where-q))
+    (taken-or-kept f from m)
+
+pub leastAt-first : (f : ℕ → ℕ) (from m q : ℕ) → from ≤ q → q < leastAt f from m → f (leastAt f from m) < f q
+unfolding leastAt
+leastAt-first f from zero q l = λ h. absurd (omega arith)
+leastAt-first f from (suc m) q l =
+    let before = leastAt-first f from m q l in
+    ⊎-elim (λ t. rw (t .0) (λ h. omega (arith, t .1, leastAt-least f from m q l (omega arith))))
+    (λ k. rw (k .0) before)
+    (taken-or-kept f from m)
+
+-- the facts that say which number it is
+pub leastAt-is : (f : ℕ → ℕ) (from m q : ℕ) → from ≤ q → q ≤ from + m
+    → ((j : ℕ) → from ≤ j → j ≤ from + m → f q ≤ f j) → ((j : ℕ) → from ≤ j → j < q → f q < f j) → leastAt f from m ≡ q
+leastAt-is f from m q l h least first-one =
+    let r = leastAt f from m in
+    equal r q (λ k. omega (arith, first-one r (leastAt-low f from m) k, leastAt-least f from m q l h))
+    (λ k. omega (arith, leastAt-first f from m q l k, least r (leastAt-low f from m) (leastAt-high f from m)))
+
+pub leastAt-ext : (f g : ℕ → ℕ) (from m : ℕ) → ((j : ℕ) → from ≤ j → j ≤ from + m → f j ≡ g j)
+    → leastAt f from m ≡ leastAt g from m
+unfolding leastAt
+leastAt-ext f g from zero same = refl
+leastAt-ext f g from (suc m) same =
+    rw (leastAt-ext f g from m (λ j l h. same j l (omega arith)), same (from + suc m) (omega arith) (omega arith), same (leastAt g from m) (leastAt-low g from m) (omega (arith, leastAt-high g from m)))
+
+-- greatest: the greatest number of which the test holds
+
+pub greatest-le : (f : ℕ → Bool) (m : ℕ) → greatest f m ≤ m
+unfolding greatest
+greatest-le f zero = zero-le
+greatest-le f (suc m) =
+    let below = greatest-le f m in
+    ⊎-elim (λ e. rw e (le-refl (suc m))) (λ e. rw e (omega arith)) (true-or-false (f (suc m)))
+
+pub greatest-holds : (f : ℕ → Bool) (m : ℕ) → 0 < greatest f m → f (greatest f m) ≡ true
+unfolding greatest
+greatest-holds f zero = λ l. absurd (omega arith)
+greatest-holds f (suc m) =
+    let below = greatest-holds f m in
+    ⊎-elim (λ e. rw e (λ l. e)) (λ e. rw e below) (true-or-false (f (suc m)))
+
+pub greatest-above : (f : ℕ → Bool) (m j : ℕ) → greatest f m < j → j ≤ m → f j ≡ false
+unfolding greatest
+greatest-above f zero j = λ l h. absurd (omega arith)
+greatest-above f (suc m) j =
+    let below = greatest-above f m j in
+    ⊎-elim (λ e. rw e (λ l h. absurd (omega arith)))
+    (λ e. rw e (λ l h. ⊎-elim (λ s. rw s e) (λ k. below l (omega arith)) (eq-or-lt-of-le h)))
+    (true-or-false (f (suc m)))
+
+-- the facts that say which number it is
+pub greatest-is : (f : ℕ → Bool) (m i : ℕ) → i ≤ m → (0 < i → f i ≡ true) → ((j : ℕ) → i < j → j ≤ m → f j ≡ false)
+    → greatest f m ≡ i
+greatest-is f m i l t above =
+    let r = greatest f m in
+    equal r i (λ k. never (t (omega arith)) (greatest-above f m i k l))
+    (λ k. never (greatest-holds f m (omega arith)) (above r k (greatest-le f m)))
