@@ -12,7 +12,7 @@ use lib.Count.{trailingZeros}
 use lib.Pow.{pow-mono}
 use Rattle.bits.specs.Sums.{unlike}
 use Rattle.bits.specs.Places.{bit}
-use Rattle.bits.proofs.Binary.{bit-bit, bit-lowest, bit-suc, bit-xor, bit-ext, xor-lowest, below-pow, bit-pow-same, bit-pow-other}
+use Rattle.bits.proofs.Binary.{bit-bit, bit-lowest, bit-suc, bit-xor, bit-ext, xor-lowest, below-pow, bit-pow-same, bit-pow-other, bit-high}
 use Rattle.model.specs.Order.{gray}
 
 -- ---- trailing zeros
@@ -174,3 +174,12 @@ gray-onto (suc k) g h = next (gray-onto k (g / 2) (omega arith))
         let b : ℕ = unlike (g % 2) (i % 2) in
         let bit : b < 2 = omega arith in
         (2 * i + b, omega arith, gray-of-digits (2 * i + b) i g (omega arith) (omega arith) e)
+
+-- the bit that changes is one of the first k where i + 1 is below 2 ^ k
+pub changed-below : (k w i : ℕ) → i + 1 < 2 ^ k → i + 1 < 2 ^ w → trailingZeros w (i + 1) < k
+changed-below k w i below fits =
+    let z : ℕ = trailingZeros w (i + 1) in
+    by-cases (decLt z k) (λ (l : z < k). l)
+    (λ l.
+    omega
+    (arith, gray-changed w i fits, bit-high (gray i) k z (gray-below k i (omega arith)) (omega arith), bit-high (gray (i + 1)) k z (gray-below k (i + 1) below) (omega arith)))

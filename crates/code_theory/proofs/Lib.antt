@@ -1,1 +1,2 @@
 pub mod Gray
+pub mod Codewords
