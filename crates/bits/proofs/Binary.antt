@@ -2,9 +2,8 @@
 -- So the weight of an exclusive-or is a Hamming distance, and identities of exclusive-or are read off bit by bit.
 -- Assumes nothing.
 use mathlib.Core.Path.{_≡_, refl, sym, ap, _∙_}
-use mathlib.Core.Logic.{⊎-elim}
 use Prim.Native.Nat.{ℕ, zero, suc, _+_, _*_, _/_, _%_, _^_, _≤_, _<_}
-use native.Mathlib.Nat.{mod-lt, mod-eq-of-lt, mod-add-mod, add-mod-mod, div-one, zero-div, div-eq-of-lt, div-self, div-div-eq-div-mul, pow-succ', lt-of-lt-of-le, mul-add-mod-self-right, eq-or-lt-of-le, zero-lt-suc, mod-one, zero-add, add-zero, div-lt-iff-lt-mul}
+use native.Mathlib.Nat.{mod-lt, mod-eq-of-lt, mod-add-mod, add-mod-mod, div-one, zero-div, div-eq-of-lt, div-self, div-div-eq-div-mul, pow-succ', lt-of-lt-of-le, mul-add-mod-self-right, zero-lt-suc, mod-one, zero-add, add-zero, div-lt-iff-lt-mul}
 use native.Mathlib.Numerals.{one-add}
 use native.Mathlib.Omega.{arith}
 use lib.Bits.{bitXor, differ, xor-step, xor-shr}
@@ -12,36 +11,18 @@ use lib.Count.{ones, ones-cat}
 use lib.Pow.{pow-pos, pow-mono, mod-pow-add, shr-shr}
 use Rattle.bits.specs.Sums.{sum, unlike, distance}
 use Rattle.bits.specs.Places.{bit, weight}
+use Rattle.bits.proofs.Sums.{sum-ext, sum-zero, sum-longer}
 
--- ---- sums, place by place
-
-sum-ext : (f g : ℕ → ℕ) (d : ℕ) → ((p : ℕ) → p < d → f p ≡ g p) → sum f d ≡ sum g d
-unfolding sum
-sum-ext f g zero h = refl
-sum-ext f g (suc d) h =
-    let e : sum f d ≡ sum g d = sum-ext f g d (λ p l. h p (omega arith)) in
-    let l : f d ≡ g d = h d (omega arith) in omega arith
-
-sum-zero : (f : ℕ → ℕ) (d : ℕ) → ((p : ℕ) → p < d → f p ≡ 0) → sum f d ≡ 0
-unfolding sum
-sum-zero f zero h = refl
-sum-zero f (suc d) h =
-    let e : sum f d ≡ 0 = sum-zero f d (λ p l. h p (omega arith)) in
-    let l : f d ≡ 0 = h d (omega arith) in omega arith
+-- ---- sums of bits
 
 sum-none : (f : ℕ → ℕ) (d : ℕ) → sum f d ≡ 0 → (p : ℕ) → p < d → f p ≡ 0
 unfolding sum
-sum-none f zero e p l = omega arith
-sum-none f (suc d) e p l =
-    let e′ : sum f d ≡ 0 = omega arith in
-    ⊎-elim (λ (q : suc p ≡ suc d). let q′ : p ≡ d = omega arith in ap f q′ ∙ (omega arith)) (λ (q : suc p < suc d). sum-none f d e′ p (omega arith)) (eq-or-lt-of-le l)
+sum-none f d e p l = omega (arith, sum-longer f {a = suc p} {d = d} l)
 
-sum-le : (f : ℕ → ℕ) (d : ℕ) → ((p : ℕ) → p < d → f p ≤ 1) → sum f d ≤ d
+sum-le : (f : ℕ → ℕ) (d : ℕ) → ((p : ℕ) → f p < 2) → sum f d ≤ d
 unfolding sum
 sum-le f zero h = omega arith
-sum-le f (suc d) h =
-    let e : sum f d ≤ d = sum-le f d (λ p l. h p (omega arith)) in
-    let l : f d ≤ 1 = h d (omega arith) in omega arith
+sum-le f (suc d) h = omega (arith, sum-le f d h, h d)
 
 -- ---- the digits of a number
 
@@ -138,11 +119,11 @@ eq-of-xor-zero x y e =
 
 pub weight-le : (n x : ℕ) → weight n x ≤ n
 unfolding weight
-weight-le n x = sum-le (bit x) n (λ p l. let h : bit x p < 2 = bit-bit x p in omega arith)
+weight-le n x = sum-le (bit x) n (bit-bit x)
 
 pub weight-zero : (n : ℕ) → weight n 0 ≡ 0
 unfolding weight
-weight-zero n = sum-zero (bit 0) n (λ p l. bit-zero p)
+weight-zero n = sum-zero n (λ p l. bit-zero p)
 
 -- of the numbers below 2 ^ n only 0 has weight 0
 pub zero-of-weight : (n x : ℕ) → x < 2 ^ n → weight n x ≡ 0 → x ≡ 0
@@ -152,7 +133,7 @@ zero-of-weight n x h e = bit-ext-below n x 0 h (pow-pos n) (λ p l. sum-none (bi
 -- the weight of an exclusive-or is the distance of the two
 pub weight-xor : (n x y : ℕ) → weight n (bitXor x y) ≡ distance n (bit x) (bit y)
 unfolding weight distance
-weight-xor n x y = sum-ext (bit (bitXor x y)) (λ p. unlike (bit x p) (bit y p)) n (λ p l. bit-xor x y p)
+weight-xor n x y = sum-ext n (λ p l. bit-xor x y p)
 
 -- the weight is the count of ones
 ones-of-bit : (b : ℕ) → b < 2 → ones b ≡ b

@@ -1,0 +1,87 @@
+-- The Hamming distance is a metric that adds up over parts of a word, and along a third word that agrees at each place
+-- with one of the two. Assumes nothing.
+use mathlib.Core.Path.{_≡_, refl}
+use mathlib.Core.Logic.{_⊎_, ⊎-elim}
+use Prim.Native.Nat.{ℕ, zero, suc, _+_, _-_, _%_, _≤_, _<_}
+use native.Mathlib.Nat.{add-sub-cancel-left}
+use native.Mathlib.Omega.{arith}
+use mathlib.Core.Bool.{true, false, cond}
+use lib.Dec.{ltb}
+use borrow.Author.Tests.{lt-ltb, le-ltb}
+use Rattle.bits.specs.Sums.{sum, distance, unlike, from, join}
+use Rattle.bits.proofs.Sums.{sum-ext, sum-mono, sum-add, sum-split, sum-zero, sum-longer}
+
+-- the distance goes by the bits below d
+pub distance-ext : {u u′ v v′ : ℕ → ℕ} (d : ℕ) → ((p : ℕ) → p < d → u p ≡ u′ p) → ((p : ℕ) → p < d → v p ≡ v′ p)
+    → distance d u v ≡ distance d u′ v′
+unfolding distance
+distance-ext d hu hv = sum-ext d (λ p b. rw (hu p b, hv p b))
+
+pub distance-comm : (d : ℕ) (u v : ℕ → ℕ) → distance d u v ≡ distance d v u
+unfolding distance
+distance-comm d u v = sum-ext d (λ p b. omega arith)
+
+pub distance-self : (d : ℕ) (u : ℕ → ℕ) → distance d u u ≡ 0
+unfolding distance
+distance-self d u = sum-zero d (λ p b. omega arith)
+
+pub distance-triangle : (d : ℕ) (u v w : ℕ → ℕ) → distance d u w ≤ distance d u v + distance d v w
+unfolding distance
+distance-triangle d u v w =
+    rw (← (sum-add (λ p. unlike (u p) (v p)) (λ p. unlike (v p) (w p)) d)) (sum-mono d (λ p b. omega arith))
+
+-- one place more
+pub distance-suc : (d : ℕ) (u v : ℕ → ℕ) → distance (suc d) u v ≡ distance d u v + unlike (u d) (v d)
+unfolding distance sum
+distance-suc d u v = refl
+
+-- more places, at least as far apart
+pub distance-longer : (u v : ℕ → ℕ) {a d : ℕ} → a ≤ d → distance a u v ≤ distance d u v
+unfolding distance
+distance-longer u v h = sum-longer (λ p. unlike (u p) (v p)) h
+
+pub distance-split : (a b : ℕ) (u v : ℕ → ℕ) → distance (a + b) u v ≡ distance a u v + distance b (from a u) (from a v)
+unfolding distance
+distance-split a b u v = sum-split (λ p. unlike (u p) (v p)) a b
+
+-- words that differ in each of d places are d apart
+pub distance-everywhere : (u v : ℕ → ℕ) (d : ℕ) → ((p : ℕ) → p < d → unlike (u p) (v p) ≡ 1) → distance d u v ≡ d
+unfolding distance sum
+distance-everywhere u v zero h = refl
+distance-everywhere u v (suc d) h = omega (arith, distance-everywhere u v d (λ p b. h p (omega arith)), h d (omega arith))
+
+-- words at distance 0 agree
+pub agree-of-distance-zero : {u v : ℕ → ℕ} (d : ℕ) → ((p : ℕ) → u p < 2) → ((p : ℕ) → v p < 2) → distance d u v ≡ 0
+    → (p : ℕ) → p < d → u p ≡ v p
+agree-of-distance-zero {u} {v} d hu hv e p b =
+    omega (arith, hu p, hv p, distance-suc p u v, distance-longer u v {a = suc p} {d = d} b)
+
+-- where at each place u or v agrees with c, the way from u to v over c is no detour
+pub distance-through : {u c v : ℕ → ℕ} (d : ℕ) → ((p : ℕ) → p < d → (u p ≡ c p) ⊎ (v p ≡ c p))
+    → distance d u v ≡ distance d u c + distance d c v
+unfolding distance
+distance-through {u} {c} {v} d h =
+    rw (← (sum-add (λ p. unlike (u p) (c p)) (λ p. unlike (c p) (v p)) d))
+    (sum-ext d (λ p b. ⊎-elim (λ e. omega arith) (λ e. omega arith) (h p b)))
+
+-- joined words: below a the first, from a on the second
+pub join-left : (a : ℕ) (u v : ℕ → ℕ) (p : ℕ) → p < a → join a u v p ≡ u p
+unfolding join
+join-left a u v p b = simp (lt-ltb p a b)
+
+pub join-right : (a : ℕ) (u v : ℕ → ℕ) (p : ℕ) → join a u v (a + p) ≡ v p
+unfolding join
+join-right a u v p = simp (le-ltb (a + p) a (omega arith), add-sub-cancel-left)
+
+pub join-bits : (a : ℕ) {u v : ℕ → ℕ} → ((p : ℕ) → u p < 2) → ((p : ℕ) → v p < 2) → (p : ℕ) → join a u v p < 2
+unfolding join
+join-bits a {u} {v} hu hv p = elim (ltb p a) as (λ t. cond t (u p) (v (p - a)) < 2) [ true ↦ hu p | false ↦ hv (p - a) ]
+
+pub distance-join : (a b : ℕ) (u v u′ v′ : ℕ → ℕ)
+    → distance (a + b) (join a u v) (join a u′ v′) ≡ distance a u u′ + distance b v v′
+distance-join a b u v u′ v′ =
+    rw (
+      distance-split a b (join a u v) (join a u′ v′),
+      distance-ext a (join-left a u v) (join-left a u′ v′),
+      distance-ext b (λ p _. join-right a u v p) (λ p _. join-right a u′ v′ p),
+    )

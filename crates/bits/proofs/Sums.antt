@@ -1,0 +1,41 @@
+-- The laws of sums over places: a sum goes by its values, splits where its range splits, and is additive.
+-- Assumes nothing.
+use mathlib.Core.Path.{_≡_, refl}
+use Prim.Native.Nat.{ℕ, zero, suc, _+_, _≤_, _<_}
+use native.Mathlib.Nat.{add-zero, add-suc, le-dest}
+use native.Mathlib.Omega.{arith}
+use Rattle.bits.specs.Sums.{sum, from}
+
+-- two functions that agree below d have the same sum
+pub sum-ext : {f g : ℕ → ℕ} (d : ℕ) → ((p : ℕ) → p < d → f p ≡ g p) → sum f d ≡ sum g d
+unfolding sum
+sum-ext zero h = refl
+sum-ext (suc d) h = rw (sum-ext d (λ p b. h p (omega arith)), h d (omega arith))
+
+-- a sum goes up with its values
+pub sum-mono : {f g : ℕ → ℕ} (d : ℕ) → ((p : ℕ) → p < d → f p ≤ g p) → sum f d ≤ sum g d
+unfolding sum
+sum-mono zero h = omega arith
+sum-mono (suc d) h = omega (arith, sum-mono d (λ p b. h p (omega arith)), h d (omega arith))
+
+-- the sum of the sums is the sum of the values' sums
+pub sum-add : (f g : ℕ → ℕ) (d : ℕ) → sum (λ p. f p + g p) d ≡ sum f d + sum g d
+unfolding sum
+sum-add f g zero = refl
+sum-add f g (suc d) = omega (arith, sum-add f g d)
+
+-- a sum over a + b places is the sum over the first a and the sum over the b places from there on
+pub sum-split : (f : ℕ → ℕ) (a b : ℕ) → sum f (a + b) ≡ sum f a + sum (from a f) b
+unfolding sum
+sum-split f a zero = rw (add-zero a) (omega arith)
+sum-split f a (suc b) = rw (add-suc a b) (omega (arith, sum-split f a b))
+
+-- a sum of zeros is zero
+pub sum-zero : {f : ℕ → ℕ} (d : ℕ) → ((p : ℕ) → p < d → f p ≡ 0) → sum f d ≡ 0
+unfolding sum
+sum-zero zero h = refl
+sum-zero (suc d) h = omega (arith, sum-zero d (λ p b. h p (omega arith)), h d (omega arith))
+
+-- a sum over more places is at least as great
+pub sum-longer : (f : ℕ → ℕ) {a d : ℕ} → a ≤ d → sum f a ≤ sum f d
+sum-longer f {a} h = let more = le-dest h in rw (← more .1) (omega (arith, sum-split f a (more .0)))

@@ -1,0 +1,76 @@
+-- The walk from u to v, m places at a time. Place p has been passed where u and v differ in fewer than m places before it,
+-- so a walk is v up to some place and u from there on, and walks of m and m′ steps are |m - m′| apart: one step turns one
+-- bit. Assumes nothing.
+use mathlib.Core.Path.{_≡_, refl}
+use mathlib.Core.Bool.{Bool, true, false, cond, _&&_}
+use mathlib.Core.Logic.{⊎-elim}
+use Prim.Native.Nat.{ℕ, zero, suc, _+_, _≤_, _<_, min}
+use native.Mathlib.Omega.{arith}
+use lib.Dec.{eqb}
+use borrow.Author.Tests.{lt-ltb, le-ltb, eqb-false}
+use Rattle.bits.specs.Sums.{sum, distance, unlike}
+use Rattle.bits.specs.Walk.{walk}
+use Rattle.bits.proofs.Numbers.{lt-or-le}
+use Rattle.bits.proofs.Distance.{distance-suc, distance-longer}
+
+module _ {u v : ℕ → ℕ} (hu : (p : ℕ) → u p < 2) (hv : (p : ℕ) → v p < 2) where
+  -- a place with fewer than m differing places before it has been passed
+  pub walk-passed : (m p : ℕ) → distance p u v < m → walk u v m p ≡ v p
+  unfolding walk
+  walk-passed m p h = rw (lt-ltb (distance p u v) m h) (by-test (eqb (unlike (u p) (v p)) 1) refl)
+    where
+      by-test : (t : Bool) → eqb (unlike (u p) (v p)) 1 ≡ t → cond (t && true) (v p) (u p) ≡ v p
+      by-test true e = refl
+      by-test false e = omega (arith, hu p, hv p, eqb-false (unlike (u p) (v p)) 1 e)
+
+  -- one with m differing places or more before it has not
+  pub walk-ahead : (m p : ℕ) → m ≤ distance p u v → walk u v m p ≡ u p
+  unfolding walk
+  walk-ahead m p h = rw (le-ltb (distance p u v) m h) (by-test (eqb (unlike (u p) (v p)) 1))
+    where
+      by-test : (t : Bool) → cond (t && false) (v p) (u p) ≡ u p
+      by-test true = refl
+      by-test false = refl
+
+  pub walk-bits : (m p : ℕ) → walk u v m p < 2
+  walk-bits m p = ⊎-elim (λ h. rw (walk-passed m p h) (hv p)) (λ h. rw (walk-ahead m p h) (hu p)) (lt-or-le (distance p u v) m)
+
+  -- before a place where the walk has made all its steps so far, it is v; from a place that it has not reached on, it is u
+  pub walk-before : (m : ℕ) {p a : ℕ} → p < a → distance a u v ≤ m → walk u v m p ≡ v p
+  walk-before m {p} {a} b h =
+      ⊎-elim (walk-passed m p)
+      (λ l. rw (walk-ahead m p l) (omega (arith, hu p, hv p, distance-suc p u v, distance-longer u v {a = suc p} {d = a} b)))
+      (lt-or-le (distance p u v) m)
+
+  pub walk-after : (m : ℕ) {p a : ℕ} → a ≤ p → m ≤ distance a u v → walk u v m p ≡ u p
+  walk-after m {p} {a} b h = walk-ahead m p (omega (arith, distance-longer u v b))
+
+  pub walk-none : (p : ℕ) → walk u v 0 p ≡ u p
+  walk-none p = walk-ahead 0 p (omega arith)
+
+  -- below place d, walks of m and m′ steps are as many bits apart as they are steps, as far as there are steps to make
+  walk-apart : (d m m′ : ℕ) → m ≤ m′
+      → distance d (walk u v m) (walk u v m′) + min m (distance d u v) ≡ min m′ (distance d u v)
+  unfolding distance sum
+  walk-apart zero m m′ h = omega arith
+  walk-apart (suc d) m m′ h =
+      ⊎-elim
+      (λ passed.
+      let e : unlike (walk u v m d) (walk u v m′ d) ≡ 0 =
+      rw (walk-passed m d passed, walk-passed m′ d (omega arith)) (omega arith)
+      in omega (arith, walk-apart d m m′ h))
+      (λ ahead. ⊎-elim
+      (λ passed.
+      let e : unlike (walk u v m d) (walk u v m′ d) ≡ unlike (u d) (v d) =
+      rw (walk-ahead m d ahead, walk-passed m′ d passed)
+      in omega (arith, walk-apart d m m′ h))
+      (λ ahead′.
+      let e : unlike (walk u v m d) (walk u v m′ d) ≡ 0 =
+      rw (walk-ahead m d ahead, walk-ahead m′ d ahead′) (omega arith)
+      in omega (arith, walk-apart d m m′ h))
+      (lt-or-le (distance d u v) m′))
+      (lt-or-le (distance d u v) m)
+
+  -- each step turns one bit
+  pub walk-isometry : (d m m′ : ℕ) → m ≤ m′ → m′ ≤ distance d u v → distance d (walk u v m) (walk u v m′) + m ≡ m′
+  walk-isometry d m m′ h h′ = omega (arith, walk-apart d m m′ h)

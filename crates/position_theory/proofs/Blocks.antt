@@ -1,0 +1,99 @@
+-- Blocks follow one another from 0 to the last position: the starts rise, each position lies in exactly one block, and
+-- the word of the position m steps into block i is the walk of m steps from w(i) to w(i+1), the block's end included.
+-- Assumes nothing.
+use mathlib.Core.Path.{_≡_, sym}
+use mathlib.Core.Logic.{_⊎_, inl, inr, ⊎-elim}
+use Prim.Native.Nat.{ℕ, zero, suc, _+_, _≤_, _<_}
+use native.Mathlib.Nat.{eq-or-lt-of-le, eq-zero-or-pos, sub-self, add-sub-cancel-left}
+use native.Mathlib.Numerals.{add-one}
+use native.Mathlib.Omega.{arith}
+use lib.Dec.{leb}
+use borrow.Author.Tests.{le-leb, lt-leb, leb-true, leb-false}
+use Rattle.bits.specs.Walk.{walk}
+use Rattle.bits.proofs.Searches.{greatest-is, greatest-le, greatest-holds, greatest-above}
+use Rattle.bits.proofs.Walk.{walk-none, walk-before}
+use Rattle.model.specs.Card.{Code}
+use Rattle.model.specs.Order.{lastCodeword, blockLength, start, lastPosition}
+use Rattle.model.specs.Words.{wordBits, word, blockOf, wordAt}
+use Rattle.code_theory.specs.Promise.{ChunkPromise}
+use Rattle.position_theory.proofs.Words.{word-bits, apart}
+
+module _ (C : Code) (promise : ChunkPromise C) where
+  -- a later block starts no earlier than where an earlier one ends
+  pub starts-rise : (i j : ℕ) → i < j → j ≤ lastCodeword C → start C i + blockLength C i ≤ start C j
+  starts-rise i (suc j) h b =
+      let next : start C (suc j) ≡ start C j + blockLength C j = rw (← (add-one j)) (promise .start-next j b) in
+      ⊎-elim
+      (λ (e : i ≡ j). rw (e, next) (omega arith))
+      (λ (l : i < j). omega (arith, starts-rise i j l (omega arith)))
+      (eq-or-lt-of-le {n = i} {m = j} (omega arith))
+  starts-rise i zero h b = absurd (omega arith)
+
+  -- the block of a position is the one that starts at or before it and is followed by none that does
+  block-is : (i position : ℕ) → i ≤ lastCodeword C → start C i ≤ position
+      → ((j : ℕ) → i < j → j ≤ lastCodeword C → position < start C j) → blockOf C position ≡ i
+  unfolding blockOf
+  block-is i position h low high =
+      greatest-is (λ j. leb (start C j) position) (lastCodeword C) i h (λ _. le-leb _ _ low) (λ j l b. lt-leb _ _ (high j l b))
+
+  -- the positions of block i
+  pub block-inside : (i m : ℕ) → i < lastCodeword C → m < blockLength C i → blockOf C (start C i + m) ≡ i
+  block-inside i m inside h =
+      block-is i _ (omega arith) (omega arith) (λ j l b. omega (arith, starts-rise i j l b))
+
+  -- a start is in its own block, the last position too
+  pub block-start : (i : ℕ) → i ≤ lastCodeword C → blockOf C (start C i) ≡ i
+  block-start i h = block-is i _ h (omega arith) (λ j l b. omega (arith, starts-rise i j l b, promise .D-pos))
+
+  -- the block of a position is one of the track's, starts at or before it, and no later one does
+  pub block-le : (position : ℕ) → blockOf C position ≤ lastCodeword C
+  unfolding blockOf
+  block-le position = greatest-le (λ i. leb (start C i) position) (lastCodeword C)
+
+  pub block-low : (position : ℕ) → start C (blockOf C position) ≤ position
+  unfolding blockOf
+  block-low position =
+      ⊎-elim
+      (λ (e : blockOf C position ≡ 0). rw (e, promise .start-zero) (omega arith))
+      (λ (h : 0 < blockOf C position). leb-true _ _ (greatest-holds (λ i. leb (start C i) position) (lastCodeword C) h))
+      (eq-zero-or-pos (blockOf C position))
+
+  pub block-high : (position j : ℕ) → blockOf C position < j → j ≤ lastCodeword C → position < start C j
+  unfolding blockOf
+  block-high position j l b = leb-false _ _ (greatest-above (λ i. leb (start C i) position) (lastCodeword C) j l b)
+
+  -- a position up to the last stands at the start of its block, or inside a block that is not the last
+  pub in-its-block : (position : ℕ) → position ≤ lastPosition C
+      → (position ≡ start C (blockOf C position))
+      ⊎ ((blockOf C position < lastCodeword C)
+      × (position < start C (blockOf C position) + blockLength C (blockOf C position)))
+  unfolding lastPosition
+  in-its-block position h =
+      ⊎-elim
+      (λ (e : blockOf C position ≡ lastCodeword C).
+      let top : position ≤ start C (blockOf C position) = rw e h in inl (omega (arith, block-low position)))
+      (λ (l : blockOf C position < lastCodeword C).
+      inr (
+        l,
+        rw (← (promise .start-next (blockOf C position) l))
+            (block-high position (blockOf C position + 1) (omega arith) (omega arith)),
+      ))
+      (eq-or-lt-of-le (block-le position))
+
+  -- the word of a start r(i) is w(i)
+  pub word-at-start : (i : ℕ) → i ≤ lastCodeword C → (p : ℕ) → wordAt C (start C i) p ≡ word C i p
+  unfolding wordAt
+  word-at-start i h p =
+      rw (block-start i h, sub-self (start C i)) (walk-none (word-bits C i) (word-bits C (i + 1)) p)
+
+  -- the word m steps into block i, its end included, is the walk of m steps from w(i) to w(i+1)
+  pub word-in-block : (i m : ℕ) → i < lastCodeword C → m ≤ blockLength C i
+      → (p : ℕ) → p < wordBits C → wordAt C (start C i + m) p ≡ walk (word C i) (word C (i + 1)) m p
+  unfolding wordAt
+  word-in-block i m inside h p b =
+      ⊎-elim
+      (λ (e : m ≡ blockLength C i).
+      rw (e, ← (promise .start-next i inside), word-at-start (i + 1) (omega arith) p)
+      (sym (walk-before (word-bits C i) (word-bits C (i + 1)) (blockLength C i) b (omega (arith, apart C promise i inside)))))
+      (λ (l : m < blockLength C i). rw (block-inside i m inside l, add-sub-cancel-left))
+      (eq-or-lt-of-le h)
