@@ -1,0 +1,4 @@
+pub mod Gray
+pub mod Codewords
+pub mod LeastWeight
+pub mod LeastDistance
