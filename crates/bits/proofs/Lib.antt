@@ -5,3 +5,4 @@ pub mod Walk
 pub mod Binary
 pub mod Searches
 pub mod Places
+pub mod PackedDistance

@@ -3,8 +3,8 @@ use Prim.Native.Nat.{ℕ, zero, suc, _+_, _*_, _/_, _%_, _^_}
 use mathlib.Core.Bool.{cond}
 use mathlib.Core.List.{List, [], _∷_, _++_}
 use lib.Dec.{ltb}
-use lib.ListN.{getD}
-use Rattle.bits.specs.Sums.{sum}
+use lib.ListN.{length, getD}
+use Rattle.bits.specs.Sums.{sum, distance}
 
 -- place p of a number is the bit worth 2^p
 abbrev pub bit : ℕ → ℕ → ℕ
@@ -38,3 +38,7 @@ listOf (suc m) f = listOf m f ++ (f m ∷ [])
 -- the first d places of u as bytes, spare bits zero
 unfoldable pub pack : ℕ → (ℕ → ℕ) → List ℕ
 pack d u = listOf (bytesFor d) (byteOf (cut d u))
+
+-- in how many bits two byte lists of one length differ
+unfoldable pub differingBits : (a b : List ℕ) → ℕ
+differingBits a b = distance (8 * length a) (place a) (place b)

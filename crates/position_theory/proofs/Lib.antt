@@ -4,3 +4,6 @@ pub mod Isometry
 pub mod Allowed
 pub mod TrueAllowed
 pub mod WholeChunks
+pub mod Nearest
+pub mod BoundedError
+pub mod DistinctWords

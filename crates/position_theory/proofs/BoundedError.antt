@@ -1,0 +1,104 @@
+-- Demand 3, of bit functions and then of bytes: a word within the radius in every chunk allows the true position, so the
+-- answer is near it. No two positions share a word: read with nothing turned, a word gives back its position.
+-- Assumes nothing.
+use mathlib.Core.Path.{_≡_, refl, sym, _∙_}
+use mathlib.Core.Bool.{true, false}
+use mathlib.Core.List.{List}
+use mathlib.Core.Logic.{⊎-elim}
+use Prim.Native.Nat.{ℕ, _+_, _-_, _*_, _/_, _≤_, _<_}
+use native.Mathlib.Nat.{le-dest}
+use native.Mathlib.Omega.{arith}
+use lib.ListN.{length}
+use borrow.Author.Tests.{eq-eqb}
+use Rattle.bits.specs.Sums.{distance, from}
+use Rattle.bits.specs.Places.{place, pack}
+use Rattle.bits.proofs.Distance.{distance-ext, distance-self}
+use Rattle.bits.proofs.Places.{place-pack, place-bit, cut-below}
+use Rattle.bits.proofs.Walk.{walk-bits}
+use Rattle.model.specs.Card.{Code, radius, cardRefusal, codeOf}
+use Rattle.model.specs.Order.{lastCodeword, blockLength, start, lastPosition}
+use Rattle.model.specs.Words.{wordBits, word, blockOf, wordAt, wordBytes}
+use Rattle.model.specs.Reading.{reading, residual}
+use Rattle.model.specs.Answers.{wordLength, spareSet, readWord}
+use Rattle.model.specs.declared.ReadAnswer.{ReadAnswer}
+use Rattle.model.specs.declared.ReadAnswer.the-variants.{At, Refused}
+use Rattle.code_theory.specs.Promise.{ChunkPromise}
+use Rattle.position_theory.specs.Ranges.{Allows}
+use Rattle.position_theory.specs.Damage.{ChunksWithin, WithinRadius, turnedInAll, turned, Near, residualOf}
+use Rattle.position_theory.proofs.Words.{five-distance, word-in-order, word-bits}
+use Rattle.position_theory.proofs.Blocks.{in-its-block, block-le, block-low}
+use Rattle.position_theory.proofs.TrueAllowed.{start-allowed, inside-allowed}
+use Rattle.position_theory.proofs.WholeChunks.{whole-at-start, whole-in-block}
+use Rattle.position_theory.proofs.Nearest.{answer-near}
+
+pub word-at-bits : (C : Code) (position p : ℕ) → wordAt C position p < 2
+unfolding wordAt
+word-at-bits C position p = walk-bits (word-bits C (blockOf C position)) (word-bits C (blockOf C position + 1)) _ p
+
+module _ (C : Code) (promise : ChunkPromise C) where
+  -- a word within the radius in every chunk allows the true position
+  true-allowed : (position : ℕ) (x : ℕ → ℕ) → position ≤ lastPosition C → ((p : ℕ) → x p < 2)
+      → ChunksWithin C (radius C) (wordAt C position) x → Allows C x position
+  true-allowed position x h hx d =
+      ⊎-elim
+      (λ (at-start : position ≡ start C (blockOf C position)).
+      rw at-start (start-allowed C promise x (blockOf C position) (block-le C promise position)
+      (whole-at-start C promise (blockOf C position) x (block-le C promise position) hx (rw at-start at d))))
+      (λ (inside : (blockOf C position < lastCodeword C) × (position < start C (blockOf C position) + blockLength C (blockOf C position))).
+      let offset = le-dest (block-low C promise position) in
+      rw (← (offset .1))
+      (inside-allowed C promise x (blockOf C position) (offset .0) (inside .0)
+      (whole-in-block C promise (blockOf C position) (offset .0) x (inside .0) (omega arith) hx (rw (← (offset .1)) at d))
+      (omega arith)))
+      (in-its-block C promise position h)
+
+  -- the places of a position's word as bytes
+  pub place-of-word : (position p : ℕ) → p < wordBits C → place (wordBytes C position) p ≡ wordAt C position p
+  unfolding wordBytes
+  place-of-word position p b =
+      place-pack (wordBits C) (wordAt C position) (word-at-bits C position) p ∙ cut-below (wordBits C) (wordAt C position) p b
+
+  -- so of any part of it, the bits turned are those of its bytes
+  turned-in-part : (position : ℕ) (x : ℕ → ℕ) (a m : ℕ) → a + m ≤ wordBits C
+      → distance m (from a (place (wordBytes C position))) (from a x) ≡ distance m (from a (wordAt C position)) (from a x)
+  turned-in-part position x a m h = distance-ext m (λ p b. place-of-word position (a + p) (omega arith)) (λ p b. refl)
+
+  within-of-bytes : (e position : ℕ) (x : ℕ → ℕ) → ChunksWithin C e (place (wordBytes C position)) x
+      → ChunksWithin C e (wordAt C position) x
+  within-of-bytes e position x d =
+      record {
+        in-separator₁ =
+            rw (distance-ext {v = x} {v′ = x} (C .D) (λ p b. place-of-word position p (omega arith)) (λ p b. refl)) at (d .in-separator₁);
+        in-chunk₁ = rw (turned-in-part position x (C .D) (C .n) (omega arith)) at (d .in-chunk₁);
+        in-separator₂ = rw (turned-in-part position x (C .D + C .n) (C .D) (omega arith)) at (d .in-separator₂);
+        in-chunk₂ = rw (turned-in-part position x (C .D + C .n + C .D) (C .n) (omega arith)) at (d .in-chunk₂);
+        in-separator₃ = rw (turned-in-part position x (C .D + C .n + C .D + C .n) (C .D) (omega arith)) at (d .in-separator₃);
+      }
+
+  -- the bits turned in all are the residual of the true position
+  pub turned-is-residual : (position : ℕ) (received : List ℕ) → turned C position received ≡ residual C (place received) position
+  unfolding turned turnedInAll residual
+  turned-is-residual position received =
+      sym (five-distance C (place (wordBytes C position)) (place received))
+      ∙ distance-ext (wordBits C) (place-of-word position) (λ p b. refl)
+
+  -- a word of the right length with spare bits zero is read
+  pub read-word : (received : List ℕ) → length received ≡ wordLength C → spareSet C received ≡ false
+      → readWord C received ≡ reading C (place received)
+  unfolding readWord
+  read-word received h spare = simp (eq-eqb (length received) (wordLength C) h, spare)
+
+  -- demand 3 and the sharper bound, for a code that keeps the chunk promise
+  pub error-bounded : (position : ℕ) (received : List ℕ) → position ≤ lastPosition C → WithinRadius C position received
+      → Near (readWord C received) position (turned C position received + residualOf (readWord C received))
+      × (residualOf (readWord C received) ≤ turned C position received)
+  error-bounded position received h d =
+      rw (read-word received (d .right-length) (d .spare-zero), turned-is-residual position received)
+      (answer-near C promise (place received) position
+      (true-allowed position (place received) h (place-bit received) (within-of-bytes (radius C) position (place received) (d .chunks))))
+
+-- a bound may be loosened
+pub near-loosen : (answer : ReadAnswer) (position e e′ : ℕ) → e ≤ e′ → Near answer position e → Near answer position e′
+unfolding Near
+near-loosen (At q r rule) position e e′ h near = (omega arith, omega arith)
+near-loosen (Refused refusal) position e e′ h near = near

@@ -1,0 +1,99 @@
+-- Demand 2, writing: the words of neighbouring positions differ in one bit, since both lie in one block; and no two
+-- positions share a word, since a word with nothing turned is read as each position that has it.
+-- Assumes nothing.
+use mathlib.Core.Path.{_≡_, refl, _∙_}
+use mathlib.Core.Bool.{false}
+use mathlib.Core.Logic.{⊎-elim}
+use Prim.Native.Nat.{ℕ, _+_, _*_, _-_, _≤_, _<_}
+use native.Mathlib.Nat.{eq-or-lt-of-le}
+use native.Mathlib.Omega.{arith}
+use Rattle.bits.specs.Sums.{distance}
+use Rattle.bits.specs.Places.{place, differingBits}
+use Rattle.bits.proofs.Distance.{distance-self}
+use Rattle.bits.proofs.Searches.{any-none}
+use Rattle.bits.proofs.Places.{length-pack, place-pack, cut-above}
+use Rattle.bits.proofs.PackedDistance.{packed-distance}
+use Rattle.model.specs.Card.{Code, radius}
+use Rattle.model.specs.Order.{lastCodeword, start, lastPosition}
+use Rattle.model.specs.Words.{wordBits, blockOf, wordAt, wordBytes}
+use Rattle.model.specs.Answers.{wordLength, spareSet, readWord}
+use Rattle.model.specs.declared.ReadAnswer.{ReadAnswer}
+use Rattle.model.specs.declared.ReadAnswer.the-variants.{At, Refused}
+use Rattle.code_theory.specs.Promise.{ChunkPromise}
+use Rattle.position_theory.specs.Ranges.{Isometric}
+use Rattle.position_theory.specs.Damage.{WithinRadius, turnedInAll, turned, Near}
+use Rattle.position_theory.proofs.Blocks.{block-le, block-low, block-high}
+use Rattle.position_theory.proofs.Isometry.{isometric-block}
+use Rattle.position_theory.proofs.BoundedError.{word-at-bits, error-bounded, near-loosen}
+
+module _ (C : Code) (promise : ChunkPromise C) where
+  -- a position before the last is in a block that is not the last
+  block-before-last : (position : ℕ) → position < lastPosition C → blockOf C position < lastCodeword C
+  unfolding lastPosition
+  block-before-last position h =
+      ⊎-elim
+      (λ (e : blockOf C position ≡ lastCodeword C). absurd (omega (arith, rw e at (block-low C promise position))))
+      (λ (l : blockOf C position < lastCodeword C). l)
+      (eq-or-lt-of-le (block-le C promise position))
+
+  -- one step turns one bit
+  step-turns-one-bit : (position : ℕ) → position < lastPosition C
+      → distance (wordBits C) (wordAt C position) (wordAt C (position + 1)) ≡ 1
+  unfolding Isometric
+  step-turns-one-bit position h =
+      let inside = block-before-last position h in
+      omega (
+        arith,
+        isometric-block C promise (blockOf C position) inside position (position + 1) (block-low C promise position) (omega arith)
+            (omega (arith, block-high C promise position (blockOf C position + 1) (omega arith) (omega arith))),
+      )
+
+  pub neighbours-differ : (position : ℕ) → position < lastPosition C
+      → differingBits (wordBytes C position) (wordBytes C (position + 1)) ≡ 1
+  unfolding wordBytes
+  neighbours-differ position h =
+      packed-distance (wordBits C) (word-at-bits C position) (word-at-bits C (position + 1)) ∙ step-turns-one-bit position h
+
+  -- an undamaged word is within the radius, with nothing turned
+  spare-zero : (position : ℕ) → spareSet C (wordBytes C position) ≡ false
+  unfolding spareSet wordBytes
+  spare-zero position =
+      any-none _ _ (λ q b. rw (
+        place-pack (wordBits C) (wordAt C position) (word-at-bits C position) (wordBits C + q),
+        cut-above (wordBits C) (wordAt C position) (wordBits C + q) (omega arith),
+      ))
+
+  undamaged : (position : ℕ) → WithinRadius C position (wordBytes C position)
+  unfolding wordBytes
+  undamaged position =
+      record {
+        right-length = length-pack (wordBits C) (wordAt C position);
+        spare-zero = spare-zero position;
+        chunks =
+            record {
+              in-separator₁ = rw distance-self (omega arith);
+              in-chunk₁ = rw distance-self (omega arith);
+              in-separator₂ = rw distance-self (omega arith);
+              in-chunk₂ = rw distance-self (omega arith);
+              in-separator₃ = rw distance-self (omega arith);
+            };
+      }
+
+  nothing-turned : (position : ℕ) → turned C position (wordBytes C position) ≡ 0
+  unfolding turned turnedInAll
+  nothing-turned position = simp distance-self
+
+  -- an answer no steps from two positions is one position
+  one-answer : (answer : ReadAnswer) (p q : ℕ) → Near answer p 0 → Near answer q 0 → p ≡ q
+  unfolding Near
+  one-answer (At a r rule) p q near near′ = omega arith
+  one-answer (Refused refusal) p q near near′ = absurd near
+
+  read-as-itself : (position : ℕ) → position ≤ lastPosition C → Near (readWord C (wordBytes C position)) position 0
+  read-as-itself position h =
+      let bound = error-bounded C promise position (wordBytes C position) h (undamaged position) in
+      near-loosen (readWord C (wordBytes C position)) position _ 0 (omega (arith, nothing-turned position)) (bound .0)
+
+  pub words-differ : (p q : ℕ) → p ≤ lastPosition C → q ≤ lastPosition C → wordBytes C p ≡ wordBytes C q → p ≡ q
+  words-differ p q hp hq e =
+      one-answer (readWord C (wordBytes C q)) p q (rw e at (read-as-itself p hp)) (read-as-itself q hq)
