@@ -1,4 +1,6 @@
+pub mod TrailingZeros
 pub mod Gray
 pub mod Codewords
 pub mod LeastWeight
 pub mod LeastDistance
+pub mod Starts
