@@ -4,3 +4,5 @@ pub mod Codewords
 pub mod LeastWeight
 pub mod LeastDistance
 pub mod Starts
+pub mod ChunkReading
+pub mod Promise
