@@ -5,7 +5,7 @@ use Prim.Native.Nat.{ℕ, zero, suc, _+_, _-_, _*_, _/_, _%_, _^_, min}
 use mathlib.Core.Bool.{Bool, cond, not, _&&_, _||_}
 use mathlib.Core.List.{List}
 use lib.Bits.{bitXor}
-use lib.Dec.{leb, eqb}
+use lib.Dec.{leb, ltb, eqb}
 use lib.ListN.{length, getD}
 use Rattle.bits.specs.Sums.{sum}
 use Rattle.bits.specs.Places.{bit, weight}
@@ -32,9 +32,9 @@ rowsOf b = byte b 1
 unfoldable pub trackOf : List ℕ → ℕ
 trackOf b = highFirst b 2 2
 
--- row z of the twelve: the 8 bytes from 4 + 8z on
+-- row z of the twelve: the 8 bytes from 4 + 8z on; past the twelfth there is none, and zero stands for it
 unfoldable pub rowOf : List ℕ → ℕ → ℕ
-rowOf b z = highFirst b (4 + 8 * z) 8
+rowOf b z = cond (ltb z 12) (highFirst b (4 + 8 * z) 8) 0
 
 -- the check that the card carries: bytes 510 to 511
 unfoldable pub storedCheck : List ℕ → ℕ

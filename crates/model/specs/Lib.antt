@@ -1,4 +1,5 @@
 pub mod Card
+pub mod Decoded
 pub mod Order
 pub mod Words
 pub mod Reading

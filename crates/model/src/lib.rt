@@ -7,6 +7,14 @@ pub enum Chunk {
     Unreadable,
 }
 
+// A card's code as numbers, by value: n, k, D and the twelve rows. specs/Decoded.antt says which code it means.
+pub struct DecodedCode {
+    pub n: u32,
+    pub k: u32,
+    pub distance: u32,
+    pub rows: [u64; 12],
+}
+
 // What a sound card is answered with: n, k, track, D, t, d and the last position.
 pub struct CardSummary {
     pub n: u32,

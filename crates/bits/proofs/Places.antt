@@ -1,0 +1,154 @@
+-- The places of byte lists. A number below 2^m is the sum of its bits, each times its power of two, and any bits are the bits of
+-- such a sum; so packing d places into bytes and reading the places back gives the same places, and 0 past them.
+-- Assumes nothing.
+use Prim.Native.Nat.{ℕ, zero, suc, _+_, _*_, _/_, _%_, _^_, _≤_, _<_}
+use mathlib.Core.Path.{_≡_, refl, sym, ap, _∙_, fun-ext}
+use mathlib.Core.List.{List, [], _∷_}
+use mathlib.Core.Logic.{⊎-elim}
+use native.Mathlib.Nat.{eq-or-lt-of-le, le-of-suc-le-suc, le-step, le-dest, lt-suc-self, zero-add, mul-le-mul-right, pow-succ', mod-eq-of-lt, div-eq-of-lt, add-mul-div-right, add-mul-mod-self-right, zero-div}
+use native.Mathlib.Omega.{arith}
+use lib.ListN.{length, getD, length-append, List·getD-append, List·getD-eq-default}
+use lib.Pow.{pow-pos, mod-pow-add, pow-add}
+use lib.Seq.{ext-getD, getD-at}
+use borrow.Author.Tests.{lt-ltb, le-ltb}
+use Rattle.bits.proofs.Searches.{below-or-above}
+use Rattle.bits.specs.Sums.{sum}
+use Rattle.bits.specs.Places.{bit, place, cut, bytesFor, byteOf, listOf, pack}
+
+-- lists by index
+
+pub length-listOf : (m : ℕ) (f : ℕ → ℕ) → length (listOf m f) ≡ m
+unfolding listOf
+length-listOf zero f = refl
+length-listOf (suc m) f = rw (length-append, length-listOf m f) (omega arith)
+
+pub getD-listOf : (m : ℕ) (f : ℕ → ℕ) (i : ℕ) → i < m → getD (listOf m f) i 0 ≡ f i
+unfolding listOf
+getD-listOf zero f i h = absurd (omega arith)
+getD-listOf (suc m) f i h =
+    let before = listOf m f in
+    let len = length-listOf m f in
+    ⊎-elim (λ e. rw e (getD-at before (f m) [] 0 m len))
+    (λ l. List·getD-append before (f m ∷ []) 0 i (omega arith) ∙ getD-listOf m f i l)
+    (eq-or-lt-of-le (le-of-suc-le-suc h))
+
+-- binary numbers
+
+-- the number whose bits are w(0), …, w(m - 1)
+abbrev number : (ℕ → ℕ) → ℕ → ℕ
+number w m = sum (λ q. w q * 2 ^ q) m
+
+number-ext : (w v : ℕ → ℕ) (m : ℕ) → ((q : ℕ) → q < m → w q ≡ v q) → number w m ≡ number v m
+unfolding sum
+number-ext w v zero same = refl
+number-ext w v (suc m) same = rw (number-ext w v m (λ q l. same q (le-step l)), same m (lt-suc-self m))
+
+number-below : (w : ℕ → ℕ) → ((q : ℕ) → w q < 2) → (m : ℕ) → number w m < 2 ^ m
+unfolding sum
+number-below w bits zero = omega arith
+number-below w bits (suc m) =
+    omega (arith, number-below w bits m, mul-le-mul-right (2 ^ m) (le-of-suc-le-suc (bits m)))
+
+higher-power : (x q k : ℕ) → x * 2 ^ (suc q + k) ≡ x * 2 ^ k * 2 * 2 ^ q
+higher-power x q k = rw (pow-add 2 (suc q) k, pow-succ' 2 q) (omega arith)
+
+bit-of-number : (w : ℕ → ℕ) → ((q : ℕ) → w q < 2) → (m q : ℕ) → q < m → bit (number w m) q ≡ w q
+unfolding sum
+bit-of-number w bits zero q l = absurd (omega arith)
+bit-of-number w bits (suc m) q l =
+    let top : bit (number w (suc m)) m ≡ w m =
+    rw (add-mul-div-right (number w m) (w m) (pow-pos m), div-eq-of-lt (number-below w bits m), zero-add (w m)) (mod-eq-of-lt (bits m)) in
+    let below : (k : ℕ) → suc q + k ≡ m → bit (number w (suc m)) q ≡ bit (number w m) q =
+    λ k e.
+    rw (← e, higher-power (w (suc q + k)) q k, add-mul-div-right (number w (suc q + k)) (w (suc q + k) * 2 ^ k * 2) (pow-pos q))
+    (add-mul-mod-self-right (number w (suc q + k) / 2 ^ q) (w (suc q + k) * 2 ^ k) 2) in
+    ⊎-elim (λ e. rw e top)
+    (λ k. below (le-dest k .0) (le-dest k .1) ∙ bit-of-number w bits m q k)
+    (eq-or-lt-of-le (le-of-suc-le-suc l))
+
+number-of-bits : (x m : ℕ) → number (bit x) m ≡ x % 2 ^ m
+unfolding sum
+number-of-bits x zero = omega arith
+number-of-bits x (suc m) =
+    let one-more : 1 + m ≡ suc m = omega arith in
+    rw (number-of-bits x m, ← one-more, mod-pow-add x 1 m) (omega arith)
+
+-- places
+
+pub place-bit : (b : List ℕ) (p : ℕ) → place b p < 2
+unfolding place
+place-bit b p = omega arith
+
+pub cut-below : (d : ℕ) (u : ℕ → ℕ) (p : ℕ) → p < d → cut d u p ≡ u p
+unfolding cut
+cut-below d u p h = rw (lt-ltb p d h)
+
+pub cut-above : (d : ℕ) (u : ℕ → ℕ) (p : ℕ) → d ≤ p → cut d u p ≡ 0
+unfolding cut
+cut-above d u p h = rw (le-ltb p d h)
+
+pub cut-bit : (d : ℕ) (u : ℕ → ℕ) → ((p : ℕ) → u p < 2) → (p : ℕ) → cut d u p < 2
+cut-bit d u bits p =
+    ⊎-elim (λ h. rw (cut-below d u p h) (bits p)) (λ h. rw (cut-above d u p h) (omega arith)) (below-or-above p d)
+
+pub cut-ext : (d : ℕ) (u v : ℕ → ℕ) → ((p : ℕ) → p < d → u p ≡ v p) → cut d u ≡ cut d v
+cut-ext d u v same =
+    fun-ext
+    (λ p.
+    ⊎-elim (λ h. cut-below d u p h ∙ same p h ∙ sym (cut-below d v p h))
+    (λ h. cut-above d u p h ∙ sym (cut-above d v p h))
+    (below-or-above p d))
+
+-- packing
+
+pub length-pack : (d : ℕ) (u : ℕ → ℕ) → length (pack d u) ≡ bytesFor d
+unfolding pack
+length-pack d u = length-listOf (bytesFor d) (byteOf (cut d u))
+
+pub pack-ext : (d : ℕ) (u v : ℕ → ℕ) → ((p : ℕ) → p < d → u p ≡ v p) → pack d u ≡ pack d v
+unfolding pack
+pack-ext d u v same = rw (cut-ext d u v same)
+
+past-pack : (d : ℕ) (u : ℕ → ℕ) (i : ℕ) → bytesFor d ≤ i → getD (pack d u) i 0 ≡ 0
+past-pack d u i h = let past : length (pack d u) ≤ i = rw (length-pack d u) h in List·getD-eq-default (pack d u) 0 past
+
+pub byte-of-places : (d : ℕ) (u : ℕ → ℕ) → ((p : ℕ) → u p < 2) → (i : ℕ) → getD (pack d u) i 0 < 256
+unfolding pack byteOf
+byte-of-places d u bits i =
+    ⊎-elim
+    (λ h.
+    rw (getD-listOf (bytesFor d) (byteOf (cut d u)) i h)
+    (number-below (λ q. cut d u (8 * i + q)) (λ q. cut-bit d u bits (8 * i + q)) 8))
+    (λ h. rw (past-pack d u i h) (omega arith))
+    (below-or-above i (bytesFor d))
+
+pub place-pack : (d : ℕ) (u : ℕ → ℕ) → ((p : ℕ) → u p < 2) → (p : ℕ) → place (pack d u) p ≡ cut d u p
+unfolding pack byteOf place
+place-pack d u bits p =
+    let split : 8 * (p / 8) + p % 8 ≡ p = omega arith in
+    ⊎-elim
+    (λ h.
+    rw (getD-listOf (bytesFor d) (byteOf (cut d u)) (p / 8) h)
+    (bit-of-number (λ q. cut d u (8 * (p / 8) + q)) (λ q. cut-bit d u bits (8 * (p / 8) + q)) 8 (p % 8) (omega arith)
+    ∙ ap (cut d u) split))
+    (λ h. rw (past-pack d u (p / 8) h, cut-above d u p (omega arith), zero-div))
+    (below-or-above (p / 8) (bytesFor d))
+
+-- the places of byte i
+pub places-of-byte : (l : List ℕ) (i q : ℕ) → q < 8 → place l (8 * i + q) ≡ bit (getD l i 0) q
+unfolding place
+places-of-byte l i q h =
+    let which : (8 * i + q) / 8 ≡ i = omega arith in let at : (8 * i + q) % 8 ≡ q = omega arith in rw (which, at)
+
+-- bytes with the same places are the same
+pub same-places : (l m : List ℕ) → length l ≡ length m → ((i : ℕ) → getD l i 0 < 256) → ((i : ℕ) → getD m i 0 < 256)
+    → ((p : ℕ) → p < 8 * length l → place l p ≡ place m p) → l ≡ m
+same-places l m len bytes-l bytes-m same =
+    let whole : (x : ℕ) → x < 256 → number (bit x) 8 ≡ x = λ x h. number-of-bits x 8 ∙ mod-eq-of-lt h in
+    let bits-same : (i : ℕ) → i < length l → (q : ℕ) → q < 8 → bit (getD l i 0) q ≡ bit (getD m i 0) q =
+    λ i h q k. sym (places-of-byte l i q k) ∙ same (8 * i + q) (omega arith) ∙ places-of-byte m i q k in
+    ext-getD 0 l m len
+    (λ i h.
+    sym (whole (getD l i 0) (bytes-l i))
+    ∙ number-ext (bit (getD l i 0)) (bit (getD m i 0)) 8 (bits-same i h)
+    ∙ whole (getD m i 0) (bytes-m i))

@@ -1,0 +1,49 @@
+-- Document 01, "Reading a word", last paragraph: the bits that the cable turns, chunk by chunk, and how far one position is
+-- from another. Assumes nothing.
+use mathlib.Core.Path.{_≡_}
+use mathlib.Core.Bool.{false}
+use mathlib.Core.List.{List}
+use Prim.Native.Nat.{ℕ, _+_, _≤_}
+use lib.ListN.{length}
+use Rattle.bits.specs.Sums.{distance}
+use Rattle.bits.specs.Places.{place}
+use Rattle.model.specs.Card.{Code, radius}
+use Rattle.model.specs.Words.{wordBytes}
+use Rattle.model.specs.Reading.{chunk₁, separator₂, chunk₂, separator₃}
+use Rattle.model.specs.Answers.{wordLength, spareSet}
+use Rattle.model.specs.declared.ReadAnswer.{ReadAnswer}
+use Rattle.model.specs.declared.ReadAnswer.the-variants.{At, Refused}
+
+-- in each of the five chunks, x is unlike u in at most e places
+pub record ChunksWithin (C : Code) (e : ℕ) (u x : ℕ → ℕ) : Type 0 where
+  pub in-separator₁ : distance (C .D) u x ≤ e
+  pub in-chunk₁ : distance (C .n) (chunk₁ C u) (chunk₁ C x) ≤ e
+  pub in-separator₂ : distance (C .D) (separator₂ C u) (separator₂ C x) ≤ e
+  pub in-chunk₂ : distance (C .n) (chunk₂ C u) (chunk₂ C x) ≤ e
+  pub in-separator₃ : distance (C .D) (separator₃ C u) (separator₃ C x) ≤ e
+
+-- the number of bits turned in all: the sum over the five chunks of the places in which x is unlike u
+unfoldable pub turnedInAll : Code → (u x : ℕ → ℕ) → ℕ
+turnedInAll C u x =
+    distance (C .D) u x + distance (C .n) (chunk₁ C u) (chunk₁ C x) + distance (C .D) (separator₂ C u) (separator₂ C x)
+    + distance (C .n) (chunk₂ C u) (chunk₂ C x) + distance (C .D) (separator₃ C u) (separator₃ C x)
+
+-- the bits of the position's word that are turned in the received word
+unfoldable pub turned : Code → (position : ℕ) (received : List ℕ) → ℕ
+turned C position received = turnedInAll C (place (wordBytes C position)) (place received)
+
+-- the received bytes are a word with spare bits zero in which each chunk has at most t bits of the position's word turned
+pub record WithinRadius (C : Code) (position : ℕ) (received : List ℕ) : Type 0 where
+  pub right-length : length received ≡ wordLength C
+  pub spare-zero : spareSet C received ≡ false
+  pub chunks : ChunksWithin C (radius C) (place (wordBytes C position)) (place received)
+
+-- an answer that is no refusal, whose position is at most e steps from this one
+unfoldable pub Near : ReadAnswer → (position e : ℕ) → Type 0
+Near (At answered residual rule) position e = (answered ≤ position + e) × (position ≤ answered + e)
+Near (Refused refusal) position e = ⊥
+
+-- the residual of an answer
+unfoldable pub residualOf : ReadAnswer → ℕ
+residualOf (At answered residual rule) = residual
+residualOf (Refused refusal) = 0
