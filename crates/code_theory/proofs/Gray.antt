@@ -2,7 +2,7 @@
 -- i and i + 1 differ in just the bits up to that one. Gray maps the numbers below 2 ^ k one to one onto themselves.
 -- Assumes nothing.
 use mathlib.Core.Path.{_≡_, refl, sym, ap, ap₂, _∙_}
-use mathlib.Core.Logic.{_⊎_, inl, inr, ⊎-elim, by-cases}
+use mathlib.Core.Logic.{⊎-elim, by-cases}
 use Prim.Native.Nat.{ℕ, zero, suc, _+_, _*_, _/_, _%_, _^_, _≤_, _<_}
 use native.Mathlib.Nat.{le-refl, eq-zero-or-pos, mod-add-mod, add-mod-mod, lt-of-le-of-lt, lt-of-lt-of-le, div-le-self}
 use native.Mathlib.Decide.{decLt, ℕ-discrete}
@@ -14,52 +14,42 @@ use Rattle.bits.specs.Sums.{unlike}
 use Rattle.bits.specs.Places.{bit}
 use Rattle.bits.proofs.Binary.{bit-bit, bit-lowest, bit-suc, bit-xor, bit-ext, xor-lowest, below-pow, bit-pow-same, bit-pow-other, bit-high}
 use Rattle.model.specs.Order.{gray}
+use Rattle.code_theory.proofs.TrailingZeros.{trailing-zeros-ind}
 
--- ---- trailing zeros
+-- ---- i and i + 1
 
-odd-or-even : (n : ℕ) → (n % 2 ≡ 1) ⊎ (n % 2 ≡ 0)
-odd-or-even n = ⊎-elim (λ (e : n % 2 ≡ 0). inr e) (λ (l : 0 < n % 2). inl (omega arith)) (eq-zero-or-pos (n % 2))
-
-trailing-odd : (w n : ℕ) → n % 2 ≡ 1 → trailingZeros (suc w) n ≡ 0
-unfolding trailingZeros
-trailing-odd w n e = rw e
-
-trailing-even : (w n : ℕ) → n % 2 ≡ 0 → trailingZeros (suc w) n ≡ suc (trailingZeros w (n / 2))
-unfolding trailingZeros
-trailing-even w n e = rw e
-
--- i and i + 1 halved: they have the same half where i + 1 is odd, and follow one another where it is even
+-- above the lowest bit they differ where their halves differ
 bits-of-halves : (i j p : ℕ) → (i + 1) / 2 ≡ j → unlike (bit i (suc p)) (bit (i + 1) (suc p)) ≡ unlike (bit (i / 2) p) (bit j p)
 bits-of-halves i j p e = rw (bit-suc i p, bit-suc (i + 1) p, e)
 
--- i and i + 1 differ in the bits up to the lowest 1 of i + 1 ...
-up-to-lowest-one : (w i p : ℕ) → i + 1 < 2 ^ w → p ≤ trailingZeros w (i + 1) → unlike (bit i p) (bit (i + 1) p) ≡ 1
-up-to-lowest-one zero i p h l = omega arith
-up-to-lowest-one (suc w) i zero h l = rw (bit-lowest i, bit-lowest (i + 1)) (omega arith)
-up-to-lowest-one (suc w) i (suc p) h l =
-    ⊎-elim
-    (λ (e : (i + 1) % 2 ≡ 1). omega (arith, trailing-odd w (i + 1) e))
-    (λ (e : (i + 1) % 2 ≡ 0).
-    let half : (i + 1) / 2 ≡ i / 2 + 1 = omega arith in
-    let z : trailingZeros (suc w) (i + 1) ≡ suc (trailingZeros w (i / 2 + 1)) = rw (← half) (trailing-even w (i + 1) e) in
-    bits-of-halves i (i / 2 + 1) p half ∙ up-to-lowest-one w (i / 2) p (omega arith) (omega arith))
-    (odd-or-even (i + 1))
+lowest-bits : (i : ℕ) → unlike (bit i 0) (bit (i + 1) 0) ≡ 1
+lowest-bits i = rw (bit-lowest i, bit-lowest (i + 1)) (omega arith)
+
+-- they differ in the bits up to the lowest 1 of i + 1 ...
+up-to-lowest-one : (w i : ℕ) → i + 1 < 2 ^ w → (p : ℕ) → p ≤ trailingZeros w (i + 1) → unlike (bit i p) (bit (i + 1) p) ≡ 1
+up-to-lowest-one = trailing-zeros-ind (λ z i. (p : ℕ) → p ≤ z → unlike (bit i p) (bit (i + 1) p) ≡ 1) odd even
+  where
+    odd : (i : ℕ) → (i + 1) / 2 ≡ i / 2 → (p : ℕ) → p ≤ 0 → unlike (bit i p) (bit (i + 1) p) ≡ 1
+    odd i half zero l = lowest-bits i
+    odd i half (suc p) l = omega arith
+
+    even : (z i : ℕ) → (i + 1) / 2 ≡ i / 2 + 1 → ((p : ℕ) → p ≤ z → unlike (bit (i / 2) p) (bit (i / 2 + 1) p) ≡ 1)
+        → (p : ℕ) → p ≤ suc z → unlike (bit i p) (bit (i + 1) p) ≡ 1
+    even z i half ih zero l = lowest-bits i
+    even z i half ih (suc p) l = bits-of-halves i (i / 2 + 1) p half ∙ ih p (omega arith)
 
 -- ... and in no bit above it
-above-lowest-one : (w i p : ℕ) → i + 1 < 2 ^ w → trailingZeros w (i + 1) < p → unlike (bit i p) (bit (i + 1) p) ≡ 0
-above-lowest-one zero i p h l = omega arith
-above-lowest-one (suc w) i zero h l = omega arith
-above-lowest-one (suc w) i (suc p) h l =
-    ⊎-elim
-    (λ (e : (i + 1) % 2 ≡ 1). bits-of-halves i (i / 2) p (omega arith) ∙ twice-even (bit (i / 2) p))
-    (λ (e : (i + 1) % 2 ≡ 0).
-    let half : (i + 1) / 2 ≡ i / 2 + 1 = omega arith in
-    let z : trailingZeros (suc w) (i + 1) ≡ suc (trailingZeros w (i / 2 + 1)) = rw (← half) (trailing-even w (i + 1) e) in
-    bits-of-halves i (i / 2 + 1) p half ∙ above-lowest-one w (i / 2) p (omega arith) (omega arith))
-    (odd-or-even (i + 1))
+above-lowest-one : (w i : ℕ) → i + 1 < 2 ^ w → (p : ℕ) → trailingZeros w (i + 1) < p → unlike (bit i p) (bit (i + 1) p) ≡ 0
+above-lowest-one = trailing-zeros-ind (λ z i. (p : ℕ) → z < p → unlike (bit i p) (bit (i + 1) p) ≡ 0) odd even
   where
-    twice-even : (a : ℕ) → unlike a a ≡ 0
-    twice-even a = omega arith
+    odd : (i : ℕ) → (i + 1) / 2 ≡ i / 2 → (p : ℕ) → 0 < p → unlike (bit i p) (bit (i + 1) p) ≡ 0
+    odd i half zero l = omega arith
+    odd i half (suc p) l = bits-of-halves i (i / 2) p half ∙ (omega arith)
+
+    even : (z i : ℕ) → (i + 1) / 2 ≡ i / 2 + 1 → ((p : ℕ) → z < p → unlike (bit (i / 2) p) (bit (i / 2 + 1) p) ≡ 0)
+        → (p : ℕ) → suc z < p → unlike (bit i p) (bit (i + 1) p) ≡ 0
+    even z i half ih zero l = omega arith
+    even z i half ih (suc p) l = bits-of-halves i (i / 2 + 1) p half ∙ ih p (omega arith)
 
 -- ---- one bit a step
 
@@ -82,7 +72,7 @@ pub gray-changed : (w i : ℕ) → i + 1 < 2 ^ w
     → unlike (bit (gray i) (trailingZeros w (i + 1))) (bit (gray (i + 1)) (trailingZeros w (i + 1))) ≡ 1
 gray-changed w i h =
     let z : ℕ = trailingZeros w (i + 1) in
-    gray-step-bit i z 1 0 (up-to-lowest-one w i z h (le-refl z)) (above-lowest-one w i (suc z) h (le-refl (suc z)))
+    gray-step-bit i z 1 0 (up-to-lowest-one w i h z (le-refl z)) (above-lowest-one w i h (suc z) (le-refl (suc z)))
 
 -- ... and in no other
 pub gray-kept : (w i p : ℕ) → i + 1 < 2 ^ w → (p ≡ trailingZeros w (i + 1) → ⊥)
@@ -90,9 +80,9 @@ pub gray-kept : (w i p : ℕ) → i + 1 < 2 ^ w → (p ≡ trailingZeros w (i + 
 gray-kept w i p h other =
     by-cases (decLt p (trailingZeros w (i + 1)))
     (λ (l : p < trailingZeros w (i + 1)).
-    gray-step-bit i p 1 1 (up-to-lowest-one w i p h (omega arith)) (up-to-lowest-one w i (suc p) h l))
+    gray-step-bit i p 1 1 (up-to-lowest-one w i h p (omega arith)) (up-to-lowest-one w i h (suc p) l))
     (λ l.
-    gray-step-bit i p 0 0 (above-lowest-one w i p h (omega arith)) (above-lowest-one w i (suc p) h (omega arith)))
+    gray-step-bit i p 0 0 (above-lowest-one w i h p (omega arith)) (above-lowest-one w i h (suc p) (omega arith)))
 
 -- so the step is one exclusive-or with a power of 2
 pub gray-next : (w i : ℕ) → i + 1 < 2 ^ w → gray (i + 1) ≡ bitXor (gray i) (2 ^ trailingZeros w (i + 1))

@@ -1,2 +1,3 @@
 pub mod Promise
 pub mod LeastDistance
+pub mod CardTests

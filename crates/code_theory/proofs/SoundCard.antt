@@ -1,0 +1,124 @@
+-- A card that no refusal holds of gives a sound code: each refusal's test is false, and says what it tested.
+-- Assumes nothing.
+use mathlib.Core.Path.{_≡_, refl}
+use mathlib.Core.Bool.{Bool, true, false, cond, not, _&&_, _||_, true≢false, false≢true}
+use mathlib.Core.List.{List}
+use Prim.Native.Nat.{ℕ, suc, _^_, _≤_, _<_}
+use native.Mathlib.Omega.{arith}
+use borrow.Author.Tests.{leb-true, leb-false, eqb-true, not-false, le-leb}
+use lib.Dec.{leb, eqb}
+use lib.ListN.{length}
+use Rattle.bits.proofs.Searches.{none-of-any}
+use Rattle.model.specs.Card.{cardRefusal, codeOf, codeWith, withinLimits, rowTooWide, unusedRowSet, unusedByteSet, dependent, lengthOf, rowsOf, rowOf, storedCheck, computedCheck}
+use Rattle.code_theory.specs.Promise.{Sound}
+use Rattle.code_theory.specs.CardTests.{CardTests}
+use Rattle.code_theory.proofs.LeastWeight.{independent-of-test}
+
+-- ---- tests taken apart
+
+both-left : (s t : Bool) → (s && t) ≡ true → s ≡ true
+both-left true t e = refl
+both-left false t e = absurd (false≢true e)
+
+both-right : (s t : Bool) → (s && t) ≡ true → t ≡ true
+both-right true t e = e
+both-right false t e = absurd (false≢true e)
+
+neither-left : (s t : Bool) → (s || t) ≡ false → s ≡ false
+neither-left true t e = absurd (true≢false e)
+neither-left false t e = refl
+
+neither-right : (s t : Bool) → (s || t) ≡ false → t ≡ false
+neither-right true t e = absurd (true≢false e)
+neither-right false t e = e
+
+-- a refusal whose number is not the answer does not hold, and the answer is that of the refusals below it
+not-this : (t : Bool) (number below : ℕ) → cond t (suc number) below ≡ 0 → t ≡ false
+not-this true number below e = absurd (omega arith)
+not-this false number below e = refl
+
+the-rest : (t : Bool) (number below : ℕ) → cond t (suc number) below ≡ 0 → below ≡ 0
+the-rest true number below e = omega arith
+the-rest false number below e = e
+
+-- the answer of five refusals, by their tests
+abbrev firstOfFive : (s t u v w : Bool) → ℕ
+firstOfFive s t u v w = cond s 1 (cond t 2 (cond u 3 (cond v 4 (cond w 5 0))))
+
+none-of-five : (s t u v w : Bool) → firstOfFive s t u v w ≡ 0
+    → (s ≡ false) × (t ≡ false) × (u ≡ false) × (v ≡ false) × (w ≡ false)
+none-of-five s t u v w e =
+    let e₂ = the-rest s 0 (cond t 2 (cond u 3 (cond v 4 (cond w 5 0)))) e in
+    let e₃ = the-rest t 1 (cond u 3 (cond v 4 (cond w 5 0))) e₂ in
+    let e₄ = the-rest u 2 (cond v 4 (cond w 5 0)) e₃ in
+    let e₅ = the-rest v 3 (cond w 5 0) e₄ in
+    (not-this s 0 _ e, not-this t 1 _ e₂, not-this u 2 _ e₃, not-this v 3 _ e₄, not-this w 4 0 e₅)
+
+all-of-five : (s t u v w : Bool) → (s && t && u && v && w) ≡ true
+    → (s ≡ true) × (t ≡ true) × (u ≡ true) × (v ≡ true) × (w ≡ true)
+all-of-five s t u v w e =
+    let e₄ : (s && t && u && v) ≡ true = both-left (s && t && u && v) w e in
+    let e₃ : (s && t && u) ≡ true = both-left (s && t && u) v e₄ in
+    let e₂ : (s && t) ≡ true = both-left (s && t) u e₃ in
+    (both-left s t e₂, both-right s t e₂, both-right (s && t) u e₃, both-right (s && t && u) v e₄, both-right (s && t && u && v) w e)
+
+-- ---- what each test says
+
+pub limits-of-test : (n k : ℕ) → withinLimits n k ≡ true → (1 ≤ n) × (n ≤ 64) × (1 ≤ k) × (k ≤ 12) × (k ≤ n)
+unfolding withinLimits
+limits-of-test n k e =
+    let all = all-of-five (leb 1 n) (leb n 64) (leb 1 k) (leb k 12) (leb k n) e in
+    (leb-true 1 n (all .0), leb-true n 64 (all .1), leb-true 1 k (all .2), leb-true k 12 (all .3), leb-true k n (all .4))
+
+pub narrow-of-test : (n : ℕ) (row : ℕ → ℕ) → rowTooWide n row ≡ false → (z : ℕ) → z < 12 → row z < 2 ^ n
+unfolding rowTooWide
+narrow-of-test n row e z l = leb-false (2 ^ n) (row z) (none-of-any (λ y. leb (2 ^ n) (row y)) 12 e z l)
+
+pub unused-of-test : (k : ℕ) (row : ℕ → ℕ) → unusedRowSet k row ≡ false → (z : ℕ) → k ≤ z → z < 12 → row z ≡ 0
+unfolding unusedRowSet
+unused-of-test k row e z h l =
+    let test : (leb k z && not (eqb (row z) 0)) ≡ false =
+    none-of-any (λ y. leb k y && not (eqb (row y) 0)) 12 e z l in
+    eqb-true (row z) 0 (not-false _ (rw (le-leb k z h) at test))
+
+-- ---- a sound card
+
+pub sound-code : (n k : ℕ) (row : ℕ → ℕ) → withinLimits n k ≡ true → rowTooWide n row ≡ false → unusedRowSet k row ≡ false
+    → dependent k row ≡ false → Sound (codeWith n k row)
+sound-code n k row limits narrow unused independent =
+    let within = limits-of-test n k limits in
+    record {
+      n-low = within .0;
+      n-high = within .1;
+      k-low = within .2;
+      k-high = within .3;
+      k-n = within .4;
+      narrow = narrow-of-test n row narrow;
+      unused = unused-of-test k row unused;
+      independent = independent-of-test k row independent;
+      least = refl;
+    }
+
+pub card-tests : (b : List ℕ) → cardRefusal b ≡ 0 → CardTests b
+unfolding cardRefusal
+card-tests b e =
+    let wide : Bool = rowTooWide (lengthOf b) (rowOf b) in
+    let unused : Bool = unusedRowSet (rowsOf b) (rowOf b) in
+    let none =
+    none-of-five (not (eqb (length b) 512)) (not (eqb (storedCheck b) (computedCheck b))) (not (withinLimits (lengthOf b) (rowsOf b)))
+    (wide || unused || unusedByteSet b) (dependent (rowsOf b) (rowOf b)) e in
+    record {
+      size = eqb-true _ _ (not-false _ (none .0));
+      check = eqb-true _ _ (not-false _ (none .1));
+      limits = not-false _ (none .2);
+      rows-narrow = neither-left wide unused (neither-left (wide || unused) (unusedByteSet b) (none .3));
+      rows-unused = neither-right wide unused (neither-left (wide || unused) (unusedByteSet b) (none .3));
+      bytes-unused = neither-right (wide || unused) (unusedByteSet b) (none .3);
+      rows-independent = none .4;
+    }
+
+pub sound-card : (b : List ℕ) → cardRefusal b ≡ 0 → Sound (codeOf b)
+unfolding codeOf
+sound-card b e =
+    let tests : CardTests b = card-tests b e in
+    sound-code (lengthOf b) (rowsOf b) (rowOf b) (tests .limits) (tests .rows-narrow) (tests .rows-unused) (tests .rows-independent)
