@@ -4,3 +4,4 @@ pub mod Order
 pub mod Words
 pub mod Reading
 pub mod Answers
+pub mod Cases

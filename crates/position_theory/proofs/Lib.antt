@@ -7,3 +7,4 @@ pub mod WholeChunks
 pub mod Nearest
 pub mod BoundedError
 pub mod DistinctWords
+pub mod Demands
