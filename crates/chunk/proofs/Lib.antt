@@ -1,0 +1,3 @@
+pub mod Bytes
+pub mod Refusals
+pub mod Rows

@@ -1,0 +1,35 @@
+-- The refusals of a card, one law each: what came before holds, and this one's condition does. Assumes nothing.
+use mathlib.Core.Path.{_≡_}
+use mathlib.Core.Bool.{true, false, cond}
+use mathlib.Core.List.{List}
+use Prim.Native.Nat.{ℕ}
+use borrow.Author.Tests.{eq-eqb, ne-eqb}
+use lib.ListN.{length}
+use Rattle.model.specs.Card.{lengthOf, rowsOf, rowOf, storedCheck, computedCheck, withinLimits, dependent, cardRefusal}
+use Rattle.chunk.specs.WellShaped.{WellShaped, misplaced}
+
+module _ (b : List ℕ) where
+  pub refusal-1 : (length b ≡ 512 → ⊥) → cardRefusal b ≡ 1
+  unfolding cardRefusal
+  refusal-1 short = rw (ne-eqb (length b) 512 short)
+
+  pub refusal-2 : length b ≡ 512 → (storedCheck b ≡ computedCheck b → ⊥) → cardRefusal b ≡ 2
+  unfolding cardRefusal
+  refusal-2 whole wrong = rw (eq-eqb (length b) 512 whole, ne-eqb (storedCheck b) (computedCheck b) wrong)
+
+  pub refusal-3 : length b ≡ 512 → storedCheck b ≡ computedCheck b → withinLimits (lengthOf b) (rowsOf b) ≡ false
+      → cardRefusal b ≡ 3
+  unfolding cardRefusal
+  refusal-3 whole checked outside =
+      rw (eq-eqb (length b) 512 whole, eq-eqb (storedCheck b) (computedCheck b) checked, outside)
+
+  pub refusal-4 : length b ≡ 512 → storedCheck b ≡ computedCheck b → withinLimits (lengthOf b) (rowsOf b) ≡ true
+      → misplaced b ≡ true → cardRefusal b ≡ 4
+  unfolding cardRefusal misplaced
+  refusal-4 whole checked limits wrong =
+      rw (eq-eqb (length b) 512 whole, eq-eqb (storedCheck b) (computedCheck b) checked, limits, wrong)
+
+  pub refusal-5-or-0 : WellShaped b → cardRefusal b ≡ cond (dependent (rowsOf b) (rowOf b)) 5 0
+  unfolding cardRefusal misplaced
+  refusal-5-or-0 w =
+      rw (eq-eqb (length b) 512 (w .whole), eq-eqb (storedCheck b) (computedCheck b) (w .checked), w .limits, w .placed)

@@ -1,0 +1,68 @@
+-- `chunk::card::row_too_wide` meets its contract. The loop's invariant: no row below `z` is too wide. The measure is the rows
+-- that are left. Assumes nothing.
+use Prim.Native.Nat.{ℕ, _^_, _-_, _≤_, _<_}
+use mathlib.Core.Path.{_≡_, sym, _∙_}
+use mathlib.Core.Bool.{false}
+use borrow.Author.Count.{below-more, below-none}
+use borrow.Author.Needs.{needs}
+use native.Mathlib.Omega.{arith}
+use lib.Dec.{leb}
+use lib.ListN.{getD}
+use Rattle.bits.proofs.Searches.{any-none, any-some}
+use Rattle.model.specs.Card.{rowTooWide}
+use Rattle.chunk.proofs.card.row_too_wide.Statement.{statement}
+use Rattle.chunk.proofs.card.row_too_wide.Tie as tie
+
+abbrev Inv-loop : tie.InvT-loop
+Inv-loop n rows z₀ z = (z ≤ 12) × ((j : ℕ) → j < z → leb (2 ^ n) (getD rows j 0) ≡ false)
+
+abbrev μ-loop : tie.MeasureT-loop
+μ-loop n rows z₀ z = 12 - z
+
+loop-holds : tie.Need-loop-holds Inv-loop μ-loop
+loop-holds c = (omega arith, below-none _)
+
+mul-too-wide : tie.Need-mul-too-wide Inv-loop μ-loop
+mul-too-wide c = search needs
+
+array-read-too-wide : tie.Need-array-read-too-wide Inv-loop μ-loop
+array-read-too-wide c = search needs
+
+too-wide-requires : tie.Need-too-wide-requires Inv-loop μ-loop
+too-wide-requires c κs = search needs
+
+returns : tie.Need-returns Inv-loop μ-loop
+unfolding rowTooWide
+returns c =
+    sym
+    (any-some _ 12 (c .before .before .before .loop .z) (c .before .before .loop-test .taken) (sym (c .before .too-wide .ensures) ∙ c .if1 .taken))
+
+add-z : tie.Need-add-z Inv-loop μ-loop
+add-z c = search needs
+
+loop-less : tie.Need-loop-less Inv-loop μ-loop
+loop-less c = search needs
+
+loop-again : tie.Need-loop-again Inv-loop μ-loop
+loop-again c =
+    (omega arith, below-more _ _ (c .before .before .before .loop .inv .1) (sym (c .before .too-wide .ensures) ∙ c .if1 .left))
+
+returns-2 : tie.Need-returns-2 Inv-loop μ-loop
+unfolding rowTooWide
+returns-2 c = sym (any-none _ 12 (λ j h. c .before .loop .inv .1 j (omega arith)))
+
+pub row-too-wide-spec : {M : Type 1} → statement M
+row-too-wide-spec =
+    tie.close
+    (tie.spec
+    Inv-loop
+    μ-loop
+    loop-holds
+    mul-too-wide
+    array-read-too-wide
+    too-wide-requires
+    returns
+    add-z
+    loop-less
+    loop-again
+    returns-2)

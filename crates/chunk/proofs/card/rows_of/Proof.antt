@@ -1,0 +1,73 @@
+-- `chunk::card::rows_of` meets its contract. The loop's invariant: the rows below `z` stand in the array. The measure is the rows
+-- that are left. Assumes nothing.
+use Prim.Native.Nat.{ℕ, _-_, _≤_, _<_}
+use mathlib.Core.Path.{_≡_, _∙_}
+use borrow.Author.Count.{below-more}
+use borrow.Author.Needs.{needs}
+use native.Mathlib.Omega.{arith}
+use lib.ListN.{length, getD, set, length-set}
+use lib.Seq.{getD-set-same, getD-set-other}
+use Rattle.model.specs.Card.{rowOf}
+use Rattle.chunk.proofs.card.rows_of.Statement.{statement}
+use Rattle.chunk.proofs.card.rows_of.Tie as tie
+
+abbrev Inv-loop : tie.InvT-loop
+Inv-loop card rows₀ z₀ rows z =
+    (z ≤ 12) × (length rows ≡ 12) × ((j : ℕ) → j < z → getD rows j 0 ≡ rowOf card j)
+
+abbrev μ-loop : tie.MeasureT-loop
+μ-loop card rows₀ z₀ rows z = 12 - z
+
+loop-holds : tie.Need-loop-holds Inv-loop μ-loop
+loop-holds c = search needs
+
+mul-high-first : tie.Need-mul-high-first Inv-loop μ-loop
+mul-high-first c = search needs
+
+add-high-first : tie.Need-add-high-first Inv-loop μ-loop
+add-high-first c = search needs
+
+high-first-requires : tie.Need-high-first-requires Inv-loop μ-loop
+high-first-requires c κs = search needs
+
+mul-rows : tie.Need-mul-rows Inv-loop μ-loop
+mul-rows c = search needs
+
+array-write-rows : tie.Need-array-write-rows Inv-loop μ-loop
+array-write-rows c = search needs
+
+add-z : tie.Need-add-z Inv-loop μ-loop
+add-z c = search needs
+
+loop-less : tie.Need-loop-less Inv-loop μ-loop
+loop-less c = search needs
+
+loop-again : tie.Need-loop-again Inv-loop μ-loop
+unfolding rowOf
+loop-again c =
+    let loop = c .before .before .loop in
+    let row = c .high-first .result in
+    let here = getD-set-same (loop .rows) (loop .z) row 0 (omega arith) ∙ c .high-first .ensures .0 in
+    let below : (j : ℕ) → j < loop .z → getD (set (loop .rows) (loop .z) row) j 0 ≡ rowOf (c .before .before .before .before .args .card .now) j =
+    λ j h. getD-set-other (loop .rows) (loop .z) j row 0 (omega arith) ∙ loop .inv .2 j h in
+    (omega arith, simp length-set (loop .inv .1), below-more _ _ below here)
+
+returns : tie.Need-returns Inv-loop μ-loop
+returns c = λ z h. c .before .loop .inv .2 z (omega arith)
+
+pub rows-of-spec : {M : Type 1} → statement M
+rows-of-spec =
+    tie.close
+    (tie.spec
+    Inv-loop
+    μ-loop
+    loop-holds
+    mul-high-first
+    add-high-first
+    high-first-requires
+    mul-rows
+    array-write-rows
+    add-z
+    loop-less
+    loop-again
+    returns)

@@ -1,0 +1,170 @@
+// The card's bytes: numbers read high byte first, the check, the limits, the rows, and refusals 1 to 4.
+ghost use mathlib.Core.Path.{_≡_};
+ghost use Prim.Native.Nat.{ℕ, _+_, _^_, _≤_, _<_};
+ghost use lib.Dec.{leb};
+ghost use lib.ListN.{length, getD};
+ghost use Rattle.model.specs.Card.{byte, highFirst, rowOf, computedCheck, withinLimits, rowTooWide, unusedRowSet, unusedByteSet, cardRefusal};
+ghost use Rattle.chunk.specs.WellShaped.{WellShaped, misplaced};
+
+// A byte as a number of 64 bits.
+fn wide(b: u8) -> u64
+    ensures { λ r. ⌜ (r ≡ b) × (r < 256) ⌝ }
+{
+    b as u64
+}
+
+// Byte i of the card.
+pub fn byte_at(card: &[u8], i: usize) -> u32
+    requires { ⌜ i < length (now card) ⌝ }
+    ensures { λ r. ⌜ (r ≡ byte (now (card .entry)) i) × (r < 256) ⌝ }
+{
+    card[i] as u32
+}
+
+// The number in the `m` bytes from place `at` on, high byte first.
+pub fn high_first(card: &[u8], at: usize, m: usize) -> u64
+    requires { ⌜ (at + m ≤ length (now card)) × (m ≤ 8) ⌝ }
+    ensures { λ r. ⌜ (r ≡ highFirst (now (card .entry)) at m) × (r < 256 ^ m) ⌝ }
+{
+    let mut value: u64 = 0;
+    let mut j: usize = 0;
+    while j < m {
+        value = value * 256 + wide(card[at + j]);
+        j += 1;
+    }
+    value
+}
+
+// The check that the card should carry.
+pub fn computed_check(card: &[u8]) -> u64
+    requires { ⌜ length (now card) ≡ 512 ⌝ }
+    ensures { λ r. ⌜ r ≡ computedCheck (now (card .entry)) ⌝ }
+{
+    let mut total: u64 = 0;
+    let mut p: usize = 0;
+    while p < 510 {
+        total += (p as u64 + 1) * wide(card[p]);
+        p += 1;
+    }
+    total % 65521
+}
+
+// Are n and k within the card's limits?
+pub fn within_limits(n: u32, k: u32) -> bool
+    ensures { λ r. ⌜ r ≡ withinLimits n k ⌝ }
+{
+    if n < 1 {
+        return false;
+    }
+    if 64 < n {
+        return false;
+    }
+    if k < 1 {
+        return false;
+    }
+    if 12 < k {
+        return false;
+    }
+    k <= n
+}
+
+// The twelve rows.
+pub fn rows_of(card: &[u8]) -> [u64; 12]
+    requires { ⌜ length (now card) ≡ 512 ⌝ }
+    ensures { λ r. ⌜ ((z : ℕ) → z < 12 → getD r z 0 ≡ rowOf (now (card .entry)) z) ⌝ }
+{
+    let mut rows = [0u64; 12];
+    let mut z: usize = 0;
+    while z < 12 {
+        rows[z] = high_first(card, 4 + 8 * z, 8);
+        z += 1;
+    }
+    rows
+}
+
+// Has a row a bit at n or above? No number of 64 bits has one at 64 or above.
+fn too_wide(n: u32, row: u64) -> bool
+    ensures { λ r. ⌜ r ≡ leb (2 ^ n) row ⌝ }
+{
+    if 64 <= n {
+        return false;
+    }
+    row >> n != 0
+}
+
+// Has some row a bit at n or above?
+fn row_too_wide(n: u32, rows: [u64; 12]) -> bool
+    ensures { λ r. ⌜ r ≡ rowTooWide n (λ z. getD rows z 0) ⌝ }
+{
+    let mut z: usize = 0;
+    while z < 12 {
+        if too_wide(n, rows[z]) {
+            return true;
+        }
+        z += 1;
+    }
+    false
+}
+
+// Is some unused row, one of the rows k to 11, not zero?
+fn unused_row_set(k: u32, rows: [u64; 12]) -> bool
+    ensures { λ r. ⌜ r ≡ unusedRowSet k (λ z. getD rows z 0) ⌝ }
+{
+    let mut z = k as usize;
+    while z < 12 {
+        if rows[z] != 0 {
+            return true;
+        }
+        z += 1;
+    }
+    false
+}
+
+// Is some byte from 100 to 509 not zero?
+fn unused_byte_set(card: &[u8]) -> bool
+    requires { ⌜ length (now card) ≡ 512 ⌝ }
+    ensures { λ r. ⌜ r ≡ unusedByteSet (now (card .entry)) ⌝ }
+{
+    let mut i: usize = 0;
+    while i < 410 {
+        if card[100 + i] != 0 {
+            return true;
+        }
+        i += 1;
+    }
+    false
+}
+
+// Is something set that a card leaves zero: a bit at n or above in a row, an unused row, or an unused byte?
+fn has_misplaced(card: &[u8]) -> bool
+    requires { ⌜ length (now card) ≡ 512 ⌝ }
+    ensures { λ r. ⌜ r ≡ misplaced (now (card .entry)) ⌝ }
+{
+    let rows = rows_of(card);
+    if row_too_wide(byte_at(card, 0), rows) {
+        return true;
+    }
+    if unused_row_set(byte_at(card, 1), rows) {
+        return true;
+    }
+    unused_byte_set(card)
+}
+
+// Refusals 1 to 4 of any bytes as a card, or 0 where the card passes them.
+pub fn shape_refusal(card: &[u8]) -> u32
+    ensures { λ r. ⌜ (0 < r → cardRefusal (now (card .entry)) ≡ r) × (r ≡ 0 → WellShaped (now (card .entry))) ⌝ }
+{
+    if card.len() != 512 {
+        return 1;
+    }
+    if high_first(card, 510, 2) != computed_check(card) {
+        return 2;
+    }
+    if !within_limits(byte_at(card, 0), byte_at(card, 1)) {
+        return 3;
+    }
+    if has_misplaced(card) {
+        return 4;
+    }
+    0
+}
