@@ -33,11 +33,11 @@ last-or-below h = eq-or-lt-of-le (le-of-suc-le-suc h)
 
 -- any: whether the test ever holds
 
-or-false-left : (a b : Bool) → (a || b) ≡ false → a ≡ false
+pub or-false-left : (a b : Bool) → (a || b) ≡ false → a ≡ false
 or-false-left true b h = h
 or-false-left false b h = refl
 
-or-false-right : (a b : Bool) → (a || b) ≡ false → b ≡ false
+pub or-false-right : (a b : Bool) → (a || b) ≡ false → b ≡ false
 or-false-right true b h = absurd (true≢false h)
 or-false-right false b h = h
 
@@ -198,7 +198,9 @@ pub leastAt-ext : (f g : ℕ → ℕ) (from m : ℕ) → ((j : ℕ) → from ≤
 unfolding leastAt
 leastAt-ext f g from zero same = refl
 leastAt-ext f g from (suc m) same =
-    rw (leastAt-ext f g from m (λ j l h. same j l (omega arith)), same (from + suc m) (omega arith) (omega arith), same (leastAt g from m) (leastAt-low g from m) (omega (arith, leastAt-high g from m)))
+    let before = leastAt-ext f g from m (λ j l h. same j l (omega arith)) in
+    let there = same (leastAt g from m) (leastAt-low g from m) (omega (arith, leastAt-high g from m)) in
+    rw (before, same (from + suc m) (omega arith) (omega arith), there)
 
 -- greatest: the greatest number of which the test holds
 

@@ -1,3 +1,4 @@
 pub mod Bytes
 pub mod Refusals
 pub mod Rows
+pub mod SoundCard

@@ -3,7 +3,7 @@ ghost use mathlib.Core.Path.{_≡_};
 ghost use Prim.Native.Nat.{ℕ, _+_, _^_, _≤_, _<_};
 ghost use lib.Dec.{leb};
 ghost use lib.ListN.{length, getD};
-ghost use Rattle.model.specs.Card.{byte, highFirst, rowOf, computedCheck, withinLimits, rowTooWide, unusedRowSet, unusedByteSet, cardRefusal};
+ghost use Rattle.model.specs.Card.{byte, highFirst, rowOf, trackOf, storedCheck, computedCheck, withinLimits, rowTooWide, unusedRowSet, unusedByteSet, cardRefusal};
 ghost use Rattle.chunk.specs.WellShaped.{WellShaped, misplaced};
 
 // A byte as a number of 64 bits.
@@ -35,8 +35,24 @@ pub fn high_first(card: &[u8], at: usize, m: usize) -> u64
     value
 }
 
+// The track number.
+pub fn track_of(card: &[u8]) -> u32
+    requires { ⌜ length (now card) ≡ 512 ⌝ }
+    ensures { λ r. ⌜ r ≡ trackOf (now (card .entry)) ⌝ }
+{
+    high_first(card, 2, 2) as u32
+}
+
+// The check that the card carries.
+fn stored_check(card: &[u8]) -> u64
+    requires { ⌜ length (now card) ≡ 512 ⌝ }
+    ensures { λ r. ⌜ r ≡ storedCheck (now (card .entry)) ⌝ }
+{
+    high_first(card, 510, 2)
+}
+
 // The check that the card should carry.
-pub fn computed_check(card: &[u8]) -> u64
+fn computed_check(card: &[u8]) -> u64
     requires { ⌜ length (now card) ≡ 512 ⌝ }
     ensures { λ r. ⌜ r ≡ computedCheck (now (card .entry)) ⌝ }
 {
@@ -50,7 +66,7 @@ pub fn computed_check(card: &[u8]) -> u64
 }
 
 // Are n and k within the card's limits?
-pub fn within_limits(n: u32, k: u32) -> bool
+fn within_limits(n: u32, k: u32) -> bool
     ensures { λ r. ⌜ r ≡ withinLimits n k ⌝ }
 {
     if n < 1 {
@@ -157,7 +173,7 @@ pub fn shape_refusal(card: &[u8]) -> u32
     if card.len() != 512 {
         return 1;
     }
-    if high_first(card, 510, 2) != computed_check(card) {
+    if stored_check(card) != computed_check(card) {
         return 2;
     }
     if !within_limits(byte_at(card, 0), byte_at(card, 1)) {

@@ -16,6 +16,7 @@ use Rattle.model.specs.Card.{Code}
 use Rattle.model.specs.Order.{lastCodeword, blockLength, start, lastPosition}
 use Rattle.model.specs.Words.{wordBits, word, blockOf, wordAt}
 use Rattle.code_theory.specs.Promise.{ChunkPromise}
+use Rattle.position_theory.specs.InBlock.{InBlock}
 use Rattle.position_theory.proofs.Words.{word-bits, apart}
 
 module _ (C : Code) (promise : ChunkPromise C) where
@@ -62,23 +63,31 @@ module _ (C : Code) (promise : ChunkPromise C) where
   unfolding blockOf
   block-high position j l b = leb-false _ _ (greatest-above (λ i. leb (start C i) position) (lastCodeword C) j l b)
 
-  -- a position up to the last stands at the start of its block, or inside a block that is not the last
+  -- each position up to the last lies in exactly one block
+  pub lies-in-its-block : (position : ℕ) → position ≤ lastPosition C → InBlock C position (blockOf C position)
+  unfolding lastPosition
+  lies-in-its-block position h =
+      record {
+        on-track = block-le position;
+        from-start = block-low position;
+        before-end = λ l. rw (← (promise .start-next (blockOf C position) l))
+            (block-high position (blockOf C position + 1) (omega arith) (omega arith));
+        at-last = λ e. let top : position ≤ start C (blockOf C position) = rw e h in omega (arith, block-low position);
+      }
+
+  pub lies-in-no-other : (position i : ℕ) → InBlock C position i → i ≡ blockOf C position
+  lies-in-no-other position i b =
+      sym (block-is i position (b .on-track) (b .from-start) (λ j l h.
+      omega (arith, starts-rise i j l h, b .before-end (omega arith))))
+
+  -- so it stands at the start of its block, or inside a block that is not the last
   pub in-its-block : (position : ℕ) → position ≤ lastPosition C
       → (position ≡ start C (blockOf C position))
       ⊎ ((blockOf C position < lastCodeword C)
       × (position < start C (blockOf C position) + blockLength C (blockOf C position)))
-  unfolding lastPosition
   in-its-block position h =
-      ⊎-elim
-      (λ (e : blockOf C position ≡ lastCodeword C).
-      let top : position ≤ start C (blockOf C position) = rw e h in inl (omega (arith, block-low position)))
-      (λ (l : blockOf C position < lastCodeword C).
-      inr (
-        l,
-        rw (← (promise .start-next (blockOf C position) l))
-            (block-high position (blockOf C position + 1) (omega arith) (omega arith)),
-      ))
-      (eq-or-lt-of-le (block-le position))
+      let lies = lies-in-its-block position h in
+      ⊎-elim (λ e. inl (lies .at-last e)) (λ l. inr (l, lies .before-end l)) (eq-or-lt-of-le (block-le position))
 
   -- the word of a start r(i) is w(i)
   pub word-at-start : (i : ℕ) → i ≤ lastCodeword C → (p : ℕ) → wordAt C (start C i) p ≡ word C i p

@@ -35,23 +35,7 @@ pub word-at-bits : (C : Code) (position p : ℕ) → wordAt C position p < 2
 unfolding wordAt
 word-at-bits C position p = walk-bits (word-bits C (blockOf C position)) (word-bits C (blockOf C position + 1)) _ p
 
-module _ (C : Code) (promise : ChunkPromise C) where
-  -- a word within the radius in every chunk allows the true position
-  true-allowed : (position : ℕ) (x : ℕ → ℕ) → position ≤ lastPosition C → ((p : ℕ) → x p < 2)
-      → ChunksWithin C (radius C) (wordAt C position) x → Allows C x position
-  true-allowed position x h hx d =
-      ⊎-elim
-      (λ (at-start : position ≡ start C (blockOf C position)).
-      rw at-start (start-allowed C promise x (blockOf C position) (block-le C promise position)
-      (whole-at-start C promise (blockOf C position) x (block-le C promise position) hx (rw at-start at d))))
-      (λ (inside : (blockOf C position < lastCodeword C) × (position < start C (blockOf C position) + blockLength C (blockOf C position))).
-      let offset = le-dest (block-low C promise position) in
-      rw (← (offset .1))
-      (inside-allowed C promise x (blockOf C position) (offset .0) (inside .0)
-      (whole-in-block C promise (blockOf C position) (offset .0) x (inside .0) (omega arith) hx (rw (← (offset .1)) at d))
-      (omega arith)))
-      (in-its-block C promise position h)
-
+module _ (C : Code) where
   -- the places of a position's word as bytes
   pub place-of-word : (position p : ℕ) → p < wordBits C → place (wordBytes C position) p ≡ wordAt C position p
   unfolding wordBytes
@@ -88,14 +72,31 @@ module _ (C : Code) (promise : ChunkPromise C) where
   unfolding readWord
   read-word received h spare = simp (eq-eqb (length received) (wordLength C) h, spare)
 
+module _ (C : Code) (promise : ChunkPromise C) where
+  -- a word within the radius in every chunk allows the true position
+  true-allowed : (position : ℕ) (x : ℕ → ℕ) → position ≤ lastPosition C → ((p : ℕ) → x p < 2)
+      → ChunksWithin C (radius C) (wordAt C position) x → Allows C x position
+  true-allowed position x h hx d =
+      ⊎-elim
+      (λ (at-start : position ≡ start C (blockOf C position)).
+      rw at-start (start-allowed C promise x (blockOf C position) (block-le C promise position)
+      (whole-at-start C promise (blockOf C position) x (block-le C promise position) hx (rw at-start at d))))
+      (λ (inside : (blockOf C position < lastCodeword C) × (position < start C (blockOf C position) + blockLength C (blockOf C position))).
+      let offset = le-dest (block-low C promise position) in
+      rw (← (offset .1))
+      (inside-allowed C promise x (blockOf C position) (offset .0) (inside .0)
+      (whole-in-block C promise (blockOf C position) (offset .0) x (inside .0) (omega arith) hx (rw (← (offset .1)) at d))
+      (omega arith)))
+      (in-its-block C promise position h)
+
   -- demand 3 and the sharper bound, for a code that keeps the chunk promise
   pub error-bounded : (position : ℕ) (received : List ℕ) → position ≤ lastPosition C → WithinRadius C position received
       → Near (readWord C received) position (turned C position received + residualOf (readWord C received))
       × (residualOf (readWord C received) ≤ turned C position received)
   error-bounded position received h d =
-      rw (read-word received (d .right-length) (d .spare-zero), turned-is-residual position received)
+      rw (read-word C received (d .right-length) (d .spare-zero), turned-is-residual C position received)
       (answer-near C promise (place received) position
-      (true-allowed position (place received) h (place-bit received) (within-of-bytes (radius C) position (place received) (d .chunks))))
+      (true-allowed position (place received) h (place-bit received) (within-of-bytes C (radius C) position (place received) (d .chunks))))
 
 -- a bound may be loosened
 pub near-loosen : (answer : ReadAnswer) (position e e′ : ℕ) → e ≤ e′ → Near answer position e → Near answer position e′

@@ -4,11 +4,16 @@ use mathlib.Core.Path.{_≡_}
 use mathlib.Core.List.{List}
 use mathlib.Core.Logic.{_⊎_}
 use Prim.Native.Nat.{ℕ, _+_, _*_, _≤_}
-use Rattle.bits.specs.Places.{differingBits}
+use mathlib.Core.Bool.{false}
+use lib.ListN.{length}
+use Rattle.bits.specs.Places.{place, differingBits}
 use Rattle.model.specs.Card.{cardRefusal, codeOf}
 use Rattle.model.specs.Order.{lastPosition}
 use Rattle.model.specs.Words.{wordBytes}
+use Rattle.model.specs.Reading.{residual}
+use Rattle.model.specs.Answers.{wordLength, spareSet}
 use Rattle.model.specs.declared.ReadAnswer.{ReadAnswer}
+use Rattle.position_theory.specs.Nearest.{IsReading}
 use Rattle.position_theory.specs.Damage.{WithinRadius, turned, Near, residualOf}
 
 -- Demand 2, writing, for a sound card: of the words of two neighbouring positions just one bit differs
@@ -23,6 +28,15 @@ unfoldable pub NoOtherPositionsWord : (card : List ℕ) (position : ℕ) (writte
 NoOtherPositionsWord card position written =
     (other : ℕ) → cardRefusal card ≡ 0 → position ≤ lastPosition (codeOf card) → other ≤ lastPosition (codeOf card)
     → wordBytes (codeOf card) other ≡ written → other ≡ position
+
+-- Demand 2, reading, for a sound card and a word of the right length with spare bits zero: the answer is the allowed position
+-- nearest to the word, or the refusal of a word that allows none, and a residual is the count of differing bits
+unfoldable pub NearestOfAllowed : (card received : List ℕ) → ReadAnswer → Type 0
+NearestOfAllowed card received answer =
+    cardRefusal card ≡ 0 → length received ≡ wordLength (codeOf card) → spareSet (codeOf card) received ≡ false
+    → IsReading (codeOf card) (place received) answer
+    × ((position : ℕ)
+    → residual (codeOf card) (place received) position ≡ differingBits (wordBytes (codeOf card) position) received)
 
 -- Demand 3: for a sound card, every position on its track and whichever bits of that position's word are turned, at most t
 -- in each of the five chunks: the answer is no refusal, and no further from the position than twice the bits turned

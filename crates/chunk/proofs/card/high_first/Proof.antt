@@ -46,7 +46,8 @@ loop-less c = search needs
 loop-again : tie.Need-loop-again Inv-loop μ-loop
 loop-again c =
     let loop = c .before .before .before .loop in
-    (omega arith, rw (high-first-more, ← (loop .inv .1), c .wide .ensures .0), byte-more (loop .value) (c .wide .result) (loop .j) (loop .inv .2) (c .wide .ensures .1))
+    let below = byte-more (loop .value) (c .wide .result) (loop .j) (loop .inv .2) (c .wide .ensures .1) in
+    (omega arith, rw (high-first-more, ← (loop .inv .1), c .wide .ensures .0), below)
 
 returns : tie.Need-returns Inv-loop μ-loop
 returns c =

@@ -1,13 +1,14 @@
 -- `chunk::card::rows_of` meets its contract. The loop's invariant: the rows below `z` stand in the array. The measure is the rows
 -- that are left. Assumes nothing.
 use Prim.Native.Nat.{ℕ, _-_, _≤_, _<_}
-use mathlib.Core.Path.{_≡_, _∙_}
+use mathlib.Core.Path.{_≡_, sym, _∙_}
 use borrow.Author.Count.{below-more}
 use borrow.Author.Needs.{needs}
 use native.Mathlib.Omega.{arith}
 use lib.ListN.{length, getD, set, length-set}
 use lib.Seq.{getD-set-same, getD-set-other}
 use Rattle.model.specs.Card.{rowOf}
+use Rattle.chunk.proofs.Rows.{row-of-bytes}
 use Rattle.chunk.proofs.card.rows_of.Statement.{statement}
 use Rattle.chunk.proofs.card.rows_of.Tie as tie
 
@@ -43,11 +44,11 @@ loop-less : tie.Need-loop-less Inv-loop μ-loop
 loop-less c = search needs
 
 loop-again : tie.Need-loop-again Inv-loop μ-loop
-unfolding rowOf
 loop-again c =
     let loop = c .before .before .loop in
     let row = c .high-first .result in
-    let here = getD-set-same (loop .rows) (loop .z) row 0 (omega arith) ∙ c .high-first .ensures .0 in
+    let here = getD-set-same (loop .rows) (loop .z) row 0 (omega arith) ∙ c .high-first .ensures .0
+    ∙ sym (row-of-bytes (c .before .before .before .before .args .card .now) (loop .z) (omega arith)) in
     let below : (j : ℕ) → j < loop .z → getD (set (loop .rows) (loop .z) row) j 0 ≡ rowOf (c .before .before .before .before .args .card .now) j =
     λ j h. getD-set-other (loop .rows) (loop .z) j row 0 (omega arith) ∙ loop .inv .2 j h in
     (omega arith, simp length-set (loop .inv .1), below-more _ _ below here)

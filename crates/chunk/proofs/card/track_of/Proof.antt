@@ -1,0 +1,18 @@
+-- `chunk::card::track_of` meets its contract: two bytes make a number below 65,536. Assumes nothing.
+use borrow.Author.Needs.{needs}
+use Rattle.model.specs.Card.{trackOf}
+use Rattle.chunk.proofs.card.track_of.Statement.{statement}
+use Rattle.chunk.proofs.card.track_of.Tie as tie
+
+high-first-requires : tie.Need-high-first-requires
+high-first-requires c κs = search needs
+
+cast-result : tie.Need-cast-result
+cast-result c = search needs
+
+returns : tie.Need-returns
+unfolding trackOf
+returns c = c .high-first .ensures .0
+
+pub track-of-spec : {M : Type 1} → statement M
+track-of-spec = tie.close (tie.spec high-first-requires cast-result returns)
