@@ -1,0 +1,2 @@
+// The position code: blocks and their starts, and the words of positions.
+pub mod blocks;
