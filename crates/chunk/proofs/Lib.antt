@@ -1,0 +1,3 @@
+pub mod GrayStep
+pub mod LeastWeightLoop
+pub mod ChunkSearch

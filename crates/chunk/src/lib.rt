@@ -1,0 +1,3 @@
+// The card and the chunk code: a card's bytes are read and checked, and a code chunk is read.
+pub mod order;
+pub mod search;
