@@ -6,6 +6,7 @@ use mathlib.Core.Bool.{true, false, true≢false}
 use mathlib.Core.Logic.{_⊎_, inl, inr, ⊎-elim}
 use Prim.Native.Nat.{ℕ, zero, suc, _+_, _-_, _^_, _≤_, _<_, min}
 use native.Mathlib.Nat.{le-antisymm, eq-zero-or-pos}
+use native.Mathlib.Numerals.{add-one}
 use native.Mathlib.Omega.{arith}
 use borrow.Author.Tests.{eq-eqb, ne-eqb, eqb-false}
 use lib.Dec.{eqb}
@@ -108,6 +109,11 @@ module _ (n k : ℕ) (row : ℕ → ℕ) where
   -- c(i) of the code that the rows give
   abbrev c : ℕ → ℕ
   c i = sumOfRows row k (gray i)
+
+  -- one codeword more
+  pub order-next : (i : ℕ) → leastInOrder n k row (i + 1) ≡ min (leastInOrder n k row i) (weight n (c (i + 1)))
+  unfolding leastInOrder
+  order-next i = rw (add-one i)
 
   -- a codeword that is zero brings the least to 0 ...
   order-meets-zero : (m i : ℕ) → 0 < i → i ≤ m → c i ≡ 0 → leastInOrder n k row m ≡ 0

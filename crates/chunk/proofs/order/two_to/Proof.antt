@@ -1,0 +1,17 @@
+-- `two_to` meets its contract: the shift leaves the type's range nowhere. Assumes nothing.
+use mathlib.Core.Path.{_∙_}
+use native.Mathlib.Nat.{one-mul}
+use native.Mathlib.Omega.{arith}
+use borrow.Author.Needs.{needs}
+use lib.Pow.{shl-exact}
+use Rattle.chunk.proofs.order.two_to.Statement.{statement}
+use Rattle.chunk.proofs.order.two_to.Tie as tie
+
+shl-result : tie.Need-shl-result
+shl-result c = search needs
+
+returns : tie.Need-returns
+returns c = shl-exact {a = 1} 1 (c .args .k) 32 (omega arith) (omega arith) ∙ one-mul _
+
+pub two-to-spec : {M : Type 1} → statement M
+two-to-spec = tie.close (tie.spec shl-result returns)
