@@ -4,31 +4,23 @@
 use mathlib.Core.Path.{_≡_, sym, ap, _∙_}
 use mathlib.Core.Logic.{⊎-elim}
 use Prim.Native.Nat.{ℕ, _+_, _-_, _^_, _≤_, _<_}
-use native.Mathlib.Numerals.{add-one}
 use native.Mathlib.Omega.{arith}
 use lib.Bits.{bitXor}
 use lib.Count.{trailingZeros}
 use lib.Pow.{pow-pos}
-use Rattle.bits.specs.Sums.{sum}
 use Rattle.bits.specs.Places.{bit, weight}
-use Rattle.bits.proofs.Binary.{bit-zero, weight-xor}
+use Rattle.bits.proofs.Binary.{weight-next, weight-xor}
 use Rattle.bits.proofs.Numbers.{eq-or-ne}
 use Rattle.bits.proofs.Sums.{sum-longer}
 use Rattle.model.specs.Card.{Code, sumOfRows, radius}
 use Rattle.model.specs.Order.{gray, codeword}
 use Rattle.model.specs.Reading.{chunkDistance, chunkReading}
 use Rattle.model.specs.declared.Chunk.the-variants.{Codeword, Unreadable}
-use Rattle.code_theory.proofs.Gray.{gray-zero}
-use Rattle.code_theory.proofs.Codewords.{rows-of-none}
+use Rattle.code_theory.proofs.Codewords.{rows-start}
 use Rattle.code_theory.proofs.ChunkReading.{reading-first, reading-passed}
 use Rattle.chunk.proofs.GrayStep.{word-next}
 
 -- ---- the bits of one codeword
-
--- one place more
-pub weight-next : (p x : ℕ) → weight (p + 1) x ≡ weight p x + bit x p
-unfolding weight sum
-weight-next p x = rw (add-one p)
 
 -- what a count of the places below n tells at its end: it is the whole count, or it is past t and so is the whole
 pub record Counted (n t d count : ℕ) : Type 0 where
@@ -61,17 +53,17 @@ module _ (n k : ℕ) (row : ℕ → ℕ) (t x : ℕ) where
       record {
         end = omega (arith, pow-pos k);
         within = omega arith;
-        current = sym (ap (sumOfRows row k) gray-zero ∙ rows-of-none row k 0 (λ z l. bit-zero z));
+        current = sym (rows-start row k);
         passed = λ j b. absurd (omega arith);
       }
 
-  pub search-goes-on : k ≤ 12 → (last word i next : ℕ) → AtCandidate n k row t x last word i → (i ≡ last → ⊥)
-      → t < weight n (bitXor word x) → next ≡ bitXor word (row (trailingZeros 32 (i + 1))) → AtCandidate n k row t x last next (i + 1)
-  search-goes-on twelve last word i next at more far is-next =
+  pub search-goes-on : k ≤ 12 → (last word i : ℕ) → AtCandidate n k row t x last word i → (i ≡ last → ⊥)
+      → t < weight n (bitXor word x) → AtCandidate n k row t x last (bitXor word (row (trailingZeros 32 (i + 1)))) (i + 1)
+  search-goes-on twelve last word i at more far =
       record {
         end = at .end;
         within = omega (arith, at .within);
-        current = is-next ∙ word-next k i twelve (omega (arith, at .end, at .within)) row word (at .current);
+        current = word-next k i twelve (omega (arith, at .end, at .within)) row word (at .current);
         passed = λ j b.
             ⊎-elim (λ (e : j ≡ i). rw (e, ← at .current) far) (λ (ne : j ≡ i → ⊥). at .passed j (omega arith)) (eq-or-ne j i);
       }

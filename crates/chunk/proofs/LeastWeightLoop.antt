@@ -7,12 +7,11 @@ use lib.Bits.{bitXor}
 use lib.Count.{trailingZeros, ones}
 use lib.Pow.{pow-pos}
 use Rattle.bits.specs.Places.{weight}
-use Rattle.bits.proofs.Binary.{weight-ones, bit-zero}
+use Rattle.bits.proofs.Binary.{weight-ones}
 use Rattle.model.specs.Card.{sumOfRows}
 use Rattle.model.specs.Order.{gray}
 use Rattle.code_theory.specs.LeastDistance.{leastInOrder}
-use Rattle.code_theory.proofs.Gray.{gray-zero}
-use Rattle.code_theory.proofs.Codewords.{rows-of-none, rows-below}
+use Rattle.code_theory.proofs.Codewords.{rows-start, rows-below}
 use Rattle.code_theory.proofs.LeastWeight.{order-next}
 use Rattle.chunk.proofs.GrayStep.{word-next}
 
@@ -30,16 +29,17 @@ module _ (n k : ℕ) (row : ℕ → ℕ) where
       record {
         end = omega (arith, pow-pos k);
         within = omega arith;
-        current = sym (ap (sumOfRows row k) gray-zero ∙ rows-of-none row k 0 (λ z l. bit-zero z));
+        current = sym (rows-start row k);
         so-far = refl;
       }
 
-  pub at-next : k ≤ 12 → ((z : ℕ) → z < k → row z < 2 ^ n) → (last word least i next least′ : ℕ) → AtCodeword n k row last word least i
-      → i < last → next ≡ bitXor word (row (trailingZeros 32 (i + 1))) → least′ ≡ min least (ones next)
-      → AtCodeword n k row last next least′ (i + 1)
-  at-next twelve narrow last word least i next least′ at more is-next is-least =
+  pub at-next : k ≤ 12 → ((z : ℕ) → z < k → row z < 2 ^ n) → (last word least i least′ : ℕ) → AtCodeword n k row last word least i
+      → i < last → least′ ≡ min least (ones (bitXor word (row (trailingZeros 32 (i + 1)))))
+      → AtCodeword n k row last (bitXor word (row (trailingZeros 32 (i + 1)))) least′ (i + 1)
+  at-next twelve narrow last word least i least′ at more is-least =
+      let next : ℕ = bitXor word (row (trailingZeros 32 (i + 1))) in
       let current : next ≡ sumOfRows row k (gray (i + 1)) =
-      is-next ∙ word-next k i twelve (omega (arith, at .end)) row word (at .current) in
+      word-next k i twelve (omega (arith, at .end)) row word (at .current) in
       let light : weight n (sumOfRows row k (gray (i + 1))) ≡ ones next =
       weight-ones n (sumOfRows row k (gray (i + 1))) (rows-below n row k (gray (i + 1)) narrow) ∙ ap ones (sym current) in
       record {

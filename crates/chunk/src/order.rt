@@ -1,8 +1,6 @@
-// The code's words in Gray order, each the one before it with one row added, and the least weight met on the way.
+// The least weight of a code, by a walk through its words in Gray order.
 ghost use mathlib.Core.Path.{_≡_};
 ghost use Prim.Native.Nat.{ℕ, _-_, _^_, _≤_, _<_};
-ghost use lib.Bits.{bitXor};
-ghost use lib.Count.{trailingZeros};
 ghost use lib.ListN.{getD};
 ghost use Rattle.code_theory.specs.LeastDistance.{leastInOrder};
 
@@ -14,16 +12,8 @@ pub fn two_to(k: u32) -> u32
     1u32 << k
 }
 
-// Codeword i, where `word` is codeword i - 1: one row is added, the one whose number is the count of trailing zeros of i.
-pub fn next_word(rows: [u64; 12], word: u64, i: u32) -> u64
-    requires { ⌜ trailingZeros 32 i < 12 ⌝ }
-    ensures { λ r. ⌜ r ≡ bitXor word (getD rows (trailingZeros 32 i) 0) ⌝ }
-{
-    let z = u32::trailing_zeros(i) as usize;
-    word ^ rows[z]
-}
-
 // The least weight of the codewords 1 to 2^k - 1: 0 where the rows are dependent, the code's least distance where they are not.
+// Each codeword is the one before it with one row added, the one whose number is the count of trailing zeros of its own.
 pub fn least_weight(n: u32, k: u32, rows: [u64; 12]) -> u32
     requires { ⌜ (n ≤ 64) × (k ≤ 12) × ((z : ℕ) → z < k → getD rows z 0 < 2 ^ n) ⌝ }
     ensures { λ r. ⌜ r ≡ leastInOrder n k (λ z. getD rows z 0) (2 ^ k - 1) ⌝ }
@@ -34,7 +24,8 @@ pub fn least_weight(n: u32, k: u32, rows: [u64; 12]) -> u32
     let mut i: u32 = 0;
     while i < last {
         i += 1;
-        word = next_word(rows, word, i);
+        let z = u32::trailing_zeros(i) as usize;
+        word ^= rows[z];
         let weight = u64::count_ones(word);
         if weight < least {
             least = weight;

@@ -40,7 +40,8 @@ pub fn read_chunk(code: DecodedCode, x: u64) -> Chunk
             break Chunk::Unreadable;
         }
         i += 1;
-        word = order::next_word(rows, word, i);
+        let z = u32::trailing_zeros(i) as usize;
+        word ^= rows[z];
     };
     found
 }

@@ -1,6 +1,7 @@
 -- `least_weight` meets its contract: the loop steps through the codewords in Gray order, and keeps what `AtCodeword` says.
 -- Assumes nothing.
-use Prim.Native.Nat.{_-_}
+use Prim.Native.Nat.{_+_, _-_, _<_}
+use lib.Count.{trailingZeros}
 use lib.ListN.{getD}
 use lib.Pow.{pow-pos}
 use Rattle.chunk.proofs.GrayStep.{row-of-twelve}
@@ -28,26 +29,34 @@ loop-holds c = at-start _ _ _ _ (c .two-to .ensures)
 add-i : tie.Need-add-i Inv-loop μ-loop
 add-i c = search needs
 
-next-word-requires : tie.Need-next-word-requires Inv-loop μ-loop
-next-word-requires c κs =
+-- the number of the row that is added
+row : (c : tie.In-loop Inv-loop μ-loop) → trailingZeros 32 (c .before .loop .i + 1) < 12
+row c =
     row-of-twelve (c .before .before .before .args .k) (c .before .loop .i) (c .before .before .before .pre .1)
     (omega (arith, c .before .loop .inv .end))
+
+cast-z : tie.Need-cast-z Inv-loop μ-loop
+cast-z c = omega (arith, row c)
+
+mul-word : tie.Need-mul-word Inv-loop μ-loop
+mul-word c = omega (arith, row c)
+
+array-read-word : tie.Need-array-read-word Inv-loop μ-loop
+array-read-word c = row c
 
 loop-less : tie.Need-loop-less Inv-loop μ-loop
 loop-less c = search needs
 
 loop-again : tie.Need-loop-again Inv-loop μ-loop
 loop-again c =
-    at-next _ _ _ (c .before .before .before .before .before .pre .1) (c .before .before .before .before .before .pre .2) _ _ _ _ _ _
-    (c .before .before .before .loop .inv) (c .before .before .loop-test .taken) (c .before .next-word .ensures) (omega arith)
+    at-next _ _ _ (c .before .before .before .before .pre .1) (c .before .before .before .before .pre .2) _ _ _ _ _ (c .before .before .loop .inv) (c .before .loop-test .taken) (omega arith)
 
 loop-less-2 : tie.Need-loop-less-2 Inv-loop μ-loop
 loop-less-2 c = search needs
 
 loop-again-2 : tie.Need-loop-again-2 Inv-loop μ-loop
 loop-again-2 c =
-    at-next _ _ _ (c .before .before .before .before .before .pre .1) (c .before .before .before .before .before .pre .2) _ _ _ _ _ _
-    (c .before .before .before .loop .inv) (c .before .before .loop-test .taken) (c .before .next-word .ensures) (omega arith)
+    at-next _ _ _ (c .before .before .before .before .pre .1) (c .before .before .before .before .pre .2) _ _ _ _ _ (c .before .before .loop .inv) (c .before .loop-test .taken) (omega arith)
 
 returns : tie.Need-returns Inv-loop μ-loop
 returns c = at-end _ _ _ _ _ _ _ (c .before .loop .inv) (c .loop-test .left)
@@ -62,7 +71,9 @@ least-weight-spec =
     sub-last
     loop-holds
     add-i
-    next-word-requires
+    cast-z
+    mul-word
+    array-read-word
     loop-less
     loop-again
     loop-less-2

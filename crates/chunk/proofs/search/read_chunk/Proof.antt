@@ -3,20 +3,21 @@
 -- Assumes nothing.
 use mathlib.Core.Path.{_≡_, refl}
 use mathlib.Core.Logic.{⊎-elim}
-use Prim.Native.Nat.{_-_, _≤_}
+use Prim.Native.Nat.{_+_, _-_, _≤_, _<_}
 use native.Mathlib.Omega.{arith}
 use borrow.Author.Needs.{needs}
 use lib.Bits.{bitXor}
+use lib.Count.{trailingZeros}
 use lib.ListN.{getD}
 use lib.Pow.{pow-pos}
 use Rattle.bits.specs.Sums.{sum}
 use Rattle.bits.specs.Places.{weight}
-use Rattle.bits.proofs.Binary.{weight-le}
+use Rattle.bits.proofs.Binary.{weight-le, weight-next}
 use Rattle.model.specs.Card.{radius}
 use Rattle.model.specs.Decoded.{meaning}
 use Rattle.code_theory.proofs.LeastDistance.{D-low}
 use Rattle.chunk.proofs.GrayStep.{row-of-twelve}
-use Rattle.chunk.proofs.ChunkSearch.{AtCandidate, weight-next, Counted, counted-all, counted-past, search-starts, search-goes-on, search-found, search-failed}
+use Rattle.chunk.proofs.ChunkSearch.{AtCandidate, Counted, counted-all, counted-past, search-starts, search-goes-on, search-found, search-failed}
 use Rattle.chunk.proofs.search.read_chunk.Statement.{statement}
 use Rattle.chunk.proofs.search.read_chunk.Tie as tie
 
@@ -74,28 +75,37 @@ bits-again c =
 
 -- the two ways out of the loop over bits
 counted : (c : tie.Left-bits Inv-bits μ-bits Inv-loop μ-loop)
-    → Counted (c .before .before .before .before .before .before .args .code .n) (radius (meaning (c .before .before .before .before .before .before .args .code)))
-    (bitXor (c .before .before .loop .word) (c .before .before .before .before .before .before .args .x)) (c .bits-test .unlike)
+    → Counted (c .before .before .before .before .before .before .args .code .n) (radius (meaning (c .before .before .before .before .before .before .args .code))) (bitXor (c .before .before .loop .word) (c .before .before .before .before .before .before .args .x)) (c .bits-test .unlike)
 counted c =
     ⊎-elim (λ w. rw (w .1) (counted-all _ _ _ _ _ (c .before .bits .inv .0) (c .before .bits .inv .1) (w .0 .left)))
     (λ w. rw (w .2) (counted-past _ _ _ _ _ (c .before .bits .inv .1) (w .0 .taken) (w .1 .taken)))
     (c .bits-test .came)
 
+-- the number of the row that is added
+row : (c : tie.Else3 Inv-bits μ-bits Inv-loop μ-loop) → trailingZeros 32 (c .before .before .before .before .loop .i + 1) < 12
+row c =
+    row-of-twelve (c .before .before .before .before .before .before .before .before .args .code .k) (c .before .before .before .before .loop .i) (c .before .before .before .before .before .before .before .before .pre .k-high)
+    (omega (arith, c .before .before .before .before .loop .inv .end, c .before .before .before .before .loop .inv .within))
+
 add-i : tie.Need-add-i Inv-bits μ-bits Inv-loop μ-loop
 add-i c = search needs
 
-next-word-requires : tie.Need-next-word-requires Inv-bits μ-bits Inv-loop μ-loop
-next-word-requires c κs =
-    row-of-twelve (c .before .before .before .before .before .before .before .before .args .code .k) (c .before .before .before .before .loop .i) (c .before .before .before .before .before .before .before .before .pre .k-high)
-    (omega (arith, c .before .before .before .before .loop .inv .end, c .before .before .before .before .loop .inv .within))
+cast-z : tie.Need-cast-z Inv-bits μ-bits Inv-loop μ-loop
+cast-z c = omega (arith, row c)
+
+mul-word : tie.Need-mul-word Inv-bits μ-bits Inv-loop μ-loop
+mul-word c = omega (arith, row c)
+
+array-read-word : tie.Need-array-read-word Inv-bits μ-bits Inv-loop μ-loop
+array-read-word c = row c
 
 loop-less : tie.Need-loop-less Inv-bits μ-bits Inv-loop μ-loop
 loop-less c = search needs
 
 loop-again : tie.Need-loop-again Inv-bits μ-bits Inv-loop μ-loop
 loop-again c =
-    search-goes-on _ _ _ _ _ (c .before .before .before .before .before .before .before .before .before .pre .k-high) _ _ _ _ (c .before .before .before .before .before .loop .inv) (c .before .if3 .left)
-    (counted (c .before .before .before) .past (c .before .before .if2 .left)) (c .next-word .ensures)
+    search-goes-on _ _ _ _ _ (c .before .before .before .before .before .before .before .before .pre .k-high) _ _ _ (c .before .before .before .before .loop .inv) (c .if3 .left)
+    (counted (c .before .before) .past (c .before .if2 .left))
 
 returns : tie.Need-returns Inv-bits μ-bits Inv-loop μ-loop
 returns c =
@@ -127,7 +137,9 @@ read-chunk-spec =
     bits-less
     bits-again
     add-i
-    next-word-requires
+    cast-z
+    mul-word
+    array-read-word
     loop-less
     loop-again
     returns
