@@ -4,7 +4,7 @@
 use mathlib.Core.Path.{_≡_, refl, sym, ap, _∙_}
 use Prim.Native.Nat.{ℕ, zero, suc, _+_, _*_, _/_, _%_, _^_, _≤_, _<_}
 use native.Mathlib.Nat.{mod-lt, mod-eq-of-lt, mod-add-mod, add-mod-mod, div-one, zero-div, div-eq-of-lt, div-self, div-div-eq-div-mul, pow-succ', lt-of-lt-of-le, mul-add-mod-self-right, zero-lt-suc, mod-one, zero-add, add-zero, div-lt-iff-lt-mul}
-use native.Mathlib.Numerals.{one-add}
+use native.Mathlib.Numerals.{one-add, add-one}
 use native.Mathlib.Omega.{arith}
 use lib.Bits.{bitXor, differ, xor-step, xor-shr}
 use lib.Count.{ones, ones-cat}
@@ -120,6 +120,11 @@ eq-of-xor-zero x y e =
 pub weight-le : (n x : ℕ) → weight n x ≤ n
 unfolding weight
 weight-le n x = sum-le (bit x) n (bit-bit x)
+
+-- one place more
+pub weight-next : (n x : ℕ) → weight (n + 1) x ≡ weight n x + bit x n
+unfolding weight sum
+weight-next n x = rw (add-one n)
 
 pub weight-zero : (n : ℕ) → weight n 0 ≡ 0
 unfolding weight

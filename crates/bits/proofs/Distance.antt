@@ -3,7 +3,7 @@
 use mathlib.Core.Path.{_≡_, refl}
 use mathlib.Core.Logic.{_⊎_, ⊎-elim}
 use Prim.Native.Nat.{ℕ, zero, suc, _+_, _-_, _%_, _≤_, _<_}
-use native.Mathlib.Nat.{add-sub-cancel-left}
+use native.Mathlib.Nat.{add-sub-cancel-left, eq-or-lt-of-le}
 use native.Mathlib.Omega.{arith}
 use mathlib.Core.Bool.{true, false, cond}
 use lib.Dec.{ltb}
@@ -85,3 +85,17 @@ distance-join a b u v u′ v′ =
       distance-ext a (join-left a u v) (join-left a u′ v′),
       distance-ext b (λ p _. join-right a u v p) (λ p _. join-right a u′ v′ p),
     )
+
+-- words that agree at all places but one are as far from a third one but for that place
+pub distance-one-place : (f g x : ℕ → ℕ) (d q : ℕ) → q < d → ((p : ℕ) → p < d → (p ≡ q → ⊥) → f p ≡ g p)
+    → distance d f x + unlike (g q) (x q) ≡ distance d g x + unlike (f q) (x q)
+distance-one-place f g x zero q h same = absurd (omega arith)
+distance-one-place f g x (suc d) q h same =
+    ⊎-elim
+    (λ (e : q ≡ d).
+    let rest : distance d f x ≡ distance d g x = distance-ext d (λ p b. same p (omega arith) (λ e′. omega arith)) (λ p b. refl) in
+    rw e (omega (arith, distance-suc d f x, distance-suc d g x)))
+    (λ (l : q < d).
+    let here : unlike (f d) (x d) ≡ unlike (g d) (x d) = rw (same d (omega arith) (λ e. omega arith)) in
+    omega (arith, distance-suc d f x, distance-suc d g x, distance-one-place f g x d q l (λ p b ne. same p (omega arith) ne)))
+    (eq-or-lt-of-le {n = q} {m = d} (omega arith))

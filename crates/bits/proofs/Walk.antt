@@ -11,7 +11,7 @@ use borrow.Author.Tests.{lt-ltb, le-ltb, eqb-false}
 use Rattle.bits.specs.Sums.{sum, distance, unlike}
 use Rattle.bits.specs.Walk.{walk}
 use Rattle.bits.proofs.Numbers.{lt-or-le}
-use Rattle.bits.proofs.Distance.{distance-suc, distance-longer}
+use Rattle.bits.proofs.Distance.{distance-suc, distance-longer, distance-one-place}
 
 module _ {u v : ℕ → ℕ} (hu : (p : ℕ) → u p < 2) (hv : (p : ℕ) → v p < 2) where
   -- a place with fewer than m differing places before it has been passed
@@ -74,3 +74,21 @@ module _ {u v : ℕ → ℕ} (hu : (p : ℕ) → u p < 2) (hv : (p : ℕ) → v 
   -- each step turns one bit
   pub walk-isometry : (d m m′ : ℕ) → m ≤ m′ → m′ ≤ distance d u v → distance d (walk u v m) (walk u v m′) + m ≡ m′
   walk-isometry d m m′ h h′ = omega (arith, walk-apart d m m′ h)
+
+  -- the step at a differing place q with m differing places before it turns that bit from u's to v's, and no other
+  pub walk-step : (x : ℕ → ℕ) (d m q : ℕ) → q < d → distance q u v ≡ m → unlike (u q) (v q) ≡ 1
+      → distance d (walk u v (m + 1)) x + unlike (u q) (x q) ≡ distance d (walk u v m) x + unlike (v q) (x q)
+  walk-step x d m q h e differs =
+      rw (← (walk-ahead m q (omega arith)), ← (walk-passed (m + 1) q (omega arith)))
+      (distance-one-place (walk u v (m + 1)) (walk u v m) x d q h elsewhere)
+    where
+      elsewhere : (p : ℕ) → p < d → (p ≡ q → ⊥) → walk u v (m + 1) p ≡ walk u v m p
+      elsewhere p b ne =
+          ⊎-elim
+          (λ (l : p < q). rw (walk-before (m + 1) l (omega arith), walk-before m l (omega arith)))
+          (λ (l : q ≤ p).
+          rw (
+            walk-after (m + 1) {p = p} {a = suc q} (omega arith) (omega (arith, distance-suc q u v)),
+            walk-after m {p = p} {a = suc q} (omega arith) (omega (arith, distance-suc q u v)),
+          ))
+          (lt-or-le p q)

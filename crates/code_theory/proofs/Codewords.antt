@@ -74,6 +74,10 @@ rows-below n row (suc k) g h =
     at-most-once : (b r : ℕ) → b < 2 → b * r ≤ r
     at-most-once b r l = let m : b * r ≤ 1 * r = mul-le-mul-right r (omega arith) in omega arith
 
+-- the Gray order starts at the sum of no rows
+pub rows-start : (row : ℕ → ℕ) (k : ℕ) → sumOfRows row k (gray 0) ≡ 0
+rows-start row k = rw gray-zero (rows-of-none row k 0 (λ z l. bit-zero z))
+
 -- one step of the Gray order adds one row, the one whose number is the count of trailing zeros of i + 1
 pub rows-next : (row : ℕ → ℕ) (k w i : ℕ) → i + 1 < 2 ^ k → i + 1 < 2 ^ w
     → sumOfRows row k (gray (i + 1)) ≡ bitXor (sumOfRows row k (gray i)) (row (trailingZeros w (i + 1)))
@@ -87,8 +91,7 @@ rows-next row k w i below fits =
 
 pub codeword-zero : (C : Code) → codeword C 0 ≡ 0
 unfolding codeword
-codeword-zero C =
-    rw gray-zero (rows-of-none (C .row) (C .k) 0 (λ z l. bit-zero z))
+codeword-zero C = rows-start (C .row) (C .k)
 
 module _ (C : Code) (i : ℕ) (within : i < lastCodeword C) where
   next-below : i + 1 < 2 ^ C .k

@@ -6,19 +6,20 @@ use mathlib.Core.Bool.{true, false, true≢false}
 use mathlib.Core.Logic.{_⊎_, inl, inr, ⊎-elim}
 use Prim.Native.Nat.{ℕ, zero, suc, _+_, _-_, _^_, _≤_, _<_, min}
 use native.Mathlib.Nat.{le-antisymm, eq-zero-or-pos}
+use native.Mathlib.Numerals.{add-one}
 use native.Mathlib.Omega.{arith}
 use borrow.Author.Tests.{eq-eqb, ne-eqb, eqb-false}
 use lib.Dec.{eqb}
 use lib.Pow.{suc-ones, lt-of-le-ones, le-ones}
 use Rattle.bits.specs.Places.{weight}
-use Rattle.bits.proofs.Binary.{weight-zero, zero-of-weight, bit-zero}
+use Rattle.bits.proofs.Binary.{weight-zero, zero-of-weight}
 use Rattle.bits.proofs.Numbers.{lt-or-le, eq-or-ne}
 use Rattle.bits.proofs.Searches.{any-none, none-of-any, true-or-false}
 use Rattle.model.specs.Card.{sumOfRows, leastWeight, dependent}
 use Rattle.model.specs.Order.{gray}
 use Rattle.code_theory.specs.LeastDistance.{leastInOrder}
 use Rattle.code_theory.proofs.Gray.{gray-zero, gray-below, gray-positive, gray-onto}
-use Rattle.code_theory.proofs.Codewords.{rows-of-none, rows-below}
+use Rattle.code_theory.proofs.Codewords.{rows-start, rows-below}
 
 -- ---- the least weight of a nonzero codeword
 
@@ -102,12 +103,14 @@ module _ (k : ℕ) (row : ℕ → ℕ) where
 -- ---- the Gray order
 
 module _ (n k : ℕ) (row : ℕ → ℕ) where
-  zero-sum : sumOfRows row k 0 ≡ 0
-  zero-sum = rows-of-none row k 0 (λ z l. bit-zero z)
-
   -- c(i) of the code that the rows give
   abbrev c : ℕ → ℕ
   c i = sumOfRows row k (gray i)
+
+  -- one codeword more
+  pub order-next : (i : ℕ) → leastInOrder n k row (i + 1) ≡ min (leastInOrder n k row i) (weight n (c (i + 1)))
+  unfolding leastInOrder
+  order-next i = rw (add-one i)
 
   -- a codeword that is zero brings the least to 0 ...
   order-meets-zero : (m i : ℕ) → 0 < i → i ≤ m → c i ≡ 0 → leastInOrder n k row m ≡ 0
@@ -125,7 +128,7 @@ module _ (n k : ℕ) (row : ℕ → ℕ) where
   -- ... and where there is none, the least in order is the least weight of the codewords in order
   order-is-least : (m : ℕ) → ((i : ℕ) → 0 < i → i ≤ m → c i ≡ 0 → ⊥) → leastInOrder n k row m ≡ leastWeight n c (suc m)
   unfolding leastInOrder leastWeight
-  order-is-least zero ne = sym (passed n c 0 (ap (sumOfRows row k) gray-zero ∙ zero-sum))
+  order-is-least zero ne = sym (passed n c 0 (rows-start row k))
   order-is-least (suc m) ne =
       let before : leastInOrder n k row m ≡ leastWeight n c (suc m) = order-is-least m (λ i pos l. ne i pos (omega arith)) in
       let new : leastWeight n c (suc (suc m)) ≡ min (weight n (c (suc m))) (leastWeight n c (suc m)) =

@@ -1,5 +1,5 @@
 -- Document 01, "Two cards to try": the cases marked *, and the cards that it refuses, as one table of questions and
--- answers. That the definitions answer so is one theorem, in proofs/StarredCases.antt. Assumes nothing.
+-- answers. That the definitions answer so is one theorem, in crate starred_cases. Assumes nothing.
 use Prim.Native.Nat.{ℕ, zero, suc, _-_, _*_, _/_, _%_}
 use mathlib.Core.List.{List, [], _∷_, _++_}
 use lib.ListN.{length, replicate}

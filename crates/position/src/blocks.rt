@@ -6,22 +6,15 @@ ghost use Rattle.model.specs.Order.{lastCodeword, changedWeight, start, lastPos
 ghost use Rattle.model.specs.Words.{blockOf};
 ghost use Rattle.code_theory.specs.Promise.{Sound};
 use chunk::codeword;
+use chunk::order;
 use model::DecodedCode;
-
-// 2 to the power k.
-fn two_to(k: u32) -> u32
-    requires { ⌜ k < 32 ⌝ }
-    ensures { λ r. ⌜ r ≡ 2 ^ k ⌝ }
-{
-    1u32 << k
-}
 
 // The number of the last codeword, 2^k - 1.
 pub fn last_codeword(code: DecodedCode) -> u32
     requires { ⌜ Sound (meaning code) ⌝ }
     ensures { λ r. ⌜ r ≡ lastCodeword (meaning code) ⌝ }
 {
-    two_to(code.k) - 1
+    order::two_to(code.k) - 1
 }
 
 // How often row z has been added on the way from codeword 0 to codeword i.
@@ -29,7 +22,7 @@ fn times_added(i: u32, z: u32) -> u32
     requires { ⌜ (i < 4096) × (z < 12) ⌝ }
     ensures { λ r. ⌜ r ≡ (i + 2 ^ z) / 2 ^ (z + 1) ⌝ }
 {
-    (i + two_to(z)) >> (z + 1)
+    (i + order::two_to(z)) >> (z + 1)
 }
 
 // The start of block i. The rows are added in order, from row 0 on.

@@ -8,3 +8,4 @@ pub mod Nearest
 pub mod BoundedError
 pub mod DistinctWords
 pub mod Demands
+pub mod Stepping

@@ -1,11 +1,11 @@
--- `position::blocks::two_to` meets its contract: nothing is shifted out. Assumes nothing.
+-- `two_to` meets its contract: the shift leaves the type's range nowhere. Assumes nothing.
 use mathlib.Core.Path.{_∙_}
-use borrow.Author.Needs.{needs}
 use native.Mathlib.Nat.{one-mul}
 use native.Mathlib.Omega.{arith}
+use borrow.Author.Needs.{needs}
 use lib.Pow.{shl-exact}
-use Rattle.position.proofs.blocks.two_to.Statement.{statement}
-use Rattle.position.proofs.blocks.two_to.Tie as tie
+use Rattle.chunk.proofs.order.two_to.Statement.{statement}
+use Rattle.chunk.proofs.order.two_to.Tie as tie
 
 shl-result : tie.Need-shl-result
 shl-result c = search needs

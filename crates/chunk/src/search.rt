@@ -1,0 +1,47 @@
+// Reading a code chunk by search.
+ghost use mathlib.Core.Path.{_≡_};
+ghost use Rattle.bits.specs.Places.{bit};
+ghost use Rattle.model.specs.Decoded.{meaning};
+ghost use Rattle.model.specs.Reading.{chunkReading};
+ghost use Rattle.code_theory.specs.Promise.{Sound};
+use super::order;
+use model::Chunk;
+use model::DecodedCode;
+
+// The codeword within the radius of the chunk `x`, with the count of places in which the two differ.
+// The form is nested loops, over codewords and, inside, over bits. A label leaves the bit loop once the radius is passed, and
+// the loop over codewords yields its value by `break`. A differing bit is added without a branch on it.
+pub fn read_chunk(code: DecodedCode, x: u64) -> Chunk
+    requires { ⌜ Sound (meaning code) ⌝ }
+    ensures { λ r. ⌜ r ≡ chunkReading (meaning code) (bit x) ⌝ }
+{
+    let n = code.n;
+    let k = code.k;
+    let rows = code.rows;
+    let radius = (code.distance - 1) / 2;
+    let last = order::two_to(k) - 1;
+    let mut word: u64 = 0;
+    let mut i: u32 = 0;
+    let found = loop {
+        let difference = word ^ x;
+        let mut unlike: u32 = 0;
+        let mut p: u32 = 0;
+        'bits: while p < n {
+            unlike += ((difference >> p) % 2) as u32;
+            p += 1;
+            if radius < unlike {
+                break 'bits;
+            }
+        }
+        if unlike <= radius {
+            break Chunk::Codeword { number: i, unlike };
+        }
+        if i == last {
+            break Chunk::Unreadable;
+        }
+        i += 1;
+        let z = u32::trailing_zeros(i) as usize;
+        word ^= rows[z];
+    };
+    found
+}
