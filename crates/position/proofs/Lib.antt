@@ -1,1 +1,6 @@
 pub mod StartSum
+pub mod TurnedPlaces
+pub mod ChunkByChunk
+pub mod ByteDistance
+pub mod ZeroBytes
+pub mod WordChunks
