@@ -4,3 +4,5 @@ pub mod ChunkByChunk
 pub mod ByteDistance
 pub mod ZeroBytes
 pub mod WordChunks
+pub mod WalkedWord
+pub mod CopiedWord

@@ -5,7 +5,7 @@ ghost use mathlib.Core.Path.{_≡_};
 ghost use Prim.Native.Nat.{ℕ, _+_, _*_, _%_, _^_, _≤_, _<_};
 ghost use lib.Bits.{bitXor};
 ghost use lib.ListN.{length};
-ghost use Rattle.bits.specs.Sums.{distance, join};
+ghost use Rattle.bits.specs.Sums.{unlike, distance, join};
 ghost use Rattle.bits.specs.Walk.{walk};
 ghost use Rattle.bits.specs.Places.{bit, place, cut};
 ghost use Rattle.model.specs.Answers.{wordLength};
@@ -110,4 +110,53 @@ pub fn received(word: &[u8]) -> [u8; 40]
         j += 1;
     }
     held
+}
+
+// Bit q of two bytes' difference: 1 if they differ there, else 0.
+fn differs_at(x: u8, y: u8, q: u32) -> u8
+    requires { ⌜ q < 8 ⌝ }
+    ensures { λ r. ⌜ r ≡ unlike (bit x q) (bit y q) ⌝ }
+{
+    ((x ^ y) >> q) % 2
+}
+
+// w(i) with the first m places in which w(i) and w(i + 1) differ taken from w(i + 1).
+pub fn word_in_block(code: DecodedCode, i: u32, m: u32) -> [u8; 40]
+    requires { ⌜ Sound (meaning code) × (i ≤ lastCodeword (meaning code)) × (m ≤ distance (wordBits (meaning code)) (word (meaning code) i) (word (meaning code) (i + 1))) ⌝ }
+    ensures { λ r. ⌜ ((p : ℕ) → place r p ≡ cut (wordBits (meaning code)) (walk (word (meaning code) i) (word (meaning code) (i + 1)) m) p) ⌝ }
+{
+    let next = word_of(code, i + 1);
+    let mut held = word_of(code, i);
+    let mut passed: u32 = 0;
+    let mut q: u32 = 0;
+    while passed < m {
+        let j = (q / 8) as usize;
+        let differs = differs_at(held[j], next[j], q % 8);
+        held[j] = turned(held[j], q % 8, differs);
+        passed += differs as u32;
+        q += 1;
+    }
+    held
+}
+
+// The word of a position.
+pub fn word_at(code: DecodedCode, position: u32) -> [u8; 40]
+    requires { ⌜ Sound (meaning code) × (position ≤ lastPosition (meaning code)) ⌝ }
+    ensures { λ r. ⌜ ((p : ℕ) → place r p ≡ cut (wordBits (meaning code)) (wordAt (meaning code) position) p) ⌝ }
+{
+    let i = blocks::block_of(code, position);
+    word_in_block(code, i, position - blocks::block_start(code, i))
+}
+
+// Writes the word of a position to the lent bytes.
+pub fn write(code: DecodedCode, position: u32, lent: &mut [u8])
+    requires { ⌜ Sound (meaning code) × (position ≤ lastPosition (meaning code)) × (length (now lent) ≡ wordLength (meaning code)) ⌝ }
+    ensures { λ r. ⌜ now (lent .exit) ≡ wordBytes (meaning code) position ⌝ }
+{
+    let word = word_at(code, position);
+    let mut j: usize = 0;
+    while j < lent.len() {
+        lent[j] = word[j];
+        j += 1;
+    }
 }

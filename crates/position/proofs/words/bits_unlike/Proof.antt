@@ -1,6 +1,6 @@
 -- `position::words::bits_unlike` meets its contract. The loop's invariant: `unlike` is the distance of the first `j` bytes. The
 -- measure is the bytes that are left. Assumes nothing.
-use Prim.Native.Nat.{_+_, _-_, _*_, _≤_}
+use Prim.Native.Nat.{_-_, _*_, _≤_}
 use mathlib.Core.Path.{_≡_, refl}
 use borrow.Author.Needs.{needs}
 use native.Mathlib.Omega.{arith}

@@ -1,5 +1,4 @@
 -- `position::words::byte_unlike` meets its contract: the count of ones of the exclusive-or is the distance. Assumes nothing.
-use Prim.Native.Nat.{_≤_}
 use native.Mathlib.Omega.{arith}
 use lib.Bits.{xor-lt}
 use Rattle.position.proofs.ByteDistance.{ones-of-bytes, bytes-apart}

@@ -1,6 +1,6 @@
 -- `position::words::received` meets its contract. The loop's invariant: the first `j` bytes are copied, and the others are 0. The
 -- measure is the bytes that are left. Assumes nothing.
-use Prim.Native.Nat.{ℕ, _+_, _-_, _/_, _≤_, _<_}
+use Prim.Native.Nat.{ℕ, _-_, _/_, _≤_, _<_}
 use mathlib.Core.Path.{_≡_, refl, sym, _∙_}
 use mathlib.Core.List.{List}
 use mathlib.Core.Logic.{⊎-elim}

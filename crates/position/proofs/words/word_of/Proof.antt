@@ -2,6 +2,7 @@
 -- Assumes nothing.
 use Prim.Native.Nat.{ℕ, _+_, _%_, _≤_, _<_}
 use mathlib.Core.Path.{_≡_}
+use mathlib.Core.List.{List}
 use borrow.Author.Needs.{needs}
 use native.Mathlib.Omega.{arith}
 use Rattle.bits.specs.Places.{bit, place}
@@ -17,30 +18,48 @@ module _ (c : tie.After-codeword) where
   abbrev C : Code
   C = meaning (c .before .before .args .code)
 
-  abbrev i : ℕ
-  i = c .before .before .args .i
+  -- where chunk 1, separator 2, chunk 2 and separator 3 start
+  abbrev at₁ : ℕ
+  at₁ = C .D
+
+  abbrev at₂ : ℕ
+  at₂ = at₁ + C .n
+
+  abbrev at₃ : ℕ
+  at₃ = at₂ + C .D
+
+  abbrev at₄ : ℕ
+  at₄ = at₃ + C .n
+
+  -- a word that holds the bits of w(i) up to a place
+  abbrev Holds : ℕ → List ℕ → Type 0
+  Holds at held = UpTo C (c .before .before .args .i) at (place held)
 
   fits : (C .n ≤ 64) × (C .D ≤ 64)
   fits = (c .before .before .pre .n-high, omega (arith, D-high C (c .before .before .pre), c .before .before .pre .n-high))
 
-  separator-bits : (p : ℕ) → p < C .D → bit (c .before .separator .result) p ≡ i % 2
-  separator-bits p b = c .before .separator .ensures p (omega (arith, fits))
+  parity-bits : (p : ℕ) → p < C .D → bit (c .before .separator .result) p ≡ c .before .before .args .i % 2
+  parity-bits p b = c .before .separator .ensures p (omega (arith, fits))
 
-first : (c : tie.After-put-chunk) → UpTo (C (c .before)) (i (c .before)) (C (c .before) .D) (place (c .put-chunk .result))
+first : (c : tie.After-put-chunk) → let o = c .before in Holds o (at₁ o) (c .put-chunk .result)
 first c =
-    put-separator₁ _ _ _ _ (separator-bits (c .before)) (c .before .codeword .ensures .0) (zero-place 40) (c .put-chunk .ensures)
+    let o = c .before in
+    put-separator₁ _ _ _ _ (parity-bits o) (o .codeword .ensures .0) (zero-place 40) (c .put-chunk .ensures)
 
-second : (c : tie.After-put-chunk2) → UpTo (C (c .before .before)) (i (c .before .before)) (C (c .before .before) .D + C (c .before .before) .n) (place (c .put-chunk2 .result))
+second : (c : tie.After-put-chunk2) → let o = c .before .before in Holds o (at₂ o) (c .put-chunk2 .result)
 second c =
-    put-chunk₁ _ _ _ _ (separator-bits (c .before .before)) (c .before .before .codeword .ensures .0) (first (c .before)) (c .put-chunk2 .ensures)
+    let o = c .before .before in
+    put-chunk₁ _ _ _ _ (parity-bits o) (o .codeword .ensures .0) (first (c .before)) (c .put-chunk2 .ensures)
 
-third : (c : tie.After-put-chunk3) → UpTo (C (c .before .before .before)) (i (c .before .before .before)) (C (c .before .before .before) .D + C (c .before .before .before) .n + C (c .before .before .before) .D) (place (c .put-chunk3 .result))
+third : (c : tie.After-put-chunk3) → let o = c .before .before .before in Holds o (at₃ o) (c .put-chunk3 .result)
 third c =
-    put-separator₂ _ _ _ _ (separator-bits (c .before .before .before)) (c .before .before .before .codeword .ensures .0) (second (c .before)) (c .put-chunk3 .ensures)
+    let o = c .before .before .before in
+    put-separator₂ _ _ _ _ (parity-bits o) (o .codeword .ensures .0) (second (c .before)) (c .put-chunk3 .ensures)
 
-fourth : (c : tie.After-put-chunk4) → UpTo (C (c .before .before .before .before)) (i (c .before .before .before .before)) (C (c .before .before .before .before) .D + C (c .before .before .before .before) .n + C (c .before .before .before .before) .D + C (c .before .before .before .before) .n) (place (c .put-chunk4 .result))
+fourth : (c : tie.After-put-chunk4) → let o = c .before .before .before .before in Holds o (at₄ o) (c .put-chunk4 .result)
 fourth c =
-    put-chunk₂ _ _ _ _ (separator-bits (c .before .before .before .before)) (c .before .before .before .before .codeword .ensures .0) (third (c .before)) (c .put-chunk4 .ensures)
+    let o = c .before .before .before .before in
+    put-chunk₂ _ _ _ _ (parity-bits o) (o .codeword .ensures .0) (third (c .before)) (c .put-chunk4 .ensures)
 
 separator-requires : tie.Need-separator-requires
 separator-requires c κs = search needs
@@ -74,7 +93,8 @@ put-chunk-requires-5 c κs = (omega (arith, fits (c .before .before .before .bef
 
 returns : tie.Need-returns
 returns c =
-    put-separator₃ _ _ _ _ (separator-bits (c .before .before .before .before .before)) (c .before .before .before .before .before .codeword .ensures .0) (fourth (c .before)) (c .put-chunk5 .ensures)
+    let o = c .before .before .before .before .before in
+    put-separator₃ _ _ _ _ (parity-bits o) (o .codeword .ensures .0) (fourth (c .before)) (c .put-chunk5 .ensures)
 
 pub word-of-spec : {M : Type 1} → statement M
 word-of-spec =
