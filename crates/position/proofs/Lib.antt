@@ -1,0 +1,2 @@
+pub mod ShiftIn
+pub mod Scanning

@@ -1,0 +1,3 @@
+// The position code: words of positions, and positions of words. It knows the chunk code through its contracts alone.
+pub mod places;
+pub mod scan;
