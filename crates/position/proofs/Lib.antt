@@ -1,3 +1,4 @@
 pub mod StartSum
 pub mod ShiftIn
 pub mod Scanning
+pub mod Passing
