@@ -2,3 +2,4 @@ pub mod StartSum
 pub mod ShiftIn
 pub mod Scanning
 pub mod Passing
+pub mod NearestSearch
