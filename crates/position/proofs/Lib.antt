@@ -1,4 +1,8 @@
 pub mod StartSum
+pub mod ShiftIn
+pub mod Scanning
+pub mod Passing
+pub mod NearestSearch
 pub mod TurnedPlaces
 pub mod ChunkByChunk
 pub mod ByteDistance

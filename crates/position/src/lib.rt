@@ -1,3 +1,5 @@
-// The position code: blocks and their starts, and the words of positions.
+// The position code: words of positions, and positions of words. It knows the chunk code through its contracts alone.
 pub mod blocks;
+pub mod places;
+pub mod scan;
 pub mod words;
