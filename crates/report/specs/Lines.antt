@@ -18,24 +18,28 @@ field label value = ascii label ++ decimal value
 abbrev pub lineEnd : List ℕ
 lineEnd = ascii "\n"
 
+-- the last label and number of a line, and the line's end
+abbrev pub lastField : (label : String) (value : ℕ) → List ℕ
+lastField label value = field label value ++ lineEnd
+
 -- the line of the card: track, last position and radius, or the refusal
 unfoldable pub cardLine : CardAnswer → List ℕ
-cardLine (Sound s) = field "track " (s .track) ++ field " last " (s .last) ++ field " radius " (s .radius) ++ lineEnd
-cardLine (CardRefused refusal) = field "card refused " refusal ++ lineEnd
+cardLine (Sound s) = field "track " (s .track) ++ field " last " (s .last) ++ lastField " radius " (s .radius)
+cardLine (CardRefused refusal) = lastField "card refused " refusal
 
 -- the line of a word: its number, then position, residual and rule, or the refusal
 unfoldable pub wordLine : (number : ℕ) → ReadAnswer → List ℕ
 wordLine number (At position residual rule) =
-    decimal number ++ field " at " position ++ field " residual " residual ++ field " rule " rule ++ lineEnd
-wordLine number (ReadRefused refusal) = decimal number ++ field " refused " refusal ++ lineEnd
+    decimal number ++ field " at " position ++ field " residual " residual ++ lastField " rule " rule
+wordLine number (ReadRefused refusal) = decimal number ++ lastField " refused " refusal
 
 -- the line of the bytes short of a word at the end; no line where there is none
 unfoldable pub shortLine : (bytes : ℕ) → List ℕ
-shortLine bytes = cond (eqb bytes 0) [] (field "short " bytes ++ lineEnd)
+shortLine bytes = cond (eqb bytes 0) [] (lastField "short " bytes)
 
 -- the last line: whole words met, words read
 unfoldable pub lastLine : (words read : ℕ) → List ℕ
-lastLine words read = field "words " words ++ field " read " read ++ lineEnd
+lastLine words read = field "words " words ++ lastField " read " read
 
 -- the bytes that a line may take in a buffer; no line is longer
 abbrev pub lineRoom : ℕ

@@ -4,7 +4,7 @@ ghost use lib.ListN.{length};
 ghost use Rattle.report.specs.Lines.{cardLine, wordLine, shortLine, lastLine, lineRoom};
 ghost use Rattle.report.specs.Puts.{Puts};
 use crate::pieces::put_field;
-use crate::pieces::put_line_end;
+use crate::pieces::put_last_field;
 use crate::pieces::put_number;
 use model::CardAnswer;
 use model::ReadAnswer;
@@ -19,13 +19,9 @@ pub fn put_card_line(out: &mut [u8], at: usize, answer: CardAnswer) -> usize
         CardAnswer::Sound(summary) => {
             let last_at = put_field(out, at, b"track ", summary.track as u64);
             let radius_at = put_field(out, last_at, b" last ", summary.last as u64);
-            let end_at = put_field(out, radius_at, b" radius ", summary.radius as u64);
-            put_line_end(out, end_at)
+            put_last_field(out, radius_at, b" radius ", summary.radius as u64)
         }
-        CardAnswer::Refused(refusal) => {
-            let end_at = put_field(out, at, b"card refused ", refusal as u64);
-            put_line_end(out, end_at)
-        }
+        CardAnswer::Refused(refusal) => put_last_field(out, at, b"card refused ", refusal as u64),
     }
 }
 
@@ -44,13 +40,14 @@ pub fn put_word_line(out: &mut [u8], at: usize, number: u64, answer: ReadAnswer)
         } => {
             let residual_at = put_field(out, answer_at, b" at ", position as u64);
             let rule_at = put_field(out, residual_at, b" residual ", residual as u64);
-            let end_at = put_field(out, rule_at, b" rule ", rule as u64);
-            put_line_end(out, end_at)
+            put_last_field(out, rule_at, b" rule ", rule as u64)
         }
-        ReadAnswer::Refused(refusal) => {
-            let end_at = put_field(out, answer_at, b" refused ", refusal as u64);
-            put_line_end(out, end_at)
-        }
+        ReadAnswer::Refused(refusal) => put_last_field(
+            out,
+            answer_at,
+            b" refused ",
+            refusal as u64,
+        ),
     }
 }
 
@@ -63,8 +60,7 @@ pub fn put_short_line(out: &mut [u8], at: usize, bytes: u64) -> usize
     if bytes == 0 {
         return at;
     }
-    let end_at = put_field(out, at, b"short ", bytes);
-    put_line_end(out, end_at)
+    put_last_field(out, at, b"short ", bytes)
 }
 
 // The last line: whole words met, words read.
@@ -74,6 +70,5 @@ pub fn put_last_line(out: &mut [u8], at: usize, words: u64, read: u64) -> usize
     ensures { λ r. ⌜ r ≤ at + lineRoom ⌝ }
 {
     let read_at = put_field(out, at, b"words ", words);
-    let end_at = put_field(out, read_at, b" read ", read);
-    put_line_end(out, end_at)
+    put_last_field(out, read_at, b" read ", read)
 }

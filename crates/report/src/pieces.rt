@@ -58,3 +58,13 @@ pub fn put_line_end(out: &mut [u8], at: usize) -> usize
     out[at] = 10;
     at + 1
 }
+
+// The last label and number of a line, and the line's end.
+pub fn put_last_field(out: &mut [u8], at: usize, label: &[u8], value: u64) -> usize
+    requires { ⌜ at + length (now label) + 21 ≤ length (now out) ⌝ }
+    ensures { λ r. ⌜ Puts (now (out .entry)) at (now (label .entry) ++ decimal value ++ lineEnd) (now (out .exit)) r ⌝ }
+    ensures { λ r. ⌜ r ≤ at + length (now (label .entry)) + 21 ⌝ }
+{
+    let end_at = put_field(out, at, label, value);
+    put_line_end(out, end_at)
+}

@@ -28,32 +28,26 @@ cast-put-field-2 c = search needs
 put-field-requires-2 : tie.Need-put-field-requires-2
 put-field-requires-2 c κs = search needs
 
-slice-aggregate-put-field-3 : tie.Need-slice-aggregate-put-field-3
-slice-aggregate-put-field-3 c = search needs
+slice-aggregate-put-last-field : tie.Need-slice-aggregate-put-last-field
+slice-aggregate-put-last-field c = search needs
 
-cast-put-field-3 : tie.Need-cast-put-field-3
-cast-put-field-3 c = search needs
+cast-put-last-field : tie.Need-cast-put-last-field
+cast-put-last-field c = search needs
 
-put-field-requires-3 : tie.Need-put-field-requires-3
-put-field-requires-3 c κs = search needs
-
-put-line-end-requires : tie.Need-put-line-end-requires
-put-line-end-requires c κs = search needs
+put-last-field-requires : tie.Need-put-last-field-requires
+put-last-field-requires c κs = search needs
 
 enum-known-answer-2 : tie.Need-enum-known-answer-2
 enum-known-answer-2 c = search needs
 
-slice-aggregate-put-field-4 : tie.Need-slice-aggregate-put-field-4
-slice-aggregate-put-field-4 c = search needs
+slice-aggregate-put-last-field-2 : tie.Need-slice-aggregate-put-last-field-2
+slice-aggregate-put-last-field-2 c = search needs
 
-cast-put-field-4 : tie.Need-cast-put-field-4
-cast-put-field-4 c = search needs
+cast-put-last-field-2 : tie.Need-cast-put-last-field-2
+cast-put-last-field-2 c = search needs
 
-put-field-requires-4 : tie.Need-put-field-requires-4
-put-field-requires-4 c κs = search needs
-
-put-line-end-requires-2 : tie.Need-put-line-end-requires-2
-put-line-end-requires-2 c κs = search needs
+put-last-field-requires-2 : tie.Need-put-last-field-requires-2
+put-last-field-requires-2 c κs = search needs
 
 same-length : tie.Need-same-length
 same-length c = search needs
@@ -61,18 +55,15 @@ same-length c = search needs
 returns : tie.Need-returns
 unfolding ascii cardLine
 returns c =
-    let end = c .before .before in
-    let radius = end .before .before .before .before in
+    let radius = c .before .before in
     let last = radius .before .before .before .before .before .before in
     let track = last .before .before .before .before .before .before in
     let arm = track .before .before .before .before .before in
     rw (arm .answer .given .1) (
       puts-then (omega (arith, track))
-          (puts-then (omega (arith, track))
           (puts-then (omega (arith, track)) (track .put-field .ensures .0) (last .put-field2 .ensures .0))
-          (radius .put-field3 .ensures .0))
-          (end .put-line-end .ensures .0),
-      omega (arith, track, last, radius, end),
+          (radius .put-last-field .ensures .0),
+      omega arith,
     )
 
 same-length-2 : tie.Need-same-length-2
@@ -81,13 +72,9 @@ same-length-2 c = search needs
 returns-2 : tie.Need-returns-2
 unfolding ascii cardLine
 returns-2 c =
-    let end = c .before .before in
-    let refusal = end .before .before .before .before in
+    let refusal = c .before .before in
     let arm = refusal .before .before .before .before in
-    rw (arm .answer2 .given .1) (
-      puts-then (omega (arith, refusal)) (refusal .put-field4 .ensures .0) (end .put-line-end2 .ensures .0),
-      omega arith,
-    )
+    rw (arm .answer2 .given .1) (refusal .put-last-field2 .ensures .0, omega arith)
 
 pub put-card-line-spec : {M : Type 1} → statement M
 put-card-line-spec =
@@ -100,15 +87,13 @@ put-card-line-spec =
     slice-aggregate-put-field-2
     cast-put-field-2
     put-field-requires-2
-    slice-aggregate-put-field-3
-    cast-put-field-3
-    put-field-requires-3
-    put-line-end-requires
+    slice-aggregate-put-last-field
+    cast-put-last-field
+    put-last-field-requires
     enum-known-answer-2
-    slice-aggregate-put-field-4
-    cast-put-field-4
-    put-field-requires-4
-    put-line-end-requires-2
+    slice-aggregate-put-last-field-2
+    cast-put-last-field-2
+    put-last-field-requires-2
     same-length
     returns
     same-length-2

@@ -13,14 +13,11 @@ slice-aggregate-put-field c = search needs
 put-field-requires : tie.Need-put-field-requires
 put-field-requires c κs = search needs
 
-slice-aggregate-put-field-2 : tie.Need-slice-aggregate-put-field-2
-slice-aggregate-put-field-2 c = search needs
+slice-aggregate-put-last-field : tie.Need-slice-aggregate-put-last-field
+slice-aggregate-put-last-field c = search needs
 
-put-field-requires-2 : tie.Need-put-field-requires-2
-put-field-requires-2 c κs = search needs
-
-put-line-end-requires : tie.Need-put-line-end-requires
-put-line-end-requires c κs = search needs
+put-last-field-requires : tie.Need-put-last-field-requires
+put-last-field-requires c κs = search needs
 
 same-length : tie.Need-same-length
 same-length c = search needs
@@ -28,13 +25,9 @@ same-length c = search needs
 returns : tie.Need-returns
 unfolding ascii lastLine
 returns c =
-    let end = c .before .before in
-    let read = end .before .before .before .before in
-    let words = read .before .before .before .before .before in (
-      puts-then (omega (arith, words)) (puts-then (omega (arith, words)) (words .put-field .ensures .0) (read .put-field2 .ensures .0))
-          (end .put-line-end .ensures .0),
-      omega arith,
-    )
+    let read = c .before .before in
+    let words = read .before .before .before .before .before in
+    (puts-then (omega arith) (words .put-field .ensures .0) (read .put-last-field .ensures .0), omega arith)
 
 pub put-last-line-spec : {M : Type 1} → statement M
 put-last-line-spec =
@@ -42,8 +35,7 @@ put-last-line-spec =
     (tie.spec
     slice-aggregate-put-field
     put-field-requires
-    slice-aggregate-put-field-2
-    put-field-requires-2
-    put-line-end-requires
+    slice-aggregate-put-last-field
+    put-last-field-requires
     same-length
     returns)

@@ -32,32 +32,26 @@ cast-put-field-2 c = search needs
 put-field-requires-2 : tie.Need-put-field-requires-2
 put-field-requires-2 c κs = search needs
 
-slice-aggregate-put-field-3 : tie.Need-slice-aggregate-put-field-3
-slice-aggregate-put-field-3 c = search needs
+slice-aggregate-put-last-field : tie.Need-slice-aggregate-put-last-field
+slice-aggregate-put-last-field c = search needs
 
-cast-put-field-3 : tie.Need-cast-put-field-3
-cast-put-field-3 c = search needs
+cast-put-last-field : tie.Need-cast-put-last-field
+cast-put-last-field c = search needs
 
-put-field-requires-3 : tie.Need-put-field-requires-3
-put-field-requires-3 c κs = search needs
-
-put-line-end-requires : tie.Need-put-line-end-requires
-put-line-end-requires c κs = search needs
+put-last-field-requires : tie.Need-put-last-field-requires
+put-last-field-requires c κs = search needs
 
 enum-known-answer-2 : tie.Need-enum-known-answer-2
 enum-known-answer-2 c = search needs
 
-slice-aggregate-put-field-4 : tie.Need-slice-aggregate-put-field-4
-slice-aggregate-put-field-4 c = search needs
+slice-aggregate-put-last-field-2 : tie.Need-slice-aggregate-put-last-field-2
+slice-aggregate-put-last-field-2 c = search needs
 
-cast-put-field-4 : tie.Need-cast-put-field-4
-cast-put-field-4 c = search needs
+cast-put-last-field-2 : tie.Need-cast-put-last-field-2
+cast-put-last-field-2 c = search needs
 
-put-field-requires-4 : tie.Need-put-field-requires-4
-put-field-requires-4 c κs = search needs
-
-put-line-end-requires-2 : tie.Need-put-line-end-requires-2
-put-line-end-requires-2 c κs = search needs
+put-last-field-requires-2 : tie.Need-put-last-field-requires-2
+put-last-field-requires-2 c κs = search needs
 
 same-length : tie.Need-same-length
 same-length c = search needs
@@ -65,8 +59,7 @@ same-length c = search needs
 returns : tie.Need-returns
 unfolding ascii wordLine
 returns c =
-    let end = c .before .before in
-    let rule = end .before .before .before .before in
+    let rule = c .before .before in
     let residual = rule .before .before .before .before .before in
     let position = residual .before .before .before .before .before in
     let arm = position .before .before .before .before in
@@ -74,12 +67,10 @@ returns c =
     rw (arm .answer .given .1) (
       puts-then (omega (arith, number))
           (puts-then (omega (arith, number))
-          (puts-then (omega (arith, number))
           (puts-then (omega (arith, number)) (number .put-number .ensures .0) (position .put-field .ensures .0))
           (residual .put-field2 .ensures .0))
-          (rule .put-field3 .ensures .0))
-          (end .put-line-end .ensures .0),
-      omega (arith, number, position, residual, rule, end),
+          (rule .put-last-field .ensures .0),
+      omega (arith, number),
     )
 
 same-length-2 : tie.Need-same-length-2
@@ -88,14 +79,11 @@ same-length-2 c = search needs
 returns-2 : tie.Need-returns-2
 unfolding ascii wordLine
 returns-2 c =
-    let end = c .before .before in
-    let refusal = end .before .before .before .before in
+    let refusal = c .before .before in
     let arm = refusal .before .before .before .before in
     let number = arm .before .before .before .before in
     rw (arm .answer2 .given .1) (
-      puts-then (omega (arith, number))
-          (puts-then (omega (arith, number)) (number .put-number .ensures .0) (refusal .put-field4 .ensures .0))
-          (end .put-line-end2 .ensures .0),
+      puts-then (omega (arith, number)) (number .put-number .ensures .0) (refusal .put-last-field2 .ensures .0),
       omega arith,
     )
 
@@ -111,15 +99,13 @@ put-word-line-spec =
     slice-aggregate-put-field-2
     cast-put-field-2
     put-field-requires-2
-    slice-aggregate-put-field-3
-    cast-put-field-3
-    put-field-requires-3
-    put-line-end-requires
+    slice-aggregate-put-last-field
+    cast-put-last-field
+    put-last-field-requires
     enum-known-answer-2
-    slice-aggregate-put-field-4
-    cast-put-field-4
-    put-field-requires-4
-    put-line-end-requires-2
+    slice-aggregate-put-last-field-2
+    cast-put-last-field-2
+    put-last-field-requires-2
     same-length
     returns
     same-length-2
