@@ -1,0 +1,4 @@
+pub mod Text
+pub mod Lines
+pub mod Report
+pub mod Puts

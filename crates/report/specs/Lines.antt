@@ -1,0 +1,46 @@
+-- Document 01, "The program tramread": the lines that it prints. Assumes nothing.
+use Prim.Native.Nat.{ℕ}
+use Prim.Native.String.{String}
+use mathlib.Core.Bool.{cond}
+use mathlib.Core.List.{List, [], _++_}
+use lib.Dec.{eqb}
+use Rattle.model.specs.declared.CardAnswer.{CardAnswer}
+use Rattle.model.specs.declared.CardAnswer.the-variants.{Sound, Refused as CardRefused}
+use Rattle.model.specs.declared.ReadAnswer.{ReadAnswer}
+use Rattle.model.specs.declared.ReadAnswer.the-variants.{At, Refused as ReadRefused}
+use Rattle.report.specs.Text.{ascii, decimal}
+
+-- a label and a number
+abbrev pub field : (label : String) (value : ℕ) → List ℕ
+field label value = ascii label ++ decimal value
+
+-- the end of a line: a line feed
+abbrev pub lineEnd : List ℕ
+lineEnd = ascii "\n"
+
+-- the last label and number of a line, and the line's end
+abbrev pub lastField : (label : String) (value : ℕ) → List ℕ
+lastField label value = field label value ++ lineEnd
+
+-- the line of the card: track, last position and radius, or the refusal
+unfoldable pub cardLine : CardAnswer → List ℕ
+cardLine (Sound s) = field "track " (s .track) ++ field " last " (s .last) ++ lastField " radius " (s .radius)
+cardLine (CardRefused refusal) = lastField "card refused " refusal
+
+-- the line of a word: its number, then position, residual and rule, or the refusal
+unfoldable pub wordLine : (number : ℕ) → ReadAnswer → List ℕ
+wordLine number (At position residual rule) =
+    decimal number ++ field " at " position ++ field " residual " residual ++ lastField " rule " rule
+wordLine number (ReadRefused refusal) = decimal number ++ lastField " refused " refusal
+
+-- the line of the bytes short of a word at the end; no line where there is none
+unfoldable pub shortLine : (bytes : ℕ) → List ℕ
+shortLine bytes = cond (eqb bytes 0) [] (lastField "short " bytes)
+
+-- the last line: whole words met, words read
+unfoldable pub lastLine : (words read : ℕ) → List ℕ
+lastLine words read = field "words " words ++ lastField " read " read
+
+-- the bytes that a line may take in a buffer; no line is longer
+abbrev pub lineRoom : ℕ
+lineRoom = 128

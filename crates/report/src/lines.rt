@@ -1,0 +1,74 @@
+// The lines that tramread prints. Each wants room for the longest line, and answers the next place.
+ghost use Prim.Native.Nat.{_+_, _≤_};
+ghost use lib.ListN.{length};
+ghost use Rattle.report.specs.Lines.{cardLine, wordLine, shortLine, lastLine, lineRoom};
+ghost use Rattle.report.specs.Puts.{Puts};
+use crate::pieces::put_field;
+use crate::pieces::put_last_field;
+use crate::pieces::put_number;
+use model::CardAnswer;
+use model::ReadAnswer;
+
+// The line of the card.
+pub fn put_card_line(out: &mut [u8], at: usize, answer: CardAnswer) -> usize
+    requires { ⌜ at + lineRoom ≤ length (now out) ⌝ }
+    ensures { λ r. ⌜ Puts (now (out .entry)) at (cardLine answer) (now (out .exit)) r ⌝ }
+    ensures { λ r. ⌜ r ≤ at + lineRoom ⌝ }
+{
+    match answer {
+        CardAnswer::Sound(summary) => {
+            let last_at = put_field(out, at, b"track ", summary.track as u64);
+            let radius_at = put_field(out, last_at, b" last ", summary.last as u64);
+            put_last_field(out, radius_at, b" radius ", summary.radius as u64)
+        }
+        CardAnswer::Refused(refusal) => put_last_field(out, at, b"card refused ", refusal as u64),
+    }
+}
+
+// The line of word `number`.
+pub fn put_word_line(out: &mut [u8], at: usize, number: u64, answer: ReadAnswer) -> usize
+    requires { ⌜ at + lineRoom ≤ length (now out) ⌝ }
+    ensures { λ r. ⌜ Puts (now (out .entry)) at (wordLine number answer) (now (out .exit)) r ⌝ }
+    ensures { λ r. ⌜ r ≤ at + lineRoom ⌝ }
+{
+    let answer_at = put_number(out, at, number);
+    match answer {
+        ReadAnswer::At {
+            position,
+            residual,
+            rule,
+        } => {
+            let residual_at = put_field(out, answer_at, b" at ", position as u64);
+            let rule_at = put_field(out, residual_at, b" residual ", residual as u64);
+            put_last_field(out, rule_at, b" rule ", rule as u64)
+        }
+        ReadAnswer::Refused(refusal) => put_last_field(
+            out,
+            answer_at,
+            b" refused ",
+            refusal as u64,
+        ),
+    }
+}
+
+// The line of the bytes short of a word, or nothing where there is none.
+pub fn put_short_line(out: &mut [u8], at: usize, bytes: u64) -> usize
+    requires { ⌜ at + lineRoom ≤ length (now out) ⌝ }
+    ensures { λ r. ⌜ Puts (now (out .entry)) at (shortLine bytes) (now (out .exit)) r ⌝ }
+    ensures { λ r. ⌜ r ≤ at + lineRoom ⌝ }
+{
+    if bytes == 0 {
+        return at;
+    }
+    put_last_field(out, at, b"short ", bytes)
+}
+
+// The last line: whole words met, words read.
+pub fn put_last_line(out: &mut [u8], at: usize, words: u64, read: u64) -> usize
+    requires { ⌜ at + lineRoom ≤ length (now out) ⌝ }
+    ensures { λ r. ⌜ Puts (now (out .entry)) at (lastLine words read) (now (out .exit)) r ⌝ }
+    ensures { λ r. ⌜ r ≤ at + lineRoom ⌝ }
+{
+    let read_at = put_field(out, at, b"words ", words);
+    put_last_field(out, read_at, b" read ", read)
+}
