@@ -10,3 +10,5 @@ pub mod ZeroBytes
 pub mod WordChunks
 pub mod WalkedWord
 pub mod CopiedWord
+pub mod MixedBytes
+pub mod BlockSearch

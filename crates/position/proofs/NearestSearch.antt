@@ -25,19 +25,19 @@ use Rattle.position.specs.SearchReady.{BlockWords, PassedPlaces}
 
 -- the bits in which an array that holds a position's word differs from the received one are its residual
 pub count-is-residual : (C : Code) → Sound C → (w x : List ℕ) (position : ℕ)
-    → ((p : ℕ) → place w p ≡ cut (wordBits C) (wordAt C position) p) → NothingSpare C x
+    → ((p : ℕ) → p < 320 → place w p ≡ cut (wordBits C) (wordAt C position) p) → NothingSpare C x
     → distance 320 (place w) (place x) ≡ residual C (place x) position
 unfolding NothingSpare residual
 count-is-residual C sound w x position holds spare =
     let rest = le-dest (word-bits-bound C sound) in
     let none : distance (rest .0) (from (wordBits C) (place w)) (from (wordBits C) (place x)) ≡ 0 =
       distance-ext (rest .0)
-        (λ p b. holds (wordBits C + p) ∙ cut-above (wordBits C) (wordAt C position) (wordBits C + p) (omega arith))
+        (λ p b. holds (wordBits C + p) (omega arith) ∙ cut-above (wordBits C) (wordAt C position) (wordBits C + p) (omega arith))
         (λ p b. spare (wordBits C + p) (omega arith))
       ∙ distance-self (rest .0) (λ p. 0)
     in
     let bits : distance (wordBits C) (place w) (place x) ≡ residual C (place x) position =
-      distance-ext (wordBits C) (λ p b. holds p ∙ cut-below (wordBits C) (wordAt C position) p b) (λ p b. refl)
+      distance-ext (wordBits C) (λ p b. holds p (omega (arith, word-bits-bound C sound)) ∙ cut-below (wordBits C) (wordAt C position) p b) (λ p b. refl)
     in
     ap (λ (d : ℕ). distance d (place w) (place x)) (sym (rest .1))
     ∙ distance-split (wordBits C) (rest .0) (place w) (place x) ∙ omega arith
