@@ -25,8 +25,8 @@ use Rattle.position_theory.proofs.Stepping.{word-passed}
 use Rattle.position.specs.SearchReady.{BlockWords}
 
 module _ (C : Code) (i : ℕ) (u v w : List ℕ) (at : ℕ) (words : BlockWords C i u v)
-  (spare : (p : ℕ) → place u p ≡ cut (wordBits C) (word C i) p) (room : at ≤ wordBits C)
-  (splice : (p : ℕ) → p < 320 → place w p ≡ cond (ltb p at) (place v p) (place u p)) where
+    (spare : (p : ℕ) → place u p ≡ cut (wordBits C) (word C i) p) (room : at ≤ wordBits C)
+    (splice : (p : ℕ) → p < 320 → place w p ≡ cond (ltb p at) (place v p) (place u p)) where
   below : (p : ℕ) → p < at → place w p ≡ word C (i + 1) p
   below p b =
       rw (splice p (omega (arith, word-bits-bound C (words .sound))), lt-ltb p at b) (words .new p (omega arith))
@@ -39,10 +39,10 @@ module _ (C : Code) (i : ℕ) (u v w : List ℕ) (at : ℕ) (words : BlockWords 
   steps-counted =
       let rest : (m : ℕ) × (at + m ≡ 320) = le-dest (omega (arith, word-bits-bound C (words .sound))) in
       let none : distance (rest .0) (from at (place u)) (from at (place w)) ≡ 0 =
-        distance-ext (rest .0) (λ p b. refl) (λ p b. above (at + p) (omega arith) (omega arith)) ∙ distance-self (rest .0) (from at (place u))
+      distance-ext (rest .0) (λ p b. refl) (λ p b. above (at + p) (omega arith) (omega arith)) ∙ distance-self (rest .0) (from at (place u))
       in
       let steps : distance at (place u) (place w) ≡ distance at (word C i) (word C (i + 1)) =
-        distance-ext at (λ p b. words .old p (omega arith)) below
+      distance-ext at (λ p b. words .old p (omega arith)) below
       in
       ap (λ (d : ℕ). distance d (place u) (place w)) (sym (rest .1)) ∙ distance-split at (rest .0) (place u) (place w) ∙ omega arith
 
@@ -51,10 +51,15 @@ module _ (C : Code) (i : ℕ) (u v w : List ℕ) (at : ℕ) (words : BlockWords 
       → place w p ≡ cut (wordBits C) (wordAt C (start C i + distance at (word C i) (word C (i + 1)))) p
   splice-holds p l =
       ⊎-elim
-        (λ (b : p < wordBits C).
-          rw (cut-below (wordBits C) (wordAt C (start C i + distance at (word C i) (word C (i + 1)))) p b,
-            word-passed C (promise C (words .sound)) i (words .inside) at p room b, splice p l, words .old p b, words .new p b))
-        (λ (b : wordBits C ≤ p).
-          rw (cut-above (wordBits C) (wordAt C (start C i + distance at (word C i) (word C (i + 1)))) p b)
-            (above p (omega arith) l ∙ spare p ∙ cut-above (wordBits C) (word C i) p b))
-        (lt-or-le p (wordBits C))
+      (λ (b : p < wordBits C).
+      rw (
+        cut-below (wordBits C) (wordAt C (start C i + distance at (word C i) (word C (i + 1)))) p b,
+        word-passed C (promise C (words .sound)) i (words .inside) at p room b,
+        splice p l,
+        words .old p b,
+        words .new p b,
+      ))
+      (λ (b : wordBits C ≤ p).
+      rw (cut-above (wordBits C) (wordAt C (start C i + distance at (word C i) (word C (i + 1)))) p b)
+      (above p (omega arith) l ∙ spare p ∙ cut-above (wordBits C) (word C i) p b))
+      (lt-or-le p (wordBits C))

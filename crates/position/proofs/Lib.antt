@@ -12,3 +12,7 @@ pub mod WalkedWord
 pub mod CopiedWord
 pub mod MixedBytes
 pub mod BlockSearch
+pub mod RuleRanges
+pub mod UnreadableChunk
+pub mod SeparatorRules
+pub mod SpareBits

@@ -42,14 +42,21 @@ module _ (q : ℕ) where
   pub mixed-bits : (x y p : ℕ) → bit (y / 2 ^ q * 2 ^ q + x % 2 ^ q) p ≡ cond (ltb p q) (bit x p) (bit y p)
   mixed-bits x y p =
       ⊎-elim
-        (λ (b : p < q).
-          rw (mixed-is x y, bit-xor (y / 2 ^ q * 2 ^ q) (x % 2 ^ q) p, moved-below (y / 2 ^ q) p b, cut-kept x p b, lt-ltb p q b)
-            (omega (arith, bit-bit x p)))
-        (λ (b : q ≤ p).
-          let rest = le-dest b in
-          rw (mixed-is x y, bit-xor (y / 2 ^ q * 2 ^ q) (x % 2 ^ q) p, bit-high (x % 2 ^ q) q p (mod-lt x (pow-pos q)) b, le-ltb p q b, ← (rest .1),
-            moved-above (y / 2 ^ q) (rest .0), shr-shr y q (rest .0)) (omega (arith, bit-bit y (q + rest .0))))
-        (lt-or-le p q)
+      (λ (b : p < q).
+      rw (mixed-is x y, bit-xor (y / 2 ^ q * 2 ^ q) (x % 2 ^ q) p, moved-below (y / 2 ^ q) p b, cut-kept x p b, lt-ltb p q b)
+      (omega (arith, bit-bit x p)))
+      (λ (b : q ≤ p).
+      let rest = le-dest b in
+      rw (
+        mixed-is x y,
+        bit-xor (y / 2 ^ q * 2 ^ q) (x % 2 ^ q) p,
+        bit-high (x % 2 ^ q) q p (mod-lt x (pow-pos q)) b,
+        le-ltb p q b,
+        ← (rest .1),
+        moved-above (y / 2 ^ q) (rest .0),
+        shr-shr y q (rest .0),
+      ) (omega (arith, bit-bit y (q + rest .0))))
+      (lt-or-le p q)
 
   pub mixed-fits : (x y : ℕ) → q ≤ 8 → y < 256 → y / 2 ^ q * 2 ^ q + x % 2 ^ q < 256
   mixed-fits x y h hy =
@@ -57,7 +64,7 @@ module _ (q : ℕ) where
       let eight : 8 ≡ rest .0 + q = omega arith in
       let above : y / 2 ^ q < 2 ^ rest .0 = shr-lt (rest .0) q (rw (← eight) hy) in
       let whole : y / 2 ^ q * 2 ^ q + x % 2 ^ q < 2 ^ rest .0 * 2 ^ q =
-        div-lt-iff-lt-mul (pow-pos q) .0 (rw (high (y / 2 ^ q) q (mod-lt x (pow-pos q))) above)
+      div-lt-iff-lt-mul (pow-pos q) .0 (rw (high (y / 2 ^ q) q (mod-lt x (pow-pos q))) above)
       in
       rw (← (pow-add 2 (rest .0) q), ← eight) at whole
 
@@ -69,14 +76,14 @@ pub splice-more : (u v word : List ℕ) (at j b : ℕ) → j < length word
 unfolding place
 splice-more u v word at j b h old new p l =
     ⊎-elim
-      (λ (e : p / 8 ≡ j).
-        rw (e, getD-set-same word j b 0 h, new (p % 8) (omega arith), same-side e) refl)
-      (λ (l′ : p / 8 < j). rw (getD-set-other word j (p / 8) b 0 (λ e. omega arith)) (old p (omega arith)))
-      (eq-or-lt-of-le {n = p / 8} {m = j} (omega arith))
+    (λ (e : p / 8 ≡ j).
+    rw (e, getD-set-same word j b 0 h, new (p % 8) (omega arith), same-side e) refl)
+    (λ (l′ : p / 8 < j). rw (getD-set-other word j (p / 8) b 0 (λ e. omega arith)) (old p (omega arith)))
+    (eq-or-lt-of-le {n = p / 8} {m = j} (omega arith))
   where
     same-side : p / 8 ≡ j → ltb (p % 8) (min 8 (at - 8 * j)) ≡ ltb p at
     same-side e =
         ⊎-elim
-          (λ (b : p < at). rw (lt-ltb p at b, lt-ltb (p % 8) (min 8 (at - 8 * j)) (omega arith)))
-          (λ (b : at ≤ p). rw (le-ltb p at b, le-ltb (p % 8) (min 8 (at - 8 * j)) (omega arith)))
-          (lt-or-le p at)
+        (λ (b : p < at). rw (lt-ltb p at b, lt-ltb (p % 8) (min 8 (at - 8 * j)) (omega arith)))
+        (λ (b : at ≤ p). rw (le-ltb p at b, le-ltb (p % 8) (min 8 (at - 8 * j)) (omega arith)))
+        (lt-or-le p at)

@@ -47,7 +47,11 @@ fn search_block(code: DecodedCode, x: [u8; 40], i: u32, at: u32, to: u32) -> Sca
     let u = words::word_of(code, i);
     let v = words::word_of(code, i + 1);
     let w = splice::spliced(u, v, at);
-    let first = begin(w, x, blocks::block_start(code, i) + words::bits_unlike(u, w));
+    let first = begin(
+        w,
+        x,
+        blocks::block_start(code, i) + words::bits_unlike(u, w),
+    );
     scan::pass_places(&u, &v, &x, at, to, first)
 }
 
@@ -162,10 +166,18 @@ fn by_rule3(code: DecodedCode, x: [u8; 40]) -> ReadAnswer
     ensures { λ r. ⌜ r ≡ nearest (meaning code) (place x) (rule₃ (meaning code) (chunkReading (meaning code) (chunk₁ (meaning code) (place x))) (chunkReading (meaning code) (chunk₂ (meaning code) (place x)))) ⌝ }
 {
     let at = layout::layout_of(code);
-    let Chunk::Codeword { number: first, unlike: _ } = chunk_reading(code, x, at.chunk1) else {
+    let Chunk::Codeword {
+        number: first,
+        unlike: _,
+    } = chunk_reading(code, x, at.chunk1)
+    else {
         return ReadAnswer::Refused(10);
     };
-    let Chunk::Codeword { number: second, unlike: _ } = chunk_reading(code, x, at.chunk2) else {
+    let Chunk::Codeword {
+        number: second,
+        unlike: _,
+    } = chunk_reading(code, x, at.chunk2)
+    else {
         return ReadAnswer::Refused(10);
     };
     if first != second {

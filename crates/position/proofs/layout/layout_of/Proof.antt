@@ -20,14 +20,14 @@ add-t7 c = omega (arith, word-bits-bound (meaning (c .args .code)) (c .pre))
 
 returns : tie.Need-returns
 returns c =
-    record
-      { chunk₁-at = refl
-      ; separator₂-at = refl
-      ; chunk₂-at = refl
-      ; separator₃-at = refl
-      ; bits-are = omega arith
-      ; fits = word-bits-bound (meaning (c .args .code)) (c .pre)
-      }
+    record {
+      chunk₁-at = refl;
+      separator₂-at = refl;
+      chunk₂-at = refl;
+      separator₃-at = refl;
+      bits-are = omega arith;
+      fits = word-bits-bound (meaning (c .args .code)) (c .pre);
+    }
 
 pub layout-of-spec : {M : Type 1} → statement M
 layout-of-spec = tie.close (tie.spec add-separator2 add-chunk2 add-separator3 add-t7 returns)

@@ -11,10 +11,13 @@ bits-unlike-requires c κs = search needs
 
 returns : tie.Need-returns
 unfolding Begun
-returns c =
-    (refl, refl, λ C sound holds spare.
+returns c = (
+  refl,
+  refl,
+  λ C sound holds spare.
       scanned-first _ (c .before .args .low) (c .bits-unlike .result)
-        (c .bits-unlike .ensures ∙ count-is-residual C sound _ _ (c .before .args .low) holds spare))
+      (c .bits-unlike .ensures ∙ count-is-residual C sound _ _ (c .before .args .low) holds spare),
+)
 
 pub begin-spec : {M : Type 1} → statement M
 begin-spec = tie.close (tie.spec bits-unlike-requires returns)

@@ -1,60 +1,88 @@
+-- `position::reading::by_rule3` meets its contract, case by case of what the two chunks read as. Assumes nothing.
+use mathlib.Core.Path.{_≡_, _∙_, sym}
+use borrow.Author.Tests.{eq-eqb, ne-eqb}
+use Rattle.bits.specs.Places.{place}
+use Rattle.model.specs.Decoded.{meaning}
+use Rattle.model.specs.Reading.{chunkReading, chunk₁, chunk₂, rule₃, nearest}
+use Rattle.model.specs.declared.Chunk.{Chunk}
+use Rattle.model.specs.declared.Chunk.the-variants.{Codeword, Unreadable}
+use Rattle.code_theory.proofs.Promise.{promise}
+use Rattle.position.proofs.UnreadableChunk.{unreadable-first}
 use native.Mathlib.Omega.{arith}
 use borrow.Author.Needs.{needs}
 use Rattle.position.proofs.reading.by_rule3.Statement.{statement}
 use Rattle.position.proofs.reading.by_rule3.Tie as tie
-use Rattle.position.proofs.reading.by_rule3.Reads as reads
-use Rattle.position.proofs.reading.by_rule3.Lts as lts
-use Rattle.position.proofs.layout.layout_of.Reads as layout-of-reads
-use Rattle.position.proofs.reading.chunk_reading.Reads as chunk-reading-reads
-use Rattle.position.proofs.reading.nearest_around.Reads as nearest-around-reads
 
--- src/reading.rt:164:9
+-- what the two chunks read as
+chunk-read₁ : (c : tie.After-chunk-reading)
+    → c .chunk-reading .result ≡ chunkReading (meaning (c .before .before .args .code)) (chunk₁ (meaning (c .before .before .args .code)) (place (c .before .before .args .x)))
+chunk-read₁ c = rw (c .before .layout-of .ensures .chunk₁-at) at (c .chunk-reading .ensures)
+
+chunk-read₂ : (c : tie.After-chunk-reading2)
+    → let first = c .before .before .before .before .before .before in
+    c .chunk-reading2 .result ≡ chunkReading (meaning (first .args .code)) (chunk₂ (meaning (first .args .code)) (place (first .args .x)))
+chunk-read₂ c = rw (c .before .before .before .before .before .layout-of .ensures .chunk₂-at) at (c .chunk-reading2 .ensures)
+
 layout-of-requires : tie.Need-layout-of-requires
 layout-of-requires c κs = search needs
 
--- src/reading.rt:165:56
 chunk-reading-requires : tie.Need-chunk-reading-requires
 chunk-reading-requires c κs = search needs
 
--- src/reading.rt:165:35
 enum-known-first : tie.Need-enum-known-first
 enum-known-first c = search needs
 
--- src/reading.rt:166:9
 enum-told : tie.Need-enum-told
 enum-told c = search needs
 
--- src/reading.rt:166:9
 returns : tie.Need-returns
-returns c = ?
+returns c =
+    let there = c .before .before in
+    rw (sym (chunk-read₁ there) ∙ c .enum-told .given .1) (unreadable-first _ _ _)
 
--- src/reading.rt:168:57
 chunk-reading-requires-2 : tie.Need-chunk-reading-requires-2
 chunk-reading-requires-2 c κs = search needs
 
--- src/reading.rt:168:35
 enum-known-second : tie.Need-enum-known-second
 enum-known-second c = search needs
 
--- src/reading.rt:169:9
 enum-told-2 : tie.Need-enum-told-2
 enum-told-2 c = search needs
 
--- src/reading.rt:169:9
 returns-2 : tie.Need-returns-2
-returns-2 c = ?
+unfolding nearest rule₃
+returns-2 c =
+    let second = c .before .before in
+    let told = second .before in
+    let there = told .before .before .before in
+    rw (sym (chunk-read₁ there) ∙ told .before .first .given .1, sym (chunk-read₂ second) ∙ c .enum-told2 .given .1)
 
--- src/reading.rt:172:9
 returns-3 : tie.Need-returns-3
-returns-3 c = ?
+unfolding nearest rule₃
+returns-3 c =
+    let second = c .before .before .before .before in
+    let told = second .before in
+    let there = told .before .before .before in
+    rw (sym (chunk-read₁ there) ∙ told .before .first .given .1, sym (chunk-read₂ second) ∙ c .before .before .second .given .1, ne-eqb _ _ (c .if1 .taken))
 
--- src/reading.rt:174:5
 nearest-around-requires : tie.Need-nearest-around-requires
-nearest-around-requires c κs = ?
+nearest-around-requires c κs =
+    let told = c .before .before .before .before .before in
+    let there = told .before .before .before in
+    let first = there .before .before in (
+      first .pre .0,
+      first .pre .1,
+      promise (meaning (first .args .code)) (first .pre .0) .read _ _ _ (sym (chunk-read₁ there) ∙ told .before .first .given .1) .0,
+    )
 
--- src/reading.rt:160:1
 returns-4 : tie.Need-returns-4
-returns-4 c = ?
+unfolding nearest rule₃
+returns-4 c =
+    let second = c .before .before .before .before .before in
+    let told = second .before in
+    let there = told .before .before .before in
+    rw (sym (chunk-read₁ there) ∙ told .before .first .given .1, sym (chunk-read₂ second) ∙ c .before .before .before .second .given .1, eq-eqb _ _ (c .before .if1 .left))
+    (c .nearest-around .ensures)
 
 pub by-rule3-spec : {M : Type 1} → statement M
 by-rule3-spec =

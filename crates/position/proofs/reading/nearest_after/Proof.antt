@@ -1,28 +1,29 @@
+-- `position::reading::nearest_after` meets its contract: block p from its start to the end of separator 2. Assumes nothing.
+use mathlib.Core.Path.{_∙_}
+use Rattle.model.specs.Decoded.{meaning}
+use Rattle.position.proofs.RuleRanges.{rule₂-answer}
 use native.Mathlib.Omega.{arith}
 use borrow.Author.Needs.{needs}
 use Rattle.position.proofs.reading.nearest_after.Statement.{statement}
 use Rattle.position.proofs.reading.nearest_after.Tie as tie
-use Rattle.position.proofs.reading.nearest_after.Reads as reads
-use Rattle.position.proofs.reading.nearest_after.Lts as lts
-use Rattle.position.proofs.layout.layout_of.Reads as layout-of-reads
-use Rattle.position.proofs.reading.found.Reads as found-reads
-use Rattle.position.proofs.reading.search_block.Reads as search-block-reads
 
--- src/reading.rt:79:9
 layout-of-requires : tie.Need-layout-of-requires
 layout-of-requires c κs = search needs
 
--- src/reading.rt:80:11
 search-block-requires : tie.Need-search-block-requires
 search-block-requires c κs = search needs
 
--- src/reading.rt:80:5
 found-requires : tie.Need-found-requires
 found-requires c κs = search needs
 
--- src/reading.rt:75:1
 returns : tie.Need-returns
-returns c = ?
+returns c =
+    let first = c .before .before .before in
+    let at = c .before .before .layout-of .ensures in
+    let search = c .before .search-block .ensures in
+    c .found .ensures
+    ∙ rule₂-answer (meaning (first .args .code)) (first .pre .0) (first .args .p) (first .pre .2) _ (c .before .search-block .result)
+    (search .0) (rw (at .chunk₂-at) at (search .1))
 
 pub nearest-after-spec : {M : Type 1} → statement M
 nearest-after-spec =

@@ -1,32 +1,37 @@
+-- `position::reading::nearest_before` meets its contract: block p - 1 from separator 2 to its end. Assumes nothing.
+use mathlib.Core.Path.{_≡_, _∙_, sym, ap}
+use Prim.Native.Nat.{ℕ, _+_, _-_}
+use Rattle.bits.specs.Sums.{distance}
+use Rattle.model.specs.Decoded.{meaning}
+use Rattle.position.proofs.RuleRanges.{rule₁-answer}
 use native.Mathlib.Omega.{arith}
 use borrow.Author.Needs.{needs}
 use Rattle.position.proofs.reading.nearest_before.Statement.{statement}
 use Rattle.position.proofs.reading.nearest_before.Tie as tie
-use Rattle.position.proofs.reading.nearest_before.Reads as reads
-use Rattle.position.proofs.reading.nearest_before.Lts as lts
-use Rattle.position.proofs.layout.layout_of.Reads as layout-of-reads
-use Rattle.position.proofs.reading.found.Reads as found-reads
-use Rattle.position.proofs.reading.search_block.Reads as search-block-reads
 
--- src/reading.rt:70:9
 layout-of-requires : tie.Need-layout-of-requires
 layout-of-requires c κs = search needs
 
--- src/reading.rt:71:33
 sub-search-block : tie.Need-sub-search-block
 sub-search-block c = search needs
 
--- src/reading.rt:71:11
 search-block-requires : tie.Need-search-block-requires
 search-block-requires c κs = search needs
 
--- src/reading.rt:71:5
 found-requires : tie.Need-found-requires
 found-requires c κs = search needs
 
--- src/reading.rt:66:1
 returns : tie.Need-returns
-returns c = ?
+returns c =
+    let first = c .before .before .before in
+    let C = meaning (first .args .code) in
+    let at = c .before .before .layout-of .ensures in
+    let search = c .before .search-block .ensures in
+    let here : first .args .p ≡ first .args .p - 1 + 1 = omega (arith, first .pre .2) in
+    c .found .ensures
+    ∙ rule₁-answer C (first .pre .0) (first .args .p - 1) (omega (arith, first .pre .2, first .pre .3)) _ (c .before .search-block .result)
+    (rw (at .separator₂-at) at (search .0)) (rw (at .bits-are) at (search .1))
+    ∙ rw (← here)
 
 pub nearest-before-spec : {M : Type 1} → statement M
 nearest-before-spec =

@@ -43,7 +43,7 @@ words : (c : tie.After-bits-unlike)
 words c =
     let first = c .before .before .before .before .before in
     block-words (meaning (first .args .code)) (first .args .i) _ _ (first .pre .0) (first .pre .2)
-      (c .before .before .before .before .word-of .ensures) (c .before .before .before .word-of2 .ensures)
+    (c .before .before .before .before .word-of .ensures) (c .before .before .before .word-of2 .ensures)
 
 -- the first position of the search
 low : (c : tie.After-bits-unlike)
@@ -53,18 +53,21 @@ low : (c : tie.After-bits-unlike)
 low c =
     let first = c .before .before .before .before .before in
     ap₂ _+_ (c .before .block-start .ensures)
-      (c .bits-unlike .ensures
-        ∙ steps-counted (meaning (first .args .code)) (first .args .i) _ _ _ (first .args .at) (words c)
-          (c .before .before .before .before .word-of .ensures) (omega (arith, first .pre .3, first .pre .4)) (c .before .before .spliced .ensures))
+    (c .bits-unlike .ensures
+    ∙ steps-counted (meaning (first .args .code)) (first .args .i) _ _ _ (first .args .at) (words c)
+    (c .before .before .before .before .word-of .ensures) (omega (arith, first .pre .3, first .pre .4)) (c .before .before .spliced .ensures))
 
 add-begin : tie.Need-add-begin
 add-begin c =
     let first = c .before .before .before .before .before in
     let C = meaning (first .args .code) in
     let sound = first .pre .0 in
-    omega (arith, low c,
+    omega (
+      arith,
+      low c,
       position-bound C sound (first .args .i) _ (first .pre .2)
-        (steps-room C (promise C sound) (first .args .i) (first .pre .2) (first .args .at) (omega (arith, first .pre .3, first .pre .4))))
+          (steps-room C (promise C sound) (first .args .i) (first .pre .2) (first .args .at) (omega (arith, first .pre .3, first .pre .4))),
+    )
 
 begin-requires : tie.Need-begin-requires
 begin-requires c κs = search needs
@@ -78,34 +81,35 @@ begun c =
     let first = c .before .before .before .before .before .before in
     let C = meaning (first .args .code) in
     let held = splice-holds C (first .args .i) _ _ _ (first .args .at) (words (c .before))
-      (c .before .before .before .before .before .word-of .ensures) (omega (arith, first .pre .3, first .pre .4)) (c .before .before .before .spliced .ensures)
+    (c .before .before .before .before .before .word-of .ensures) (omega (arith, first .pre .3, first .pre .4)) (c .before .before .before .spliced .ensures)
     in
-    record
-      { within = omega (arith, first .pre .3, first .pre .4)
-      ; position-is = c .begin .ensures .1 ∙ low (c .before)
-      ; scanned = c .begin .ensures .2 C (first .pre .0) (rw (low (c .before)) held) (first .pre .1)
-      }
+    record {
+      within = omega (arith, first .pre .3, first .pre .4);
+      position-is = c .begin .ensures .1 ∙ low (c .before);
+      scanned = c .begin .ensures .2 C (first .pre .0) (rw (low (c .before)) held) (first .pre .1);
+    }
 
 pass-places-requires : tie.Need-pass-places-requires
 pass-places-requires c κs =
     let there = c .before .before .before in
     let first = there .before .before .before .before .before .before in
-    record
-      { code = meaning (first .args .code)
-      ; block = first .args .i
-      ; words = words (there .before)
-      ; passed = begun there
-      ; forward = first .pre .3
-      ; room = first .pre .4
-      }
+    record {
+      code = meaning (first .args .code);
+      block = first .args .i;
+      words = words (there .before);
+      passed = begun there;
+      forward = first .pre .3;
+      room = first .pre .4;
+    }
 
 returns : tie.Need-returns
 unfolding Passes
 returns c =
     let there = c .before .before .before .before in
-    let first = there .before .before .before .before .before .before in
-    (c .pass-places .ensures .0 ∙ there .begin .ensures .0 ∙ low (there .before),
-      c .pass-places .ensures .1 (meaning (first .args .code)) (first .args .i) (words (there .before)) (begun there) (first .pre .4))
+    let first = there .before .before .before .before .before .before in (
+      c .pass-places .ensures .0 ∙ there .begin .ensures .0 ∙ low (there .before),
+      c .pass-places .ensures .1 (meaning (first .args .code)) (first .args .i) (words (there .before)) (begun there) (first .pre .4),
+    )
 
 pub search-block-spec : {M : Type 1} → statement M
 search-block-spec =

@@ -64,8 +64,8 @@ loop-again : tie.Need-loop-again Inv-loop μ-loop
 loop-again c =
     let loop = c .before .before .before .loop in
     let bits : (q : ℕ) → q < 8 → bit (c .mixed .result) q
-        ≡ cond (ltb q (min 8 (c .before .before .before .before .args .at - 8 * loop .j))) (bit (getD (c .before .before .before .before .args .t2) (loop .j) 0) q) (bit (getD (c .before .before .before .before .args .t1) (loop .j) 0) q) =
-      λ q h. rw (← (c .before .places-below .ensures)) (c .mixed .ensures q h) in
+    ≡ cond (ltb q (min 8 (c .before .before .before .before .args .at - 8 * loop .j))) (bit (getD (c .before .before .before .before .args .t2) (loop .j) 0) q) (bit (getD (c .before .before .before .before .args .t1) (loop .j) 0) q) =
+    λ q h. rw (← (c .before .places-below .ensures)) (c .mixed .ensures q h) in
     (omega arith, simp length-set (loop .inv .1), splice-more _ _ _ _ (loop .j) (c .mixed .result) (omega arith) (loop .inv .2) bits)
 
 -- src/splice.rt:33:1
