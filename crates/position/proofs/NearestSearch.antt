@@ -31,13 +31,13 @@ unfolding NothingSpare residual
 count-is-residual C sound w x position holds spare =
     let rest = le-dest (word-bits-bound C sound) in
     let none : distance (rest .0) (from (wordBits C) (place w)) (from (wordBits C) (place x)) ≡ 0 =
-      distance-ext (rest .0)
-        (λ p b. holds (wordBits C + p) ∙ cut-above (wordBits C) (wordAt C position) (wordBits C + p) (omega arith))
-        (λ p b. spare (wordBits C + p) (omega arith))
-      ∙ distance-self (rest .0) (λ p. 0)
+    distance-ext (rest .0)
+    (λ p b. holds (wordBits C + p) ∙ cut-above (wordBits C) (wordAt C position) (wordBits C + p) (omega arith))
+    (λ p b. spare (wordBits C + p) (omega arith))
+    ∙ distance-self (rest .0) (λ p. 0)
     in
     let bits : distance (wordBits C) (place w) (place x) ≡ residual C (place x) position =
-      distance-ext (wordBits C) (λ p b. holds p ∙ cut-below (wordBits C) (wordAt C position) p b) (λ p b. refl)
+    distance-ext (wordBits C) (λ p b. holds p ∙ cut-below (wordBits C) (wordAt C position) p b) (λ p b. refl)
     in
     ap (λ (d : ℕ). distance d (place w) (place x)) (sym (rest .1))
     ∙ distance-split (wordBits C) (rest .0) (place w) (place x) ∙ omega arith
@@ -54,12 +54,12 @@ pub block-words : (C : Code) (i : ℕ) (u v : List ℕ) → Sound C → i < last
     → ((p : ℕ) → place u p ≡ cut (wordBits C) (word C i) p) → ((p : ℕ) → place v p ≡ cut (wordBits C) (word C (i + 1)) p)
     → BlockWords C i u v
 block-words C i u v sound inside hu hv =
-    record
-      { sound = sound
-      ; inside = inside
-      ; old = λ p b. hu p ∙ cut-below (wordBits C) (word C i) p b
-      ; new = λ p b. hv p ∙ cut-below (wordBits C) (word C (i + 1)) p b
-      }
+    record {
+      sound = sound;
+      inside = inside;
+      old = λ p b. hu p ∙ cut-below (wordBits C) (word C i) p b;
+      new = λ p b. hv p ∙ cut-below (wordBits C) (word C (i + 1)) p b;
+    }
 
 -- a search that stands at the start of a block has passed none of its places
 pub passed-none : (C : Code) (i : ℕ) (x : List ℕ) (s : Scan) → s .position ≡ start C i → Scanned (residual C (place x)) s
