@@ -1,4 +1,5 @@
 // The card and the chunk code: a card's bytes are read and checked, and a code chunk is read.
 pub mod card;
+pub mod decode;
 pub mod order;
 pub mod search;
