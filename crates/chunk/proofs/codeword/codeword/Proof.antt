@@ -1,0 +1,96 @@
+-- `chunk::codeword::codeword` meets its contract. The loop's invariant: `word` is the sum of those of the rows below `z` whose bits
+-- are set in Gray(i). The measure is the rows that are left. Assumes nothing.
+use Prim.Native.Nat.{ℕ, _+_, _-_, _*_, _^_, _≤_, _<_}
+use mathlib.Core.Path.{_≡_, refl, _∙_}
+use borrow.Author.Needs.{needs}
+use native.Mathlib.Nat.{lt-of-le-of-lt, lt-of-lt-of-le, mul-le-mul-right}
+use native.Mathlib.Numerals.{add-one}
+use native.Mathlib.Omega.{arith}
+use lib.Bits.{bitXor}
+use lib.ListN.{getD}
+use lib.Pow.{pow-mono}
+use Rattle.bits.specs.Places.{bit}
+use Rattle.model.specs.Card.{sumOfRows}
+use Rattle.model.specs.Decoded.{meaning}
+use Rattle.model.specs.Order.{codeword}
+use Rattle.code_theory.proofs.LeastDistance.{codeword-narrow}
+use Rattle.chunk.proofs.codeword.codeword.Statement.{statement}
+use Rattle.chunk.proofs.codeword.codeword.Tie as tie
+
+-- one row more
+rows-more : (row : ℕ → ℕ) (z g : ℕ) → sumOfRows row (z + 1) g ≡ bitXor (sumOfRows row z g) (bit g z * row z)
+unfolding sumOfRows
+rows-more row z g = rw (add-one z)
+
+-- a row taken once at most fits 64 bits
+row-fits : (b row n : ℕ) → b < 2 → row < 2 ^ n → n ≤ 64 → b * row < 2 ^ 64
+row-fits b row n h narrow width =
+    let once : b * row ≤ 1 * row = mul-le-mul-right row (omega arith) in
+    lt-of-le-of-lt {m = row} (omega arith) (lt-of-lt-of-le narrow (pow-mono {i = n} {j = 64} width))
+
+abbrev Inv-loop : tie.InvT-loop
+Inv-loop i k rows gray word₀ z₀ word z = (z ≤ k) × (word ≡ sumOfRows (λ y. getD rows y 0) z gray)
+
+abbrev μ-loop : tie.MeasureT-loop
+μ-loop i k rows gray word₀ z₀ word z = k - z
+
+gray-number-requires : tie.Need-gray-number-requires Inv-loop μ-loop
+gray-number-requires c κs = search needs
+
+loop-holds : tie.Need-loop-holds Inv-loop μ-loop
+unfolding sumOfRows
+loop-holds c = (omega arith, refl)
+
+cast-row : tie.Need-cast-row Inv-loop μ-loop
+cast-row c = search needs
+
+mul-row : tie.Need-mul-row Inv-loop μ-loop
+mul-row c = search needs
+
+array-read-row : tie.Need-array-read-row Inv-loop μ-loop
+array-read-row c = search needs
+
+bit-of-requires : tie.Need-bit-of-requires Inv-loop μ-loop
+bit-of-requires c κs = search needs
+
+mul-word : tie.Need-mul-word Inv-loop μ-loop
+mul-word c =
+    let sound = c .before .before .before .before .before .pre in
+    let z = c .before .before .loop .z in
+    record { fits = row-fits (c .bit-of .result) _ _ (c .bit-of .ensures .1) (sound .narrow z (omega (arith, sound .k-high))) (sound .n-high) }
+
+add-z : tie.Need-add-z Inv-loop μ-loop
+add-z c = search needs
+
+loop-less : tie.Need-loop-less Inv-loop μ-loop
+loop-less c = search needs
+
+loop-again : tie.Need-loop-again Inv-loop μ-loop
+loop-again c = (omega arith, rw (rows-more, ← (c .before .before .loop .inv .1), c .bit-of .ensures .0))
+
+returns : tie.Need-returns Inv-loop μ-loop
+unfolding codeword
+returns c =
+    let start = c .before .before .before .before in
+    let all : c .before .loop .z ≡ start .args .code .k = omega arith in
+    let is-codeword : c .before .loop .word ≡ codeword (meaning (start .args .code)) (start .args .i) =
+    c .before .loop .inv .1 ∙ rw (all, c .before .before .gray-number .ensures) in
+    (is-codeword, rw is-codeword (codeword-narrow _ (start .pre) (start .args .i)))
+
+pub codeword-spec : {M : Type 1} → statement M
+codeword-spec =
+    tie.close
+    (tie.spec
+    Inv-loop
+    μ-loop
+    gray-number-requires
+    loop-holds
+    cast-row
+    mul-row
+    array-read-row
+    bit-of-requires
+    mul-word
+    add-z
+    loop-less
+    loop-again
+    returns)

@@ -1,0 +1,11 @@
+-- `chunk::codeword::row_weight` meets its contract: the count of ones is the weight. Assumes nothing.
+use mathlib.Core.Path.{sym}
+use Rattle.bits.proofs.Binary.{weight-ones}
+use Rattle.chunk.proofs.codeword.row_weight.Statement.{statement}
+use Rattle.chunk.proofs.codeword.row_weight.Tie as tie
+
+returns : tie.Need-returns
+returns c = λ n h. sym (weight-ones n (c .args .row) h)
+
+pub row-weight-spec : {M : Type 1} → statement M
+row-weight-spec = tie.close (tie.spec returns)

@@ -1,0 +1,3 @@
+pub mod StartSum
+pub mod ShiftIn
+pub mod Scanning

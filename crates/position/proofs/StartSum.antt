@@ -1,0 +1,43 @@
+-- The start of a block as a sum that goes row by row: no partial sum exceeds the whole, which is bounded, so each of them fits.
+-- Assumes nothing.
+use mathlib.Core.Path.{_≡_, refl}
+use Prim.Native.Nat.{ℕ, _+_, _*_, _/_, _^_, _≤_}
+use native.Mathlib.Numerals.{add-one}
+use native.Mathlib.Omega.{arith}
+use Rattle.bits.specs.Sums.{sum}
+use Rattle.bits.specs.Places.{weight}
+use Rattle.bits.proofs.Sums.{sum-longer}
+use Rattle.model.specs.Card.{Code}
+use Rattle.model.specs.Order.{lastCodeword, start}
+use Rattle.code_theory.specs.Promise.{Sound}
+use Rattle.code_theory.proofs.Starts.{start-bound, last-codeword-bound}
+
+sum-more : (f : ℕ → ℕ) (z : ℕ) → sum f (z + 1) ≡ sum f z + f z
+unfolding sum
+sum-more f z = rw add-one
+
+-- what row z adds to the start of block i, apart from the factor 2
+abbrev pub rowPart : Code → ℕ → ℕ → ℕ
+rowPart C i z = weight (C .n) (C .row z) * ((i + 2 ^ z) / 2 ^ (z + 1))
+
+-- the start of block i as far as the rows below z go
+unfoldable pub startUpTo : Code → ℕ → ℕ → ℕ
+startUpTo C i z = 3 * C .D * i + 2 * sum (rowPart C i) z
+
+module _ (C : Code) (i : ℕ) where
+  pub up-to-none : startUpTo C i 0 ≡ 3 * C .D * i
+  unfolding startUpTo sum
+  up-to-none = omega arith
+
+  pub up-to-more : (z : ℕ) → startUpTo C i (z + 1) ≡ startUpTo C i z + 2 * rowPart C i z
+  unfolding startUpTo sum
+  up-to-more z = omega (arith, sum-more (rowPart C i) z)
+
+  pub up-to-all : startUpTo C i (C .k) ≡ start C i
+  unfolding startUpTo start
+  up-to-all = refl
+
+  pub up-to-bound : Sound C → i ≤ lastCodeword C → (z : ℕ) → z ≤ C .k → startUpTo C i z ≤ 1310400
+  unfolding startUpTo start
+  up-to-bound S h z l =
+      omega (arith, start-bound C S i h, last-codeword-bound C S, sum-longer (rowPart C i) {a = z} {d = C .k} l)

@@ -1,0 +1,78 @@
+// The blocks of a track: where each one starts, the block of a position, and the weight of the row that a block changes.
+ghost use mathlib.Core.Path.{_≡_};
+ghost use Prim.Native.Nat.{_+_, _/_, _^_, _≤_, _<_};
+ghost use Rattle.model.specs.Decoded.{meaning};
+ghost use Rattle.model.specs.Order.{lastCodeword, changedWeight, start, lastPosition};
+ghost use Rattle.model.specs.Words.{blockOf};
+ghost use Rattle.code_theory.specs.Promise.{Sound};
+use chunk::codeword;
+use chunk::order;
+use model::DecodedCode;
+
+// The number of the last codeword, 2^k - 1.
+pub fn last_codeword(code: DecodedCode) -> u32
+    requires { ⌜ Sound (meaning code) ⌝ }
+    ensures { λ r. ⌜ r ≡ lastCodeword (meaning code) ⌝ }
+{
+    order::two_to(code.k) - 1
+}
+
+// How often row z has been added on the way from codeword 0 to codeword i.
+fn times_added(i: u32, z: u32) -> u32
+    requires { ⌜ (i < 4096) × (z < 12) ⌝ }
+    ensures { λ r. ⌜ r ≡ (i + 2 ^ z) / 2 ^ (z + 1) ⌝ }
+{
+    (i + order::two_to(z)) >> (z + 1)
+}
+
+// The start of block i. The rows are added in order, from row 0 on.
+pub fn block_start(code: DecodedCode, i: u32) -> u32
+    requires { ⌜ Sound (meaning code) × (i ≤ lastCodeword (meaning code)) ⌝ }
+    ensures { λ r. ⌜ r ≡ start (meaning code) i ⌝ }
+{
+    let rows = code.rows;
+    let mut begin = 3 * code.distance * i;
+    let mut z: u32 = 0;
+    while z < code.k {
+        let row = rows[z as usize];
+        begin += 2 * (codeword::row_weight(row) * times_added(i, z));
+        z += 1;
+    }
+    begin
+}
+
+// The last position of the track.
+pub fn last_position(code: DecodedCode) -> u32
+    requires { ⌜ Sound (meaning code) ⌝ }
+    ensures { λ r. ⌜ r ≡ lastPosition (meaning code) ⌝ }
+{
+    block_start(code, last_codeword(code))
+}
+
+// The block of a position, by binary search: the last one that starts at or before it.
+pub fn block_of(code: DecodedCode, position: u32) -> u32
+    requires { ⌜ Sound (meaning code) ⌝ }
+    ensures { λ r. ⌜ r ≡ blockOf (meaning code) position ⌝ }
+{
+    let mut low: u32 = 0;
+    let mut high = last_codeword(code);
+    while low < high {
+        let middle = (low + high + 1) / 2;
+        if block_start(code, middle) <= position {
+            low = middle;
+        } else {
+            high = middle - 1;
+        }
+    }
+    low
+}
+
+// The weight of the row in which codewords i and i + 1 differ: the row whose number is the count of trailing zeros of i + 1.
+pub fn changed_weight(code: DecodedCode, i: u32) -> u32
+    requires { ⌜ Sound (meaning code) × (i < lastCodeword (meaning code)) ⌝ }
+    ensures { λ r. ⌜ r ≡ changedWeight (meaning code) i ⌝ }
+{
+    let rows = code.rows;
+    let z = u32::trailing_zeros(i + 1) as usize;
+    codeword::row_weight(rows[z])
+}

@@ -1,0 +1,55 @@
+// Places of a word that is held as [u8; 40]: one bit, a count of ones, the reading of a separator, a code chunk as a number.
+ghost use mathlib.Core.Path.{_≡_};
+ghost use Prim.Native.Nat.{ℕ, _+_, _^_, _≤_, _<_};
+ghost use Rattle.bits.specs.Sums.{sum, from};
+ghost use Rattle.bits.specs.Places.{bit, place};
+ghost use Rattle.model.specs.Reading.{majority};
+
+// The bit at place p.
+pub fn bit_at(w: &[u8; 40], p: u32) -> u32
+    requires { ⌜ p < 320 ⌝ }
+    ensures { λ r. ⌜ (r ≡ place (now (w .entry)) p) × (r < 2) ⌝ }
+{
+    let j = (p / 8) as usize;
+    ((w[j] >> (p % 8)) % 2) as u32
+}
+
+// How many of the `len` bits from place `at` on are 1.
+pub fn ones_between(w: &[u8; 40], at: u32, len: u32) -> u32
+    requires { ⌜ at + len ≤ 320 ⌝ }
+    ensures { λ r. ⌜ (r ≡ sum (from at (place (now (w .entry)))) len) × (r ≤ len) ⌝ }
+{
+    let mut ones: u32 = 0;
+    let mut p: u32 = 0;
+    while p < len {
+        ones += bit_at(w, at + p);
+        p += 1;
+    }
+    ones
+}
+
+// What the separator of `distance` bits from place `at` on reads: 1 if more than half its bits are 1, else 0.
+pub fn separator_at(w: &[u8; 40], at: u32, distance: u32) -> u32
+    requires { ⌜ at + distance ≤ 320 ⌝ }
+    ensures { λ r. ⌜ (r ≡ majority distance (from at (place (now (w .entry))))) × (r < 2) ⌝ }
+{
+    if distance < 2 * ones_between(w, at, distance) {
+        1
+    } else {
+        0
+    }
+}
+
+// The code chunk of n bits from place `at` on, as a number.
+pub fn chunk_at(w: &[u8; 40], at: u32, n: u32) -> u64
+    requires { ⌜ (at + n ≤ 320) × (n ≤ 64) ⌝ }
+    ensures { λ r. ⌜ (r < 2 ^ n) × ((p : ℕ) → p < n → bit r p ≡ place (now (w .entry)) (at + p)) ⌝ }
+{
+    let mut value: u64 = 0;
+    let mut p = n;
+    while 0 < p {
+        p -= 1;
+        value = value * 2 + bit_at(w, at + p) as u64;
+    }
+    value
+}

@@ -1,0 +1,53 @@
+// The search for the nearest position: positions are passed one after the other, the residual going up or down by one.
+ghost use mathlib.Core.Path.{_≡_};
+ghost use Prim.Native.Nat.{ℕ, _+_, _≤_, _<_};
+ghost use Rattle.bits.specs.Sums.{unlike};
+ghost use Rattle.position.specs.Scanned.{Scanned};
+
+// Where a search stands: the first position, the one that it has come to with its residual, and the nearest one met so far
+// with its residual.
+pub struct Scan {
+    pub low: u32,
+    pub position: u32,
+    pub residual: u32,
+    pub best: u32,
+    pub least: u32,
+}
+
+// The residual after a bit was turned to `new`: one less if that is what was received, one more if not.
+fn next_residual(residual: u32, new: u32, received: u32) -> u32
+    requires { ⌜ (residual < 1000) × (new < 2) × (received < 2) × (received ≡ new → 1 ≤ residual) ⌝ }
+    ensures { λ r. ⌜ ((old : ℕ) → old < 2 → unlike old new ≡ 1 → r + unlike old received ≡ residual + unlike new received) ⌝ }
+{
+    if received == new {
+        residual - 1
+    } else {
+        residual + 1
+    }
+}
+
+// One position on, with its residual.
+fn advance(s: Scan, residual: u32) -> Scan
+    requires { ⌜ s .position < 2000000 ⌝ }
+    ensures { λ r. ⌜ (r .low ≡ s .low) × (r .position ≡ s .position + 1) ⌝ }
+    ensures { λ r. ⌜ ((f : ℕ → ℕ) → Scanned f s → residual ≡ f (s .position + 1) → Scanned f r) ⌝ }
+{
+    let position = s.position + 1;
+    if residual < s.least {
+        Scan {
+            low: s.low,
+            position,
+            residual,
+            best: position,
+            least: residual,
+        }
+    } else {
+        Scan {
+            low: s.low,
+            position,
+            residual,
+            best: s.best,
+            least: s.least,
+        }
+    }
+}
