@@ -99,3 +99,9 @@ distance-one-place f g x (suc d) q h same =
     let here : unlike (f d) (x d) ≡ unlike (g d) (x d) = rw (same d (omega arith) (λ e. omega arith)) in
     omega (arith, distance-suc d f x, distance-suc d g x, distance-one-place f g x d q l (λ p b ne. same p (omega arith) ne)))
     (eq-or-lt-of-le {n = q} {m = d} (omega arith))
+
+-- no two words differ in more places than there are
+pub distance-le : (d : ℕ) (u v : ℕ → ℕ) → distance d u v ≤ d
+unfolding distance sum
+distance-le zero u v = omega arith
+distance-le (suc d) u v = omega (arith, distance-le d u v)

@@ -1,3 +1,5 @@
 pub mod StartSum
 pub mod ShiftIn
 pub mod Scanning
+pub mod Passing
+pub mod NearestSearch

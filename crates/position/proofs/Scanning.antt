@@ -16,21 +16,21 @@ module _ (f : ℕ → ℕ) (s : Scan) (scanned : Scanned f s) (residual : ℕ) (
   pub scanned-nearer : residual < s .least
       → Scanned f (record { low = s .low; position = s .position + 1; residual = residual; best = s .position + 1; least = residual })
   scanned-nearer h =
-      record
-        { begun = omega (arith, scanned .begun)
-        ; here = next
-        ; nearest = rw (leastAt-next f (s .low) (s .position) (scanned .begun), ← next, ← least-so-far, lt-ltb residual (s .least) h)
-        ; least = next
-        }
+      record {
+        begun = omega (arith, scanned .begun);
+        here = next;
+        nearest = rw (leastAt-next f (s .low) (s .position) (scanned .begun), ← next, ← least-so-far, lt-ltb residual (s .least) h);
+        least = next;
+      }
 
   pub scanned-no-nearer : s .least ≤ residual
       → Scanned f (record { low = s .low; position = s .position + 1; residual = residual; best = s .best; least = s .least })
   scanned-no-nearer h =
-      record
-        { begun = omega (arith, scanned .begun)
-        ; here = next
-        ; nearest =
+      record {
+        begun = omega (arith, scanned .begun);
+        here = next;
+        nearest =
             rw (leastAt-next f (s .low) (s .position) (scanned .begun), ← next, ← least-so-far, le-ltb residual (s .least) h)
-              (scanned .nearest)
-        ; least = scanned .least
-        }
+            (scanned .nearest);
+        least = scanned .least;
+      }

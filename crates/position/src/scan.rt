@@ -3,6 +3,8 @@ ghost use mathlib.Core.Path.{_≡_};
 ghost use Prim.Native.Nat.{ℕ, _+_, _≤_, _<_};
 ghost use Rattle.bits.specs.Sums.{unlike};
 ghost use Rattle.position.specs.Scanned.{Scanned};
+ghost use Rattle.position.specs.SearchReady.{SearchReady, Passes};
+use super::places;
 
 // Where a search stands: the first position, the one that it has come to with its residual, and the nearest one met so far
 // with its residual.
@@ -50,4 +52,25 @@ fn advance(s: Scan, residual: u32) -> Scan
             least: s.least,
         }
     }
+}
+
+// From place `at` to place `to` of block i, whose words w(i) and w(i+1) are u and v: each place in which they differ is one
+// position on.
+pub fn pass_places(u: &[u8; 40], v: &[u8; 40], x: &[u8; 40], at: u32, to: u32, s: Scan) -> Scan
+    requires { ⌜ SearchReady (now u) (now v) (now x) at to s ⌝ }
+    ensures { λ r. ⌜ (r .low ≡ s .low) × Passes (now (u .entry)) (now (v .entry)) (now (x .entry)) at to s r ⌝ }
+{
+    let mut q = at;
+    let mut state = s;
+    while q < to {
+        let old = places::bit_at(u, q);
+        let new = places::bit_at(v, q);
+        if old != new {
+            let received = places::bit_at(x, q);
+            let next = advance(state, next_residual(state.residual, new, received));
+            state = next;
+        }
+        q += 1;
+    }
+    state
 }

@@ -9,3 +9,4 @@ pub mod BoundedError
 pub mod DistinctWords
 pub mod Demands
 pub mod Stepping
+pub mod Bounds

@@ -49,10 +49,10 @@ cast-value c = search needs
 add-value : tie.Need-add-value Inv-loop μ-loop
 add-value c =
     let loop = c .before .before .loop in
-    record
-      { fits =
-          shift-in-fits (loop .value) (c .bit-at .result) (c .before .before .before .args .n - loop .p) (c .bit-at .ensures .1) (omega arith) (loop .inv .1)
-      }
+    record {
+      fits =
+          shift-in-fits (loop .value) (c .bit-at .result) (c .before .before .before .args .n - loop .p) (c .bit-at .ensures .1) (omega arith) (loop .inv .1);
+    }
 
 -- src/places.rt:50:5
 loop-less : tie.Need-loop-less Inv-loop μ-loop
@@ -64,19 +64,22 @@ loop-again c =
     let loop = c .before .before .loop in
     let n = c .before .before .before .args .n in
     let b = c .bit-at .result in
-    let one-more : n - (loop .p - 1) ≡ suc (n - loop .p) = omega arith in
-    (omega arith, rw one-more (shift-in-below (loop .value) b (c .bit-at .ensures .1) (n - loop .p) (loop .inv .1)),
+    let one-more : n - (loop .p - 1) ≡ suc (n - loop .p) = omega arith in (
+      omega arith,
+      rw one-more (shift-in-below (loop .value) b (c .bit-at .ensures .1) (n - loop .p) (loop .inv .1)),
       shift-in-place (loop .value) b n (loop .p) (λ q. place (c .before .before .before .args .w .now) (c .before .before .before .args .at + q))
-        (c .bit-at .ensures .1) (omega arith) (omega arith) (c .bit-at .ensures .0) (loop .inv .2))
+          (c .bit-at .ensures .1) (omega arith) (omega arith) (c .bit-at .ensures .0) (loop .inv .2),
+    )
 
 -- src/places.rt:44:1
 returns : tie.Need-returns Inv-loop μ-loop
 returns c =
     let loop = c .before .loop in
     let all : loop .p ≡ 0 = omega arith in
-    let none-left : c .before .before .args .n - loop .p ≡ c .before .before .args .n = omega arith in
-    (rw none-left at (loop .inv .1),
-      λ p l. loop .inv .2 p (omega arith) ∙ ap (place (c .before .before .args .w .now)) (omega arith))
+    let none-left : c .before .before .args .n - loop .p ≡ c .before .before .args .n = omega arith in (
+      rw none-left at (loop .inv .1),
+      λ p l. loop .inv .2 p (omega arith) ∙ ap (place (c .before .before .args .w .now)) (omega arith),
+    )
 
 pub chunk-at-spec : {M : Type 1} → statement M
 chunk-at-spec =

@@ -13,15 +13,19 @@ add-position c = search needs
 
 -- src/scan.rt:30:1
 returns : tie.Need-returns
-returns c =
-    ((refl, refl), λ f scanned next.
-      scanned-nearer f (c .before .before .before .args .s) scanned (c .before .before .before .args .residual) next (c .if1 .taken))
+returns c = (
+  (refl, refl),
+  λ f scanned next.
+      scanned-nearer f (c .before .before .before .args .s) scanned (c .before .before .before .args .residual) next (c .if1 .taken),
+)
 
 -- src/scan.rt:30:1
 returns-2 : tie.Need-returns-2
-returns-2 c =
-    ((refl, refl), λ f scanned next.
-      scanned-no-nearer f (c .before .before .before .args .s) scanned (c .before .before .before .args .residual) next (c .if1 .left))
+returns-2 c = (
+  (refl, refl),
+  λ f scanned next.
+      scanned-no-nearer f (c .before .before .before .args .s) scanned (c .before .before .before .args .residual) next (c .if1 .left),
+)
 
 pub advance-spec : {M : Type 1} → statement M
 advance-spec = tie.close (tie.spec add-position returns returns-2)

@@ -1,0 +1,74 @@
+-- A search for the nearest position, from its first word to its answer: the count over an array's 320 places is the
+-- residual, the words of a block are those that the arrays hold, and where the search has come to the last allowed position
+-- its nearest is the answer. Assumes nothing.
+use mathlib.Core.Path.{_≡_, refl, sym, _∙_, ap}
+use mathlib.Core.List.{List}
+use Prim.Native.Nat.{ℕ, zero, _+_, _-_, _*_, _≤_, _<_}
+use native.Mathlib.Nat.{le-dest, sub-self}
+use native.Mathlib.Omega.{arith}
+use Rattle.bits.specs.Sums.{sum, distance, from}
+use Rattle.bits.specs.Places.{place, cut}
+use Rattle.bits.specs.Searches.{leastAt}
+use Rattle.bits.proofs.Distance.{distance-ext, distance-self, distance-split}
+use Rattle.bits.proofs.Places.{cut-below, cut-above}
+use Rattle.model.specs.Card.{Code}
+use Rattle.model.specs.Order.{lastCodeword, start}
+use Rattle.model.specs.Words.{wordBits, word, wordAt}
+use Rattle.model.specs.Reading.{range, residual, nearest}
+use Rattle.model.specs.declared.ReadAnswer.the-variants.{At}
+use Rattle.code_theory.specs.Promise.{Sound}
+use Rattle.position_theory.proofs.Bounds.{word-bits-bound}
+use Rattle.position.specs.declared.scan.Scan.{Scan}
+use Rattle.position.specs.Received.{NothingSpare}
+use Rattle.position.specs.Scanned.{Scanned}
+use Rattle.position.specs.SearchReady.{BlockWords, PassedPlaces}
+
+-- the bits in which an array that holds a position's word differs from the received one are its residual
+pub count-is-residual : (C : Code) → Sound C → (w x : List ℕ) (position : ℕ)
+    → ((p : ℕ) → place w p ≡ cut (wordBits C) (wordAt C position) p) → NothingSpare C x
+    → distance 320 (place w) (place x) ≡ residual C (place x) position
+unfolding NothingSpare residual
+count-is-residual C sound w x position holds spare =
+    let rest = le-dest (word-bits-bound C sound) in
+    let none : distance (rest .0) (from (wordBits C) (place w)) (from (wordBits C) (place x)) ≡ 0 =
+      distance-ext (rest .0)
+        (λ p b. holds (wordBits C + p) ∙ cut-above (wordBits C) (wordAt C position) (wordBits C + p) (omega arith))
+        (λ p b. spare (wordBits C + p) (omega arith))
+      ∙ distance-self (rest .0) (λ p. 0)
+    in
+    let bits : distance (wordBits C) (place w) (place x) ≡ residual C (place x) position =
+      distance-ext (wordBits C) (λ p b. holds p ∙ cut-below (wordBits C) (wordAt C position) p b) (λ p b. refl)
+    in
+    ap (λ (d : ℕ). distance d (place w) (place x)) (sym (rest .1))
+    ∙ distance-split (wordBits C) (rest .0) (place w) (place x) ∙ omega arith
+
+-- a search that stands at its first position
+pub scanned-first : (f : ℕ → ℕ) (low residual : ℕ) → residual ≡ f low
+    → Scanned f (record { low = low; position = low; residual = residual; best = low; least = residual })
+unfolding leastAt
+scanned-first f low residual e =
+    record { begun = omega arith; here = e; nearest = rw (sub-self low); least = e }
+
+-- arrays that hold the words of a block
+pub block-words : (C : Code) (i : ℕ) (u v : List ℕ) → Sound C → i < lastCodeword C
+    → ((p : ℕ) → place u p ≡ cut (wordBits C) (word C i) p) → ((p : ℕ) → place v p ≡ cut (wordBits C) (word C (i + 1)) p)
+    → BlockWords C i u v
+block-words C i u v sound inside hu hv =
+    record
+      { sound = sound
+      ; inside = inside
+      ; old = λ p b. hu p ∙ cut-below (wordBits C) (word C i) p b
+      ; new = λ p b. hv p ∙ cut-below (wordBits C) (word C (i + 1)) p b
+      }
+
+-- a search that stands at the start of a block has passed none of its places
+pub passed-none : (C : Code) (i : ℕ) (x : List ℕ) (s : Scan) → s .position ≡ start C i → Scanned (residual C (place x)) s
+    → PassedPlaces C i x 0 s
+unfolding distance sum
+passed-none C i x s e scanned = record { within = omega arith; position-is = e ∙ omega arith; scanned = scanned }
+
+-- the answer of a search that has come from low to high
+pub answer-of-search : (C : Code) (x : ℕ → ℕ) (rule low high : ℕ) (s : Scan) → Scanned (residual C x) s → s .low ≡ low
+    → s .position ≡ high → At (s .best) (s .least) rule ≡ nearest C x (range rule low high)
+unfolding nearest
+answer-of-search C x rule low high s scanned l h = rw (← l, ← h, ← (scanned .nearest), scanned .least)
