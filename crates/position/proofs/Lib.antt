@@ -3,3 +3,10 @@ pub mod ShiftIn
 pub mod Scanning
 pub mod Passing
 pub mod NearestSearch
+pub mod TurnedPlaces
+pub mod ChunkByChunk
+pub mod ByteDistance
+pub mod ZeroBytes
+pub mod WordChunks
+pub mod WalkedWord
+pub mod CopiedWord

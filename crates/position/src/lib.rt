@@ -2,3 +2,4 @@
 pub mod blocks;
 pub mod places;
 pub mod scan;
+pub mod words;

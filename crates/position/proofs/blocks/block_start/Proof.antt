@@ -1,6 +1,6 @@
 -- `position::blocks::block_start` meets its contract. The loop's invariant: `begin` is the start as far as the rows below `z` go,
 -- which never exceeds the whole. The measure is the rows that are left. Assumes nothing.
-use Prim.Native.Nat.{_+_, _-_, _*_, _≤_, _<_}
+use Prim.Native.Nat.{_+_, _-_, _*_, _≤_}
 use mathlib.Core.Path.{_≡_, sym, ap₂, _∙_}
 use borrow.Author.Needs.{needs}
 use native.Mathlib.Omega.{arith}

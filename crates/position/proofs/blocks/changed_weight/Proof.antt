@@ -1,7 +1,7 @@
 -- `position::blocks::changed_weight` meets its contract: the changed row is the one whose number is the count of trailing zeros of
 -- i + 1, one of the code's rows. Assumes nothing.
-use Prim.Native.Nat.{_+_, _^_, _<_}
-use mathlib.Core.Path.{_≡_, _∙_}
+use Prim.Native.Nat.{_+_, _<_}
+use mathlib.Core.Path.{_≡_}
 use borrow.Author.Needs.{needs}
 use native.Mathlib.Omega.{arith}
 use lib.Count.{trailingZeros}

@@ -1,5 +1,4 @@
 -- `position::blocks::last_position` meets its contract: it is the start of the last block. Assumes nothing.
-use mathlib.Core.Path.{_∙_}
 use borrow.Author.Needs.{needs}
 use Rattle.model.specs.Order.{lastPosition}
 use Rattle.position.proofs.blocks.last_position.Statement.{statement}

@@ -1,0 +1,65 @@
+-- `position::words::bits_unlike` meets its contract. The loop's invariant: `unlike` is the distance of the first `j` bytes. The
+-- measure is the bytes that are left. Assumes nothing.
+use Prim.Native.Nat.{_-_, _*_, _≤_}
+use mathlib.Core.Path.{_≡_, refl}
+use borrow.Author.Needs.{needs}
+use native.Mathlib.Omega.{arith}
+use Rattle.bits.specs.Sums.{sum, distance}
+use Rattle.bits.specs.Places.{place}
+use Rattle.position.proofs.ByteDistance.{distance-byte}
+use Rattle.position.proofs.words.bits_unlike.Statement.{statement}
+use Rattle.position.proofs.words.bits_unlike.Tie as tie
+
+abbrev Inv-loop : tie.InvT-loop
+Inv-loop a b unlike₀ j₀ unlike j = (j ≤ 40) × (unlike ≡ distance (8 * j) (place a) (place b)) × (unlike ≤ 8 * j)
+
+abbrev μ-loop : tie.MeasureT-loop
+μ-loop a b unlike₀ j₀ unlike j = 40 - j
+
+loop-holds : tie.Need-loop-holds Inv-loop μ-loop
+unfolding distance sum
+loop-holds c = (omega arith, refl, omega arith)
+
+array-read-byte-unlike : tie.Need-array-read-byte-unlike Inv-loop μ-loop
+array-read-byte-unlike c = search needs
+
+array-read-byte-unlike-2 : tie.Need-array-read-byte-unlike-2 Inv-loop μ-loop
+array-read-byte-unlike-2 c = search needs
+
+byte-unlike-requires : tie.Need-byte-unlike-requires Inv-loop μ-loop
+byte-unlike-requires c κs = search needs
+
+add-unlike : tie.Need-add-unlike Inv-loop μ-loop
+add-unlike c = search needs
+
+add-j : tie.Need-add-j Inv-loop μ-loop
+add-j c = search needs
+
+loop-less : tie.Need-loop-less Inv-loop μ-loop
+loop-less c = search needs
+
+loop-again : tie.Need-loop-again Inv-loop μ-loop
+loop-again c =
+    let loop = c .before .before .loop in
+    let args = c .before .before .before .args in
+    (omega arith, omega (arith, loop .inv .1, c .byte-unlike .ensures .0, distance-byte (args .t1) (args .t2) (loop .j)), omega (arith, c .byte-unlike .ensures .1))
+
+returns : tie.Need-returns Inv-loop μ-loop
+returns c =
+    let all : c .before .loop .j ≡ 40 = omega arith in rw (c .before .loop .inv .1, all)
+
+pub bits-unlike-spec : {M : Type 1} → statement M
+bits-unlike-spec =
+    tie.close
+    (tie.spec
+    Inv-loop
+    μ-loop
+    loop-holds
+    array-read-byte-unlike
+    array-read-byte-unlike-2
+    byte-unlike-requires
+    add-unlike
+    add-j
+    loop-less
+    loop-again
+    returns)

@@ -1,0 +1,113 @@
+-- `position::words::word_of` meets its contract: each chunk is put down behind the ones before it, by one law each.
+-- Assumes nothing.
+use Prim.Native.Nat.{ℕ, _+_, _%_, _≤_, _<_}
+use mathlib.Core.Path.{_≡_}
+use mathlib.Core.List.{List}
+use borrow.Author.Needs.{needs}
+use native.Mathlib.Omega.{arith}
+use Rattle.bits.specs.Places.{bit, place}
+use Rattle.model.specs.Card.{Code}
+use Rattle.model.specs.Decoded.{meaning}
+use Rattle.code_theory.proofs.LeastDistance.{D-high}
+use Rattle.position.proofs.WordChunks.{UpTo, put-separator₁, put-chunk₁, put-separator₂, put-chunk₂, put-separator₃, zeros-behind}
+use Rattle.position.proofs.ZeroBytes.{zero-place}
+use Rattle.position.proofs.words.word_of.Statement.{statement}
+use Rattle.position.proofs.words.word_of.Tie as tie
+
+module _ (c : tie.After-codeword) where
+  abbrev C : Code
+  C = meaning (c .before .before .args .code)
+
+  -- where chunk 1, separator 2, chunk 2 and separator 3 start
+  abbrev at₁ : ℕ
+  at₁ = C .D
+
+  abbrev at₂ : ℕ
+  at₂ = at₁ + C .n
+
+  abbrev at₃ : ℕ
+  at₃ = at₂ + C .D
+
+  abbrev at₄ : ℕ
+  at₄ = at₃ + C .n
+
+  -- a word that holds the bits of w(i) up to a place
+  abbrev Holds : ℕ → List ℕ → Type 0
+  Holds at held = UpTo C (c .before .before .args .i) at (place held)
+
+  fits : (C .n ≤ 64) × (C .D ≤ 64)
+  fits = (c .before .before .pre .n-high, omega (arith, D-high C (c .before .before .pre), c .before .before .pre .n-high))
+
+  parity-bits : (p : ℕ) → p < C .D → bit (c .before .separator .result) p ≡ c .before .before .args .i % 2
+  parity-bits p b = c .before .separator .ensures p (omega (arith, fits))
+
+first : (c : tie.After-put-chunk) → let o = c .before in Holds o (at₁ o) (c .put-chunk .result)
+first c =
+    let o = c .before in
+    put-separator₁ _ _ _ _ (parity-bits o) (o .codeword .ensures .0) (zero-place 40) (c .put-chunk .ensures)
+
+second : (c : tie.After-put-chunk2) → let o = c .before .before in Holds o (at₂ o) (c .put-chunk2 .result)
+second c =
+    let o = c .before .before in
+    put-chunk₁ _ _ _ _ (parity-bits o) (o .codeword .ensures .0) (first (c .before)) (c .put-chunk2 .ensures)
+
+third : (c : tie.After-put-chunk3) → let o = c .before .before .before in Holds o (at₃ o) (c .put-chunk3 .result)
+third c =
+    let o = c .before .before .before in
+    put-separator₂ _ _ _ _ (parity-bits o) (o .codeword .ensures .0) (second (c .before)) (c .put-chunk3 .ensures)
+
+fourth : (c : tie.After-put-chunk4) → let o = c .before .before .before .before in Holds o (at₄ o) (c .put-chunk4 .result)
+fourth c =
+    let o = c .before .before .before .before in
+    put-chunk₂ _ _ _ _ (parity-bits o) (o .codeword .ensures .0) (third (c .before)) (c .put-chunk4 .ensures)
+
+separator-requires : tie.Need-separator-requires
+separator-requires c κs = search needs
+
+codeword-requires : tie.Need-codeword-requires
+codeword-requires c κs = search needs
+
+add-at2 : tie.Need-add-at2
+add-at2 c = omega (arith, fits c)
+
+add-at3 : tie.Need-add-at3
+add-at3 c = omega (arith, fits c)
+
+add-at4 : tie.Need-add-at4
+add-at4 c = omega (arith, fits c)
+
+put-chunk-requires : tie.Need-put-chunk-requires
+put-chunk-requires c κs = (omega (arith, fits c), fits c .1, λ p _. zero-place 40 p)
+
+put-chunk-requires-2 : tie.Need-put-chunk-requires-2
+put-chunk-requires-2 c κs = (omega (arith, fits (c .before)), fits (c .before) .0, zeros-behind _ _ _ (first c))
+
+put-chunk-requires-3 : tie.Need-put-chunk-requires-3
+put-chunk-requires-3 c κs = (omega (arith, fits (c .before .before)), fits (c .before .before) .1, zeros-behind _ _ _ (second c))
+
+put-chunk-requires-4 : tie.Need-put-chunk-requires-4
+put-chunk-requires-4 c κs = (omega (arith, fits (c .before .before .before)), fits (c .before .before .before) .0, zeros-behind _ _ _ (third c))
+
+put-chunk-requires-5 : tie.Need-put-chunk-requires-5
+put-chunk-requires-5 c κs = (omega (arith, fits (c .before .before .before .before)), fits (c .before .before .before .before) .1, zeros-behind _ _ _ (fourth c))
+
+returns : tie.Need-returns
+returns c =
+    let o = c .before .before .before .before .before in
+    put-separator₃ _ _ _ _ (parity-bits o) (o .codeword .ensures .0) (fourth (c .before)) (c .put-chunk5 .ensures)
+
+pub word-of-spec : {M : Type 1} → statement M
+word-of-spec =
+    tie.close
+    (tie.spec
+    separator-requires
+    codeword-requires
+    add-at2
+    add-at3
+    add-at4
+    put-chunk-requires
+    put-chunk-requires-2
+    put-chunk-requires-3
+    put-chunk-requires-4
+    put-chunk-requires-5
+    returns)

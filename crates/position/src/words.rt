@@ -1,0 +1,162 @@
+// Words: w(i), the word of a position, a received word, and in how many bits two words differ.
+// Inside the library a word is an array of the widest word's forty bytes, passed and returned by value. Place p is bit p mod 8,
+// lowest first, of byte p / 8, and the places past the word's bits are 0.
+ghost use mathlib.Core.Path.{_≡_};
+ghost use Prim.Native.Nat.{ℕ, _+_, _*_, _%_, _^_, _≤_, _<_};
+ghost use lib.Bits.{bitXor};
+ghost use lib.ListN.{length};
+ghost use Rattle.bits.specs.Sums.{unlike, distance, join};
+ghost use Rattle.bits.specs.Walk.{walk};
+ghost use Rattle.bits.specs.Places.{bit, place, cut};
+ghost use Rattle.model.specs.Answers.{wordLength};
+ghost use Rattle.model.specs.Decoded.{meaning};
+ghost use Rattle.model.specs.Order.{lastCodeword, lastPosition};
+ghost use Rattle.model.specs.Words.{wordBits, word, wordAt, wordBytes};
+ghost use Rattle.code_theory.specs.Promise.{Sound};
+use super::blocks;
+use chunk::codeword;
+use model::DecodedCode;
+
+// A byte with bit q turned if `by` is 1, and as it was if `by` is 0.
+fn turned(byte: u8, q: u32, by: u8) -> u8
+    requires { ⌜ (q < 8) × (by < 2) ⌝ }
+    ensures { λ r. ⌜ r ≡ bitXor byte (by * 2 ^ q) ⌝ }
+{
+    byte ^ (by << q)
+}
+
+// Bit q of a value of 64 bits.
+fn bit_of(value: u64, q: u32) -> u8
+    requires { ⌜ q < 64 ⌝ }
+    ensures { λ r. ⌜ (r ≡ bit value q) × (r < 2) ⌝ }
+{
+    ((value >> q) % 2) as u8
+}
+
+// The word with one more chunk: the first `len` bits of `value` from place `at` on.
+fn put_chunk(before: [u8; 40], at: u32, len: u32, value: u64) -> [u8; 40]
+    requires { ⌜ (at + len ≤ 320) × (len ≤ 64) × ((p : ℕ) → at ≤ p → place before p ≡ 0) ⌝ }
+    ensures { λ r. ⌜ ((p : ℕ) → place r p ≡ join at (place before) (cut len (bit value)) p) ⌝ }
+{
+    let mut word = before;
+    let mut p: u32 = 0;
+    while p < len {
+        let q = at + p;
+        let j = (q / 8) as usize;
+        word[j] = turned(word[j], q % 8, bit_of(value, p));
+        p += 1;
+    }
+    word
+}
+
+// The bits of a separator: each the parity of i.
+fn separator(i: u32) -> u64
+    ensures { λ r. ⌜ ((p : ℕ) → p < 64 → bit r p ≡ i % 2) ⌝ }
+{
+    if i % 2 == 0 {
+        return 0;
+    }
+    u64::MAX
+}
+
+// w(i), built chunk by chunk.
+pub fn word_of(code: DecodedCode, i: u32) -> [u8; 40]
+    requires { ⌜ Sound (meaning code) ⌝ }
+    ensures { λ r. ⌜ ((p : ℕ) → place r p ≡ cut (wordBits (meaning code)) (word (meaning code) i) p) ⌝ }
+{
+    let n = code.n;
+    let d = code.distance;
+    let parity = separator(i);
+    let c = codeword::codeword(code, i);
+    let at2 = d + n;
+    let at3 = at2 + d;
+    let at4 = at3 + n;
+    let separator1 = put_chunk([0u8; 40], 0, d, parity);
+    let chunk1 = put_chunk(separator1, d, n, c);
+    let separator2 = put_chunk(chunk1, at2, d, parity);
+    let chunk2 = put_chunk(separator2, at3, n, c);
+    put_chunk(chunk2, at4, d, parity)
+}
+
+// In how many bits two bytes differ.
+fn byte_unlike(x: u8, y: u8) -> u32
+    ensures { λ r. ⌜ (r ≡ distance 8 (bit x) (bit y)) × (r ≤ 8) ⌝ }
+{
+    u32::count_ones((x ^ y) as u32)
+}
+
+// In how many bits two words differ: the distance count, to which both words are passed by value.
+pub fn bits_unlike(a: [u8; 40], b: [u8; 40]) -> u32
+    ensures { λ r. ⌜ r ≡ distance 320 (place a) (place b) ⌝ }
+{
+    let mut unlike: u32 = 0;
+    let mut j: usize = 0;
+    while j < 40 {
+        unlike += byte_unlike(a[j], b[j]);
+        j += 1;
+    }
+    unlike
+}
+
+// The bytes of a received word, and zeros after them.
+pub fn received(word: &[u8]) -> [u8; 40]
+    requires { ⌜ length (now word) ≤ 40 ⌝ }
+    ensures { λ r. ⌜ ((p : ℕ) → place r p ≡ place (now (word .entry)) p) ⌝ }
+{
+    let mut held = [0u8; 40];
+    let mut j: usize = 0;
+    while j < word.len() {
+        held[j] = word[j];
+        j += 1;
+    }
+    held
+}
+
+// Bit q of two bytes' difference: 1 if they differ there, else 0.
+fn differs_at(x: u8, y: u8, q: u32) -> u8
+    requires { ⌜ q < 8 ⌝ }
+    ensures { λ r. ⌜ r ≡ unlike (bit x q) (bit y q) ⌝ }
+{
+    ((x ^ y) >> q) % 2
+}
+
+// w(i) with the first m places in which w(i) and w(i + 1) differ taken from w(i + 1).
+pub fn word_in_block(code: DecodedCode, i: u32, m: u32) -> [u8; 40]
+    requires { ⌜ Sound (meaning code) × (i ≤ lastCodeword (meaning code)) × (m ≤ distance (wordBits (meaning code)) (word (meaning code) i) (word (meaning code) (i + 1))) ⌝ }
+    ensures { λ r. ⌜ ((p : ℕ) → place r p ≡ cut (wordBits (meaning code)) (walk (word (meaning code) i) (word (meaning code) (i + 1)) m) p) ⌝ }
+{
+    let next = word_of(code, i + 1);
+    let mut held = word_of(code, i);
+    let mut passed: u32 = 0;
+    let mut q: u32 = 0;
+    while passed < m {
+        let j = (q / 8) as usize;
+        let differs = differs_at(held[j], next[j], q % 8);
+        held[j] = turned(held[j], q % 8, differs);
+        passed += differs as u32;
+        q += 1;
+    }
+    held
+}
+
+// The word of a position.
+pub fn word_at(code: DecodedCode, position: u32) -> [u8; 40]
+    requires { ⌜ Sound (meaning code) × (position ≤ lastPosition (meaning code)) ⌝ }
+    ensures { λ r. ⌜ ((p : ℕ) → place r p ≡ cut (wordBits (meaning code)) (wordAt (meaning code) position) p) ⌝ }
+{
+    let i = blocks::block_of(code, position);
+    word_in_block(code, i, position - blocks::block_start(code, i))
+}
+
+// Writes the word of a position to the lent bytes.
+pub fn write(code: DecodedCode, position: u32, lent: &mut [u8])
+    requires { ⌜ Sound (meaning code) × (position ≤ lastPosition (meaning code)) × (length (now lent) ≡ wordLength (meaning code)) ⌝ }
+    ensures { λ r. ⌜ now (lent .exit) ≡ wordBytes (meaning code) position ⌝ }
+{
+    let word = word_at(code, position);
+    let mut j: usize = 0;
+    while j < lent.len() {
+        lent[j] = word[j];
+        j += 1;
+    }
+}
