@@ -33,9 +33,19 @@ module _ (card : List ℕ) (decoded : Decoded) (from : DecodedFrom card decoded)
   not-refused : cardRefusal card ≡ 0
   not-refused = sym (from .refusal) ∙ sound
 
-  pub card-sound : (last : ℕ) → last ≡ lastPosition (meaning (decoded .code)) → Sound (record { n = decoded .code .n; k = decoded .code .k; track = decoded .track; distance = decoded .code .distance; radius = radius (meaning (decoded .code)); bits = wordBits (meaning (decoded .code)); last = last }) ≡ cardAnswer card
+  pub card-sound : (bits last : ℕ) → bits ≡ wordBits (meaning (decoded .code)) → last ≡ lastPosition (meaning (decoded .code))
+      → Sound (record {
+        n = decoded .code .n;
+        k = decoded .code .k;
+        track = decoded .track;
+        distance = decoded .code .distance;
+        radius = radius (meaning (decoded .code));
+        bits = bits;
+        last = last;
+      }) ≡ cardAnswer card
   unfolding cardAnswer summaryOf
-  card-sound last is = rw (eq-eqb (cardRefusal card) 0 not-refused, ← (from .code sound), ← (from .track sound), is)
+  card-sound bits last is-bits is-last =
+      rw (eq-eqb (cardRefusal card) 0 not-refused, ← (from .code sound), ← (from .track sound), is-bits, is-last)
 
   pub start-above : (last block : ℕ) → last ≡ lastCodeword (meaning (decoded .code)) → last < block
       → NumberRefused 7 ≡ startAnswer card block

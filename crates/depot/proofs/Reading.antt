@@ -1,6 +1,6 @@
 -- What a read answers, one law for each way out of the code; the theorems of demands 2 and 3 hold of the answer that the
 -- definition gives. Assumes nothing.
-use mathlib.Core.Path.{_≡_}
+use mathlib.Core.Path.{_≡_, refl}
 use mathlib.Core.List.{List}
 use Prim.Native.Nat.{ℕ}
 use borrow.Author.Tests.{eq-eqb, ne-eqb}
@@ -17,16 +17,19 @@ module _ (card received : List ℕ) where
   -- what the contract of the read says of its answer
   abbrev Meets : ReadAnswer → Type 0
   Meets answer =
-      (answer ≡ readAnswer card received) × OffByAtMostTwiceTurned card received answer
-      × OffByAtMostTurnedAndResidual card received answer × NearestOfAllowed card received answer
+      (answer ≡ readAnswer card received)
+      × (OffByAtMostTwiceTurned card received answer
+      × (OffByAtMostTurnedAndResidual card received answer × NearestOfAllowed card received answer))
 
   meets : (answer : ReadAnswer) → answer ≡ readAnswer card received → Meets answer
-  meets answer e = (
-    e,
-    rw e (off-by-at-most-twice-turned card received),
-    rw e (off-by-at-most-turned-and-residual card received),
-    rw e (nearest-of-allowed card received),
-  )
+  meets answer e =
+      (rw e (
+        refl,
+        (
+          off-by-at-most-twice-turned card received,
+          (off-by-at-most-turned-and-residual card received, nearest-of-allowed card received),
+        ),
+      ))
 
   module _ (decoded : Decoded) (from : DecodedFrom card decoded) where
     pub card-refused : (decoded .refusal ≡ 0 → ⊥) → Meets (Refused (decoded .refusal))

@@ -30,9 +30,10 @@ module _ (card : List ℕ) (position : ℕ) (lent : List ℕ) where
   -- what the contract of the write says of its answer and of the lent word as the write leaves it
   abbrev Meets : WriteAnswer → List ℕ → Type 0
   Meets answer left =
-      (answer ≡ writeAnswer card position lent) × (left ≡ lentAfterWrite card position lent)
-      × (answer ≡ Written → NeighboursDifferInOneBit card position left)
-      × (answer ≡ Written → NoOtherPositionsWord card position left)
+      (answer ≡ writeAnswer card position lent)
+      × ((left ≡ lentAfterWrite card position lent)
+      × ((answer ≡ Written → NeighboursDifferInOneBit card position left)
+      × (answer ≡ Written → NoOtherPositionsWord card position left)))
 
   the-word : writeAnswer card position lent ≡ Written → lentAfterWrite card position lent ≡ wordBytes (codeOf card) position
   unfolding writeAnswer lentAfterWrite
@@ -42,9 +43,13 @@ module _ (card : List ℕ) (position : ℕ) (lent : List ℕ) where
       → left ≡ lentAfterWrite card position lent → Meets answer left
   meets answer left e f = (
     e,
-    f,
-    λ w. rw (f ∙ the-word (sym e ∙ w)) (neighbours-differ-in-one-bit card position),
-    λ w. rw (f ∙ the-word (sym e ∙ w)) (no-other-positions-word card position),
+    (
+      f,
+      (
+        λ w. rw (f ∙ the-word (sym e ∙ w)) (neighbours-differ-in-one-bit card position),
+        λ w. rw (f ∙ the-word (sym e ∙ w)) (no-other-positions-word card position),
+      ),
+    ),
   )
 
   refused : (refusal : ℕ) → writeRefusal card position lent ≡ refusal → (refusal ≡ 0 → ⊥) → Meets (Refused refusal) lent

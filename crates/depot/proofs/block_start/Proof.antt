@@ -26,7 +26,8 @@ block-start-requires c κs =
 returns-3 : tie.Need-returns-3
 returns-3 c =
     let decoded = c .before .before .before .before in
-    start-within _ _ (decoded .before .before .decode .ensures) (decoded .if1 .left) _ _ _ (c .before .before .last-codeword .ensures) (c .before .if2 .left) (c .block-start .ensures)
+    start-within _ _ (decoded .before .before .decode .ensures) (decoded .if1 .left) _ _ _
+    (c .before .before .last-codeword .ensures) (c .before .if2 .left) (c .block-start .ensures)
 
 pub block-start-spec : {M : Type 1} → statement M
 block-start-spec =

@@ -18,7 +18,8 @@ last-position-requires c κs = c .before .before .decode .ensures .sound (c .if1
 returns-2 : tie.Need-returns-2
 returns-2 c =
     let decoded = c .before .before in
-    millimetres-above _ _ (decoded .before .before .decode .ensures) (decoded .if1 .left) _ _ (c .before .last-position .ensures) (c .if2 .taken)
+    millimetres-above _ _ (decoded .before .before .decode .ensures) (decoded .if1 .left) _ _
+    (c .before .last-position .ensures) (c .if2 .taken)
 
 mul-t5 : tie.Need-mul-t5
 mul-t5 c =
@@ -29,7 +30,8 @@ mul-t5 c =
 returns-3 : tie.Need-returns-3
 returns-3 c =
     let decoded = c .before .before in
-    millimetres-within _ _ (decoded .before .before .decode .ensures) (decoded .if1 .left) _ _ (c .before .last-position .ensures) (c .if2 .left)
+    millimetres-within _ _ (decoded .before .before .decode .ensures) (decoded .if1 .left) _ _
+    (c .before .last-position .ensures) (c .if2 .left)
 
 pub millimetres-spec : {M : Type 1} → statement M
 millimetres-spec =

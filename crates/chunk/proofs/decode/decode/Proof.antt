@@ -65,7 +65,8 @@ returns-3 c =
     let weighed = c .before .before in
     let first = weighed .before .before .before .before in
     sound-from _ _ refl (independent-sound _ (shaped first) (λ z. c .before .if2 .left (least weighed ∙ z))) (c .track-of .ensures)
-    (code-of-least _ (shaped first) _ _ _ (weighed .before .rows-of .result) (weighed .before .before .before .byte-at .ensures .0) (weighed .before .before .byte-at2 .ensures .0)
+    (code-of-least _ (shaped first) _ _ _ (weighed .before .rows-of .result)
+    (weighed .before .before .before .byte-at .ensures .0) (weighed .before .before .byte-at2 .ensures .0)
     (weighed .before .rows-of .ensures) (least weighed) (λ z. c .before .if2 .left (least weighed ∙ z)))
 
 pub decode-spec : {M : Type 1} → statement M
