@@ -1,0 +1,341 @@
+// A second reader of robust Gray position words: cards, words, positions and readings, written from document 01's words
+// by plain search, to be compared with the library.
+//
+// Nothing here is clever. Words are made by walking from position 0 and turning one bit a step, block starts by
+// counting those steps, the least distance by summing every set of rows, a chunk's codeword by trying all, and the
+// nearest allowed position by trying each with its full word. The functions are proved safe and ending; their answers
+// are not proved, they are compared.
+//
+// Every function takes any input. A refusal is the number of document 01's table; 0 means that there is none.
+pub mod bits;
+pub mod code;
+pub mod search;
+pub mod steps;
+
+ghost use mathlib.Core.Path.{_≡_};
+ghost use Prim.Native.Nat.{_+_, _*_, _≤_, _<_};
+
+// What a sound card is answered with. Of a refused card every field but the refusal is 0.
+pub struct CardFacts {
+    pub refusal: u8,
+    pub n: u8,
+    pub k: u8,
+    pub track: u16,
+    pub distance: u32,
+    pub radius: u32,
+    pub bits: u32,
+    pub last: u32,
+}
+
+// The word that a write leaves in the lent bytes: its length and its bytes, zero from the length on. Of a refused
+// write, which changes no lent byte, both are 0.
+pub struct Word {
+    pub refusal: u8,
+    pub len: usize,
+    pub bytes: [u8; 40],
+}
+
+// A received word's position, residual and rule. Of a refused word all three are 0.
+pub struct Reading {
+    pub refusal: u8,
+    pub position: u32,
+    pub residual: u32,
+    pub rule: u8,
+}
+
+// A number, or a refusal with the value 0.
+pub struct Number {
+    pub refusal: u8,
+    pub value: u64,
+}
+
+// A card that was checked once, with the starts of its blocks and its last position, for a caller with many words.
+pub struct Prepared {
+    pub card: code::Checked,
+    pub starts: [u32; 4096],
+    pub last: u32,
+}
+
+// A walk along a track: the position, the last position, and that position's word as single bits. Of a refused card
+// the walk has the refusal, and stays at position 0 of a track that ends there.
+pub struct Walk {
+    pub refusal: u8,
+    pub position: u32,
+    pub last: u32,
+    pub card: code::Checked,
+    pub stand: steps::Stand,
+    pub bits: [u8; 320],
+}
+
+// Checks a card and counts its block starts.
+pub fn prepare(card: &[u8]) -> Prepared {
+    let c = code::check(card);
+    let starts = steps::block_starts(c);
+    let top = code::codewords(c.k) - 1;
+    let last = starts[top as usize];
+    Prepared {
+        card: c,
+        starts,
+        last,
+    }
+}
+
+// What a prepared card is answered with.
+pub fn prepared_facts(p: Prepared) -> CardFacts {
+    let held = p.card;
+    let c = code::within_limits(held);
+    if c.refusal != 0 {
+        return CardFacts {
+            refusal: c.refusal,
+            n: 0,
+            k: 0,
+            track: 0,
+            distance: 0,
+            radius: 0,
+            bits: 0,
+            last: 0,
+        };
+    }
+    CardFacts {
+        refusal: 0,
+        n: c.n as u8,
+        k: c.k as u8,
+        track: c.track,
+        distance: c.distance as u32,
+        radius: search::radius(c.distance) as u32,
+        bits: bits::bit_count(c.n, c.distance) as u32,
+        last: p.last,
+    }
+}
+
+// Checks a card: its facts, or the refusal.
+pub fn card_facts(card: &[u8]) -> CardFacts {
+    prepared_facts(prepare(card))
+}
+
+// The walk at position 0 of a prepared card.
+pub fn prepared_walk(p: Prepared) -> Walk
+    ensures { λ r. ⌜ r .position ≡ 0 ⌝ }
+{
+    let c = p.card;
+    let rows = c.rows;
+    let stand = steps::first_stand(&rows);
+    let bits = steps::first_word();
+    Walk {
+        refusal: c.refusal,
+        position: 0,
+        last: p.last,
+        card: c,
+        stand,
+        bits,
+    }
+}
+
+// The walk at position 0 of a card.
+pub fn walk_start(card: &[u8]) -> Walk {
+    prepared_walk(prepare(card))
+}
+
+// The walk one position further, with one bit turned. At the last position it stays.
+pub fn walk_step(w: Walk) -> Walk {
+    walk_on(w, 1)
+}
+
+// The walk so many positions further, one step after another, at most to the last position.
+pub fn walk_on(w: Walk, count: u64) -> Walk {
+    let ahead = rest_of(w.position, w.last, count);
+    let held = w.card;
+    let c = code::within_limits(held);
+    let at = w.stand;
+    let mut bits = w.bits;
+    let stand = steps::advance(c, at, ahead as u64, &mut bits);
+    Walk {
+        refusal: w.refusal,
+        position: w.position + ahead,
+        last: w.last,
+        card: c,
+        stand,
+        bits,
+    }
+}
+
+// So many steps, or those that are left to the last position if they are fewer.
+fn rest_of(position: u32, last: u32, count: u64) -> u32
+    ensures { λ r. ⌜ position + r < 4294967296 ⌝ }
+{
+    if last <= position {
+        return 0;
+    }
+    let left = last - position;
+    if count < left as u64 {
+        count as u32
+    } else {
+        left
+    }
+}
+
+// The bytes of a walk's word, zero past the word's own.
+pub fn walk_bytes(w: Walk) -> [u8; 40] {
+    let bits = w.bits;
+    bits::pack(&bits)
+}
+
+// A refused write.
+fn no_word(number: u8) -> Word {
+    let none = [0u8; 40];
+    Word {
+        refusal: number,
+        len: 0,
+        bytes: none,
+    }
+}
+
+// Writes the word of a position into a lent word of `lent_len` bytes.
+pub fn write(card: &[u8], position: u64, lent_len: usize) -> Word {
+    let p = prepare(card);
+    let held = p.card;
+    let c = code::within_limits(held);
+    if c.refusal != 0 {
+        return no_word(c.refusal);
+    }
+    let len = bits::byte_count(bits::bit_count(c.n, c.distance));
+    if lent_len != len {
+        return no_word(6);
+    }
+    if (p.last as u64) < position {
+        return no_word(7);
+    }
+    let w = walk_on(prepared_walk(p), position);
+    let bytes = walk_bytes(w);
+    Word {
+        refusal: 0,
+        len,
+        bytes,
+    }
+}
+
+// A refused reading.
+fn no_reading(number: u8) -> Reading {
+    Reading {
+        refusal: number,
+        position: 0,
+        residual: 0,
+        rule: 0,
+    }
+}
+
+// Reads a received word of a card.
+pub fn read(card: &[u8], word: &[u8]) -> Reading {
+    let p = prepare(card);
+    read_prepared(p, word)
+}
+
+// Reads a received word of a prepared card.
+pub fn read_prepared(p: Prepared, word: &[u8]) -> Reading {
+    read_along(p, prepared_walk(p), word)
+}
+
+// Reads a received word of a prepared card. The search walks to the first allowed position from where `w`, a walk of
+// the same card, stands, or from position 0 if `w` is past it. Both give the same answer; a caller who reads words in
+// the order of their positions saves steps.
+pub fn read_along(p: Prepared, w: Walk, word: &[u8]) -> Reading {
+    let held = p.card;
+    let c = code::within_limits(held);
+    if c.refusal != 0 {
+        return no_reading(c.refusal);
+    }
+    let d = bits::bit_count(c.n, c.distance);
+    if word.len() != bits::byte_count(d) {
+        return no_reading(6);
+    }
+    let received = bits::unpack(word);
+    if bits::spare_bit_set(&received, d) {
+        return no_reading(8);
+    }
+    read_bits(c, p, w, &received)
+}
+
+// Reads a received word whose length and spare bits are right, given as its bits.
+fn read_bits(c: code::Checked, p: Prepared, w: Walk, received: &[u8; 320]) -> Reading
+    requires { ⌜ (c .n ≤ 64) × (c .k ≤ 12) × (c .distance ≤ 64) ⌝ }
+{
+    let starts = p.starts;
+    let range = search::allowed_positions(c, &starts, p.last, received);
+    if range.refusal != 0 {
+        return no_reading(range.refusal);
+    }
+    if (w.position as u64) <= range.low {
+        return read_range(c, w, range, received);
+    }
+    read_range(c, prepared_walk(p), range, received)
+}
+
+// The nearest of the allowed positions, sought from a walk that stands at the first of them or below.
+fn read_range(c: code::Checked, w: Walk, range: search::Allowed, received: &[u8; 320]) -> Reading
+    requires { ⌜ (c .n ≤ 64) × (c .k ≤ 12) × (c .distance ≤ 64) × (range .high < 8589934592) × (w .position ≤ range .low) ⌝ }
+{
+    let mut bits = w.bits;
+    let at = w.stand;
+    let first = steps::advance(c, at, range.low - w.position as u64, &mut bits);
+    let found = search::nearest(c, first, bits, range.low, range.high, received);
+    Reading {
+        refusal: 0,
+        position: narrow(found.position),
+        residual: found.residual,
+        rule: range.rule,
+    }
+}
+
+// A position as a narrower number. No position of a card is above 320 × 4095.
+fn narrow(x: u64) -> u32 {
+    if x < 4294967296 {
+        return x as u32;
+    }
+    4294967295
+}
+
+// The start of a block.
+pub fn block_start(card: &[u8], block: u64) -> Number {
+    let p = prepare(card);
+    let held = p.card;
+    let c = code::within_limits(held);
+    if c.refusal != 0 {
+        return Number {
+            refusal: c.refusal,
+            value: 0,
+        };
+    }
+    if code::codewords(c.k) <= block {
+        return Number {
+            refusal: 7,
+            value: 0,
+        };
+    }
+    let starts = p.starts;
+    Number {
+        refusal: 0,
+        value: search::start_of(&starts, block),
+    }
+}
+
+// A position's distance from the buffer face: 50 mm × position.
+pub fn millimetres(card: &[u8], position: u64) -> Number {
+    let p = prepare(card);
+    let c = p.card;
+    if c.refusal != 0 {
+        return Number {
+            refusal: c.refusal,
+            value: 0,
+        };
+    }
+    if (p.last as u64) < position {
+        return Number {
+            refusal: 7,
+            value: 0,
+        };
+    }
+    Number {
+        refusal: 0,
+        value: 50 * position,
+    }
+}
