@@ -43,8 +43,7 @@ write-requires : tie.Need-write-requires
 write-requires c κs =
     let located = c .before in
     let measured = located .before .before in (
-      sound (measured .before .before .before),
-      rw (located .before .last-position .ensures) at (located .if3 .left),
+      (sound (measured .before .before .before), rw (located .before .last-position .ensures) at (located .if3 .left)),
       measured .if2 .left ∙ measured .before .word-length .ensures,
     )
 
