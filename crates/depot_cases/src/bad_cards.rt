@@ -2,156 +2,38 @@
 use super::cards;
 use super::say;
 
-// A card a line: n, k, rows 0 and 1, and one more byte, its place and its value.
-const REFUSED: [u32; 132] = [
+// A card a line, in hexadecimal: n, k, rows 0 and 1, and one more byte, its place and its value.
+const REFUSED: [u64; 22] = [
     // refusal 3: n 0, 65 and 255
-    0,
-    1,
-    1,
-    0,
-    20,
-    0,
-    65,
-    1,
-    1,
-    0,
-    20,
-    0,
-    255,
-    1,
-    1,
-    0,
-    20,
-    0,
+    0x00_01_01_00_0014_00,
+    0x41_01_01_00_0014_00,
+    0xff_01_01_00_0014_00,
     // k 0, 13 and 255, k above n, n and k 0
-    3,
-    0,
-    0,
-    0,
-    20,
-    0,
-    64,
-    13,
-    1,
-    2,
-    20,
-    0,
-    64,
-    255,
-    1,
-    2,
-    20,
-    0,
-    1,
-    2,
-    1,
-    0,
-    20,
-    0,
-    0,
-    0,
-    1,
-    0,
-    20,
-    0,
+    0x03_00_00_00_0014_00,
+    0x40_0d_01_02_0014_00,
+    0x40_ff_01_02_0014_00,
+    0x01_02_01_00_0014_00,
+    0x00_00_01_00_0014_00,
     // refusal 4: a bit at n in row 0, in row 1, and at 63
-    3,
-    1,
-    8,
-    0,
-    20,
-    0,
-    3,
-    2,
-    1,
-    8,
-    20,
-    0,
-    63,
-    1,
-    1,
-    0,
-    4,
-    128,
+    0x03_01_08_00_0014_00,
+    0x03_02_01_08_0014_00,
+    0x3f_01_01_00_0004_80,
     // an unused row not zero: the next one, and the last
-    3,
-    1,
-    7,
-    1,
-    20,
-    0,
-    3,
-    1,
-    7,
-    0,
-    99,
-    1,
+    0x03_01_07_01_0014_00,
+    0x03_01_07_00_0063_01,
     // the first and the last unused byte not zero
-    3,
-    1,
-    7,
-    0,
-    100,
-    1,
-    3,
-    1,
-    7,
-    0,
-    509,
-    1,
+    0x03_01_07_00_0064_01,
+    0x03_01_07_00_01fd_01,
     // refusal 5: two rows alike, a row that is zero, three rows that sum to zero
-    3,
-    2,
-    3,
-    3,
-    20,
-    0,
-    3,
-    1,
-    0,
-    0,
-    20,
-    0,
-    3,
-    3,
-    3,
-    5,
-    27,
-    6,
-    // two faults at once: 3 before 4, 4 before 5
-    65,
-    1,
-    1,
-    0,
-    509,
-    1,
-    1,
-    2,
-    2,
-    1,
-    20,
-    0,
-    3,
-    2,
-    8,
-    8,
-    20,
-    0,
-    3,
-    1,
-    0,
-    0,
-    509,
-    1,
+    0x03_02_03_03_0014_00,
+    0x03_01_00_00_0014_00,
+    0x03_03_03_05_001b_06,
+    // two faults at once: 3 before 4, and 4 before 5
+    0x41_01_01_00_01fd_01,
+    0x01_02_02_01_0014_00,
+    0x03_02_08_08_0014_00,
+    0x03_01_00_00_01fd_01,
 ];
-
-fn entry(i: usize) -> u32 {
-    if i < 132 { REFUSED[i] } else { 0 }
-}
-
-fn small(n: u32) -> u8 {
-    (n % 256) as u8
-}
 
 fn sealed(n: u8, k: u8, row0: u8, row1: u8, at: u32, value: u8) {
     let card = cards::sealed(cards::changed(cards::card(n, k, 0, row0, row1), at as usize, value));
@@ -163,17 +45,28 @@ fn unsealed(case: &[u8], card: &[u8; 512]) {
     say::all_calls(case, card);
 }
 
+fn byte_of(line: u64, divisor: u64) -> u8 {
+    if divisor == 0 {
+        0
+    } else {
+        (line / divisor % 256) as u8
+    }
+}
+
+fn line_of(line: u64) {
+    let n = byte_of(line, 0x1_0000_0000_0000);
+    let k = byte_of(line, 0x100_0000_0000);
+    let row0 = byte_of(line, 0x1_0000_0000);
+    let row1 = byte_of(line, 0x100_0000);
+    let at = (line / 0x100 % 0x1_0000) as u32;
+    sealed(n, k, row0, row1, at, byte_of(line, 1));
+}
+
 pub fn refused() {
-    let mut line: usize = 0;
-    while line < 22 {
-        let i = 6 * line;
-        let n = small(entry(i));
-        let k = small(entry(i + 1));
-        let row0 = small(entry(i + 2));
-        let row1 = small(entry(i + 3));
-        let value = small(entry(i + 5));
-        sealed(n, k, row0, row1, entry(i + 4), value);
-        line += 1;
+    let mut i: usize = 0;
+    while i < 22 {
+        line_of(REFUSED[i]);
+        i += 1;
     }
 }
 
@@ -214,11 +107,11 @@ pub fn checks(card: &[u8; 512]) {
 // A card's fault comes before those of the word, the position and the block.
 pub fn before_the_rest() {
     let card = cards::sealed(cards::card(3, 2, 0, 3, 3));
-    rest(&card);
+    rest(b"rows 3 and 3", &card);
 }
 
-fn rest(card: &[u8; 512]) {
-    say::writes(b"rows 3 and 3", card, 1, &[4294967295]);
-    say::read(b"rows 3 and 3", card, b"\xff");
-    say::numbers(b"rows 3 and 3", card, &[4294967295]);
+fn rest(case: &[u8], card: &[u8; 512]) {
+    say::writes(case, card, 1, &[4294967295]);
+    say::read(case, card, b"\xff");
+    say::numbers(case, card, &[4294967295]);
 }

@@ -8,11 +8,11 @@ mod sizes;
 
 // Card B. First document 01's example and its words, then refusals 8 to 12 each by another word, and before 9, and both ends by
 // rule 3. The lent bytes have the spare bit of a word of card B set; a write sets it to zero.
-fn card_b(card: &[u8; 512]) {
-    say::check(b"card B", card);
-    say::stored_check(b"card B", card);
-    say::numbers(b"card B", card, &[0, 1, 2, 15, 16, 4294967295]);
-    say::writes(b"card B", card, 2, &[0, 7, 15, 16, 4294967295]);
+fn card_b(case: &[u8], card: &[u8; 512]) {
+    say::check(case, card);
+    say::stored_check(case, card);
+    say::numbers(case, card, &[0, 1, 2, 15, 16, 4294967295]);
+    say::writes(case, card, 2, &[0, 7, 15, 16, 4294967295]);
     say::reads(
         b"card B",
         card,
@@ -28,30 +28,30 @@ fn card_b(card: &[u8; 512]) {
 }
 
 // Refusal 6 of a write and of a read, and before 7 and 8.
-fn card_b_lengths(card: &[u8; 512]) {
-    say::writes(b"card B", card, 0, &[15]);
-    say::writes(b"card B", card, 1, &[15, 16]);
-    say::writes(b"card B", card, 3, &[15]);
-    say::read(b"card B", card, b"");
-    say::reads(b"card B", card, 1, b"\x00\x7f");
-    say::reads(b"card B", card, 3, b"\x00\x00\x00\x7f\x80\x00");
+fn card_b_lengths(case: &[u8], card: &[u8; 512]) {
+    say::writes(case, card, 0, &[15]);
+    say::writes(case, card, 1, &[15, 16]);
+    say::writes(case, card, 3, &[15]);
+    say::read(case, card, b"");
+    say::reads(case, card, 1, b"\x00\x7f");
+    say::reads(case, card, 3, b"\x00\x00\x00\x7f\x80\x00");
 }
 
 // Card A. The codewords in order stand in the words of the starts. Position 5 ties, 9 reads by rule 1, and one word is refused.
 // Position 3 has a half changed chunk that its rule does not name. Around start 20, on both sides, ties go to the smallest.
-fn card_a(card: &[u8; 512]) {
-    say::check(b"card A", card);
-    say::numbers(b"card A", card, &[0, 1, 2, 3, 4, 30, 31]);
-    say::writes(b"card A", card, 2, &[0, 10, 20, 30, 31, 5, 9]);
-    say::reads(b"card A", card, 2, b"\x2f\x00\xef\x05\x04\x00");
-    say::reads(b"card A", card, 2, b"\x07\x00\x94\x06\x96\x02\x95\x0a");
+fn card_a(case: &[u8], card: &[u8; 512]) {
+    say::check(case, card);
+    say::numbers(case, card, &[0, 1, 2, 3, 4, 30, 31]);
+    say::writes(case, card, 2, &[0, 10, 20, 30, 31, 5, 9]);
+    say::reads(case, card, 2, b"\x2f\x00\xef\x05\x04\x00");
+    say::reads(case, card, 2, b"\x07\x00\x94\x06\x96\x02\x95\x0a");
 }
 
 // Refusal 9: separators 0 1 0, whose chunk 1 is no codeword, and 1 0 1.
 // Refusals 10 and 11: rule 1 with chunk 1 no codeword, rule 2 with chunk 2, rule 3 with chunk 1, chunk 2 and both; and rule 3 with
 // codewords that differ.
-fn card_a_refused(card: &[u8; 512]) {
-    say::reads(b"card A", card, 2, b"\x64\x00\x03\x0c");
+fn card_a_refused(case: &[u8], card: &[u8; 512]) {
+    say::reads(case, card, 2, b"\x64\x00\x03\x0c");
     say::reads(
         b"card A",
         card,
@@ -76,10 +76,10 @@ fn other_cards() {
 fn main() {
     let a = cards::card_a();
     let b = cards::card_b();
-    card_b(&b);
-    card_b_lengths(&b);
-    card_a(&a);
-    card_a_refused(&a);
+    card_b(b"card B", &b);
+    card_b_lengths(b"card B", &b);
+    card_a(b"card A", &a);
+    card_a_refused(b"card A", &a);
     other_cards();
     bad_cards::lengths(&b);
     bad_cards::checks(&b);
