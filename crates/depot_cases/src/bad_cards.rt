@@ -35,39 +35,27 @@ const REFUSED: [u64; 22] = [
     0x03_01_00_00_01fd_01,
 ];
 
-fn sealed(n: u8, k: u8, row0: u8, row1: u8, at: u32, value: u8) {
-    let card = cards::sealed(cards::changed(cards::card(n, k, 0, row0, row1), at as usize, value));
-    say::described(n, k, row0, row1, at, value);
-    unsealed(b"", &card);
-}
-
-fn unsealed(case: &[u8], card: &[u8; 512]) {
-    say::all_calls(case, card);
-}
-
-fn byte_of(line: u64, divisor: u64) -> u8 {
-    if divisor == 0 {
-        0
-    } else {
-        (line / divisor % 256) as u8
-    }
-}
-
-fn line_of(line: u64) {
-    let n = byte_of(line, 0x1_0000_0000_0000);
-    let k = byte_of(line, 0x100_0000_0000);
-    let row0 = byte_of(line, 0x1_0000_0000);
-    let row1 = byte_of(line, 0x100_0000);
-    let at = (line / 0x100 % 0x1_0000) as u32;
-    sealed(n, k, row0, row1, at, byte_of(line, 1));
+fn one(line: u64) {
+    let n = (line / 0x1_0000_0000_0000 % 256) as u32;
+    let k = (line / 0x100_0000_0000 % 256) as u32;
+    let row0 = (line / 0x1_0000_0000 % 256) as u32;
+    let row1 = (line / 0x100_0000 % 256) as u32;
+    let byte = (line % 0x100_0000) as u32;
+    let card = cards::sealed(cards::made(&[n, 0x100 + k, 0xb00 + row0, 0x1300 + row1, byte]));
+    say::describe(&[n, k, row0, row1, byte / 256, byte % 256]);
+    with(b"", &card);
 }
 
 pub fn refused() {
     let mut i: usize = 0;
     while i < 22 {
-        line_of(REFUSED[i]);
+        one(REFUSED[i]);
         i += 1;
     }
+}
+
+fn with(case: &[u8], card: &[u8; 512]) {
+    say::all_calls(case, card);
 }
 
 fn first(case: &[u8], card: &[u8], len: usize) {
@@ -90,23 +78,19 @@ pub fn lengths(card: &[u8; 512]) {
     say::all_calls(b"card B and one byte more", &longer);
 }
 
-// Refusal 2, and before 3. A card whose check is 12 does not carry 65,533, which is 12 modulo 65,521.
-pub fn checks(card: &[u8; 512]) {
-    let other = cards::changed(*card, 511, 146);
-    let high = cards::changed(
-        cards::changed(cards::card(0, 0, 0, 1, 0), 510, 255),
-        511,
-        253,
-    );
-    let none = cards::card(0, 1, 0, 1, 0);
-    unsealed(b"card B with check 146", &other);
-    unsealed(b"check 65,533 for 12", &high);
-    unsealed(b"n 0 and no check", &none);
+// Refusal 2, and before 3. Card B's check is 145. A card whose check is 12 does not carry 65,533, which is 12 modulo 65,521.
+pub fn checks() {
+    let other = cards::made(&[0x003, 0x101, 0x30e, 0xb07, 0x1ff92]);
+    let high = cards::made(&[0xb01, 0x1feff, 0x1fffd]);
+    let none = cards::made(&[0x101, 0xb01]);
+    with(b"card B with check 146", &other);
+    with(b"check 65,533 for 12", &high);
+    with(b"n 0 and no check", &none);
 }
 
 // A card's fault comes before those of the word, the position and the block.
 pub fn before_the_rest() {
-    let card = cards::sealed(cards::card(3, 2, 0, 3, 3));
+    let card = cards::sealed(cards::made(&[0x003, 0x102, 0xb03, 0x1303]));
     rest(b"rows 3 and 3", &card);
 }
 

@@ -68,21 +68,27 @@ fn check(case: &[u8], card: [u8; 512]) {
 // is not the code's least distance.
 fn other_cards() {
     check(b"512 zero bytes", [0u8; 512]);
-    check(b"k 13", cards::sealed(cards::card(13, 13, 0, 0, 0)));
-    check(b"rows 3 and 3", cards::sealed(cards::card(3, 2, 0, 3, 3)));
-    check(b"rows 7 and 3", cards::sealed(cards::card(3, 2, 0, 7, 3)));
+    check(b"k 13", cards::sealed(cards::made(&[0x00d, 0x10d])));
+    check(
+        b"rows 3 and 3",
+        cards::sealed(cards::made(&[0x003, 0x102, 0xb03, 0x1303])),
+    );
+    check(
+        b"rows 7 and 3",
+        cards::sealed(cards::made(&[0x003, 0x102, 0xb07, 0x1303])),
+    );
 }
 
 fn main() {
-    let a = cards::card_a();
-    let b = cards::card_b();
+    let a = cards::sealed(cards::made(&[0x003, 0x102, 0xb03, 0x1306]));
+    let b = cards::sealed(cards::made(&[0x003, 0x101, 0x30e, 0xb07]));
     card_b(b"card B", &b);
     card_b_lengths(b"card B", &b);
     card_a(b"card A", &a);
     card_a_refused(b"card A", &a);
     other_cards();
     bad_cards::lengths(&b);
-    bad_cards::checks(&b);
+    bad_cards::checks();
     bad_cards::refused();
     bad_cards::before_the_rest();
     sizes::smallest();

@@ -9,9 +9,23 @@ fn say(text: &[u8]) {
     io::write_all(STDOUT_FILENO, text);
 }
 
-fn say_number(name: &[u8], n: u32) {
-    say(name);
+fn say_number(n: u32) {
     io::print_decimal(STDOUT_FILENO, n as u64);
+}
+
+// The text, each # in it being the next of the numbers.
+fn say_with(text: &[u8], numbers: &[u32]) {
+    let mut next: usize = 0;
+    let mut at: usize = 0;
+    while at < text.len() {
+        if text[at] != b'#' {
+            say(&text[at..at + 1]);
+        } else if next < numbers.len() {
+            say_number(numbers[next]);
+            next += 1;
+        }
+        at += 1;
+    }
 }
 
 fn say_byte(b: u8) {
@@ -31,16 +45,13 @@ fn say_bytes(bytes: &[u8]) {
 fn answer_check(card: &[u8]) {
     match depot::check_card(card) {
         CardAnswer::Sound(s) => {
-            say_number(b" n ", s.n);
-            say_number(b" k ", s.k);
-            say_number(b" track ", s.track);
-            say_number(b" distance ", s.distance);
-            say_number(b" radius ", s.radius);
-            say_number(b" bits ", s.bits);
-            say_number(b" last ", s.last);
+            say_with(
+                b" n # k # track # distance # radius # bits # last #",
+                &[s.n, s.k, s.track, s.distance, s.radius, s.bits, s.last],
+            );
         }
         CardAnswer::Refused(refusal) => {
-            say_number(b" refused ", refusal);
+            say_with(b" refused #", &[refusal]);
         }
     }
 }
@@ -51,8 +62,7 @@ fn answer_write(card: &[u8], position: u32, word: &mut [u8]) {
             say(b" written");
         }
         WriteAnswer::Refused(refusal) => {
-            say_number(b" refused ", refusal);
-            say(b", left");
+            say_with(b" refused #, left", &[refusal]);
         }
     }
     say_bytes(word);
@@ -65,12 +75,10 @@ fn answer_read(card: &[u8], word: &[u8]) {
             residual,
             rule,
         } => {
-            say_number(b" at ", position);
-            say_number(b" residual ", residual);
-            say_number(b" rule ", rule);
+            say_with(b" at # residual # rule #", &[position, residual, rule]);
         }
         ReadAnswer::Refused(refusal) => {
-            say_number(b" refused ", refusal);
+            say_with(b" refused #", &[refusal]);
         }
     }
 }
@@ -78,10 +86,10 @@ fn answer_read(card: &[u8], word: &[u8]) {
 fn answer_number(answer: NumberAnswer) {
     match answer {
         NumberAnswer::Number(n) => {
-            say_number(b" ", n);
+            say_with(b" #", &[n]);
         }
         NumberAnswer::Refused(refusal) => {
-            say_number(b" refused ", refusal);
+            say_with(b" refused #", &[refusal]);
         }
     }
 }
@@ -95,8 +103,7 @@ pub fn check(case: &[u8], card: &[u8]) {
 
 fn write(case: &[u8], card: &[u8], position: u32, word: &mut [u8]) {
     say(case);
-    say_number(b", write ", position);
-    say(b" in");
+    say_with(b", write # in", &[position]);
     say_bytes(word);
     say(b":");
     answer_write(card, position, word);
@@ -115,8 +122,7 @@ pub fn read(case: &[u8], card: &[u8], word: &[u8]) {
 // A number as a block, whose start is asked for, and as a position, whose distance is.
 fn number(case: &[u8], card: &[u8], n: u32) {
     say(case);
-    say_number(b", ", n);
-    say(b": start");
+    say_with(b", #: start", &[n]);
     answer_number(depot::block_start(card, n));
     say(b"; millimetres");
     answer_number(depot::millimetres(card, n));
@@ -160,6 +166,11 @@ pub fn numbers(case: &[u8], card: &[u8], ns: &[u32]) {
     }
 }
 
+// What a card holds: n, k, rows 0 and 1, and one more byte.
+pub fn describe(values: &[u32]) {
+    say_with(b"n # k # rows # # byte # #", values);
+}
+
 // All five calls on one card, whatever it is: position 0, block 0, a lent word of two bytes and a received word of two.
 pub fn all_calls(case: &[u8], card: &[u8]) {
     let mut lent = [170u8; 2];
@@ -175,16 +186,6 @@ pub fn all_calls(case: &[u8], card: &[u8]) {
     say(b"; millimetres");
     answer_number(depot::millimetres(card, 0));
     say(b"\n");
-}
-
-// What a card holds: n, k, rows 0 and 1, and one more byte.
-pub fn described(n: u8, k: u8, row0: u8, row1: u8, at: u32, value: u8) {
-    say_number(b"n ", n as u32);
-    say_number(b" k ", k as u32);
-    say_number(b" rows ", row0 as u32);
-    say_number(b" ", row1 as u32);
-    say_number(b" byte ", at);
-    say_number(b" ", value as u32);
 }
 
 // The last two bytes of a card: its check.

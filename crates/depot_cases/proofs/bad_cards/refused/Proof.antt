@@ -13,14 +13,14 @@ abbrev μ-loop : tie.MeasureT-loop
 loop-holds : tie.Need-loop-holds Inv-loop μ-loop
 loop-holds c = search needs
 
-mul-line-of : tie.Need-mul-line-of Inv-loop μ-loop
-mul-line-of c = search needs
+mul-one : tie.Need-mul-one Inv-loop μ-loop
+mul-one c = search needs
 
-array-read-line-of : tie.Need-array-read-line-of Inv-loop μ-loop
-array-read-line-of c = search needs
+array-read-one : tie.Need-array-read-one Inv-loop μ-loop
+array-read-one c = search needs
 
-line-of-requires : tie.Need-line-of-requires Inv-loop μ-loop
-line-of-requires c κs = search needs
+one-requires : tie.Need-one-requires Inv-loop μ-loop
+one-requires c κs = search needs
 
 add-i : tie.Need-add-i Inv-loop μ-loop
 add-i c = search needs
@@ -41,9 +41,9 @@ refused-spec =
     Inv-loop
     μ-loop
     loop-holds
-    mul-line-of
-    array-read-line-of
-    line-of-requires
+    mul-one
+    array-read-one
+    one-requires
     add-i
     loop-less
     loop-again
