@@ -35,6 +35,7 @@ const REFUSED: [u64; 22] = [
     0x03_01_00_00_01fd_01,
 ];
 
+// One line of the table.
 fn one(line: u64) {
     let n = (line / 0x1_0000_0000_0000 % 256) as u32;
     let k = (line / 0x100_0000_0000 % 256) as u32;
@@ -58,6 +59,7 @@ fn with(case: &[u8], card: &[u8; 512]) {
     say::all_calls(case, card);
 }
 
+// The first `len` bytes of a card.
 fn first(case: &[u8], card: &[u8], len: usize) {
     if len <= card.len() {
         say::all_calls(case, &card[0..len]);

@@ -6,21 +6,22 @@ mod cards;
 mod say;
 mod sizes;
 
-// Card B. First document 01's example and its words, then refusals 8 to 12 each by another word, and before 9, and both ends by
-// rule 3. The lent bytes have the spare bit of a word of card B set; a write sets it to zero.
+// Card B. First the words of document 01's example and of its list, then a spare bit set, alone and with separators 0 1 0;
+// refusal 12 by rules 1 and 2; both ends by rule 3; and codewords that are not of the separators' parity, which rule 3 reads.
+// The lent bytes hold aa, with the spare bit set: a write sets it to zero.
 fn card_b(case: &[u8], card: &[u8; 512]) {
     say::check(case, card);
     say::stored_check(case, card);
     say::numbers(case, card, &[0, 1, 2, 15, 16, 4294967295]);
     say::writes(case, card, 2, &[0, 7, 15, 16, 4294967295]);
     say::reads(
-        b"card B",
+        case,
         card,
         2,
         b"\x7f\x00\x5f\x00\xc0\x01\x00\x80\x00\x70\x00\x0e",
     );
     say::reads(
-        b"card B",
+        case,
         card,
         2,
         b"\x7f\x80\xc0\x81\xc7\x01\xc0\x7f\x01\x00\xff\x3f\x38\x0e",
@@ -53,7 +54,7 @@ fn card_a(case: &[u8], card: &[u8; 512]) {
 fn card_a_refused(case: &[u8], card: &[u8; 512]) {
     say::reads(case, card, 2, b"\x64\x00\x03\x0c");
     say::reads(
-        b"card A",
+        case,
         card,
         2,
         b"\x67\x00\x83\x00\x84\x01\x8c\x00\x84\x00\x8c\x02",

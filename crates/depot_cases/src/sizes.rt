@@ -56,7 +56,7 @@ fn widest_words(case: &[u8], card: &[u8; 512]) {
 
 // n and k 12, row z being 2^z, and a track number with a high byte, 258.
 pub fn twelve_rows() {
-    let low = [
+    let bytes = [
         0x00c,
         0x10c,
         0x201,
@@ -74,7 +74,7 @@ pub fn twelve_rows() {
         0x5a04,
         0x6208,
     ];
-    let card = cards::sealed(cards::made(&low));
+    let card = cards::sealed(cards::made(&bytes));
     twelve_rows_words(b"k 12", &card);
 }
 
