@@ -1,6 +1,6 @@
 -- Document 01, "Order and words", first half: the Gray order, the codewords c(i), and the starts r(i) of the blocks.
 -- Assumes nothing.
-use Prim.Native.Nat.{ℕ, _+_, _-_, _*_, _/_, _%_, _^_}
+use Prim.Native.Nat.{ℕ, _+_, _-_, _*_, _/_, _^_}
 use lib.Bits.{bitXor}
 use lib.Dec.{eqb}
 use Rattle.bits.specs.Sums.{sum, unlike}

@@ -4,7 +4,7 @@ use mathlib.Core.Path.{_≡_, refl, _∙_, sym}
 use mathlib.Core.Bool.{false}
 use mathlib.Core.List.{List}
 use mathlib.Core.Logic.{⊎-elim}
-use Prim.Native.Nat.{ℕ, _+_, _-_, _*_, _≤_, _<_}
+use Prim.Native.Nat.{ℕ, _+_, _-_, _*_, _<_}
 use native.Mathlib.Nat.{le-dest}
 use native.Mathlib.Omega.{arith}
 use borrow.Author.Tests.{eq-eqb, eqb-false}
@@ -17,14 +17,13 @@ use Rattle.bits.proofs.Places.{length-pack, place-bit, place-pack, cut-above}
 use Rattle.bits.proofs.Searches.{none-of-any}
 use Rattle.bits.proofs.PackedDistance.{packed-distance}
 use Rattle.model.specs.Card.{Code, cardRefusal, codeOf}
-use Rattle.model.specs.Order.{lastPosition}
 use Rattle.model.specs.Words.{wordBits, wordAt, wordBytes}
 use Rattle.model.specs.Reading.{residual}
 use Rattle.model.specs.Answers.{wordLength, spareSet, readWord, readAnswer}
 use Rattle.code_theory.specs.Promise.{ChunkPromise}
 use Rattle.code_theory.proofs.Promise.{promise}
 use Rattle.code_theory.proofs.SoundCard.{sound-card}
-use Rattle.position_theory.specs.Damage.{WithinRadius, turned, residualOf}
+use Rattle.position_theory.specs.Damage.{turned, residualOf}
 use Rattle.position_theory.specs.Demands.{NeighboursDifferInOneBit, NoOtherPositionsWord, NearestOfAllowed, OffByAtMostTwiceTurned, OffByAtMostTurnedAndResidual}
 use Rattle.position_theory.proofs.Nearest.{reading-is-nearest}
 use Rattle.position_theory.proofs.BoundedError.{word-at-bits, place-of-word, read-word, error-bounded, near-loosen}

@@ -7,7 +7,7 @@ use Prim.Native.Nat.{ℕ, zero, suc, _+_, _-_, _*_, _/_, _%_, _≤_, _<_}
 use native.Mathlib.Nat.{eq-zero-or-pos}
 use native.Mathlib.Omega.{arith}
 use borrow.Author.Tests.{lt-ltb, le-ltb}
-use Rattle.bits.specs.Sums.{sum, distance, from}
+use Rattle.bits.specs.Sums.{sum, distance}
 use Rattle.bits.specs.Places.{bit}
 use Rattle.bits.proofs.Sums.{sum-ext}
 use Rattle.bits.proofs.Distance.{distance-ext}

@@ -1,7 +1,6 @@
 -- The definitions answer every case of document 01's table as it says: computed, all at once. Assumes nothing.
 use mathlib.Core.Path.{_≡_, refl}
-use mathlib.Core.List.{List, map}
-use Prim.Native.Nat.{ℕ}
+use mathlib.Core.List.{map}
 use Rattle.bits.specs.Sums.{sum, distance, join}
 use Rattle.bits.specs.Walk.{walk}
 use Rattle.bits.specs.Places.{weight, place, cut, byteOf, listOf, pack}

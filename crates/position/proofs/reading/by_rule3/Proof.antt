@@ -4,11 +4,8 @@ use borrow.Author.Tests.{eq-eqb, ne-eqb}
 use Rattle.bits.specs.Places.{place}
 use Rattle.model.specs.Decoded.{meaning}
 use Rattle.model.specs.Reading.{chunkReading, chunk₁, chunk₂, rule₃, nearest}
-use Rattle.model.specs.declared.Chunk.{Chunk}
-use Rattle.model.specs.declared.Chunk.the-variants.{Codeword, Unreadable}
 use Rattle.code_theory.proofs.Promise.{promise}
 use Rattle.position.proofs.UnreadableChunk.{unreadable-first}
-use native.Mathlib.Omega.{arith}
 use borrow.Author.Needs.{needs}
 use Rattle.position.proofs.reading.by_rule3.Statement.{statement}
 use Rattle.position.proofs.reading.by_rule3.Tie as tie
