@@ -87,7 +87,7 @@ module _ (C : Code) (promise : ChunkPromise C) where
       rule = ruleOf (majority (C .D) x) (majority (C .D) (separator₂ C x)) (majority (C .D) (separator₃ C x))
 
       codeword-of : (chunk : ℕ → ℕ) (p e : ℕ) → chunkReading C chunk ≡ Codeword p e → p ≤ lastCodeword C
-      codeword-of chunk p e r = promise .read chunk p e r .0
+      codeword-of chunk p e r = promise .chunks .within chunk p e r .0
 
       by-rule : (first second third : Bool)
           → GoodRange C (cond first (rule₁ C (chunkReading C (chunk₁ C x)))

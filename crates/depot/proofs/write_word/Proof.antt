@@ -42,9 +42,10 @@ returns-3 c =
 write-requires : tie.Need-write-requires
 write-requires c κs =
     let located = c .before in
-    let measured = located .before .before in
-    ((sound (measured .before .before .before), rw (located .before .last-position .ensures) at (located .if3 .left)),
-      measured .if2 .left ∙ measured .before .word-length .ensures)
+    let measured = located .before .before in (
+      (sound (measured .before .before .before), rw (located .before .last-position .ensures) at (located .if3 .left)),
+      measured .if2 .left ∙ measured .before .word-length .ensures,
+    )
 
 same-length : tie.Need-same-length
 same-length c = search needs

@@ -69,7 +69,7 @@ nearest-around-requires c κs =
     let first = there .before .before in (
       first .pre .0,
       first .pre .1,
-      promise (meaning (first .args .code)) (first .pre .0) .read _ _ _ (sym (chunk-read₁ there) ∙ told .before .first .given .1) .0,
+      promise (meaning (first .args .code)) (first .pre .0) .chunks .within _ _ _ (sym (chunk-read₁ there) ∙ told .before .first .given .1) .0,
     )
 
 returns-4 : tie.Need-returns-4
