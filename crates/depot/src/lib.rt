@@ -2,34 +2,29 @@
 // bytes, and a number any number of its type. What an answer means is said by the definitions that the contracts name.
 ghost use mathlib.Core.Path.{_≡_};
 ghost use Rattle.model.specs.Decoded.{meaning};
-ghost use Rattle.model.specs.Words.{wordBits};
-ghost use Rattle.model.specs.Answers.{wordLength, cardAnswer, writeAnswer, lentAfterWrite, startAnswer, millimetresAnswer};
+ghost use Rattle.model.specs.Answers.{wordLength, cardAnswer, writeAnswer, lentAfterWrite, readAnswer, startAnswer, millimetresAnswer};
 ghost use Rattle.model.specs.declared.WriteAnswer.the-variants.{Written};
 ghost use Rattle.code_theory.specs.Promise.{Sound};
-ghost use Rattle.position_theory.specs.Demands.{NeighboursDifferInOneBit, NoOtherPositionsWord};
+ghost use Rattle.position_theory.specs.Demands.{NeighboursDifferInOneBit, NoOtherPositionsWord, NearestOfAllowed, OffByAtMostTwiceTurned, OffByAtMostTurnedAndResidual};
 use chunk::decode;
 use model::CardAnswer;
 use model::CardSummary;
 use model::DecodedCode;
 use model::NumberAnswer;
+use model::ReadAnswer;
 use model::WriteAnswer;
 use position::blocks;
+use position::layout;
+use position::reading;
 use position::words;
-
-// The bits of a word.
-fn word_bits(code: DecodedCode) -> u32
-    requires { ⌜ Sound (meaning code) ⌝ }
-    ensures { λ r. ⌜ r ≡ wordBits (meaning code) ⌝ }
-{
-    2 * code.n + 3 * code.distance
-}
 
 // The bytes of a word.
 fn word_length(code: DecodedCode) -> usize
     requires { ⌜ Sound (meaning code) ⌝ }
     ensures { λ r. ⌜ r ≡ wordLength (meaning code) ⌝ }
 {
-    ((word_bits(code) + 7) / 8) as usize
+    let bits = layout::layout_of(code).bits;
+    ((bits + 7) / 8) as usize
 }
 
 // Checks a card. A sound card is answered with its n, k, track, D, t, d and last position; any other with its refusal, 1 to 5.
@@ -47,7 +42,7 @@ pub fn check_card(card: &[u8]) -> CardAnswer
         track: decoded.track,
         distance: code.distance,
         radius: (code.distance - 1) / 2,
-        bits: word_bits(code),
+        bits: layout::layout_of(code).bits,
         last: blocks::last_position(code),
     })
 }
@@ -74,6 +69,25 @@ pub fn write_word(card: &[u8], position: u32, word: &mut [u8]) -> WriteAnswer
     }
     words::write(code, position, word);
     WriteAnswer::Written
+}
+
+// Reads a received word: its position, the residual and the rule. Refused: the card, 1 to 5; a word that has not exactly the bytes
+// of a word, 6; a spare bit set, 8; separators that name no rule, 9; a chunk that the rule names with no codeword within the
+// radius, 10; two chunks that read differently, 11; a block before the first or after the last, 12.
+// Of the word of any position on the track, with at most t bits turned in each chunk, the answer is a position, and it is at most
+// twice as many steps off as bits are turned, and at most as many as bits are turned and the residual together. Of any word it is
+// the nearest of the positions that the rule allows.
+pub fn read_word(card: &[u8], word: &[u8]) -> ReadAnswer
+    ensures answer { λ r. ⌜ r ≡ readAnswer (now (card .entry)) (now (word .entry)) ⌝ }
+    ensures bounded { λ r. ⌜ OffByAtMostTwiceTurned (now (card .entry)) (now (word .entry)) r ⌝ }
+    ensures sharper { λ r. ⌜ OffByAtMostTurnedAndResidual (now (card .entry)) (now (word .entry)) r ⌝ }
+    ensures nearest { λ r. ⌜ NearestOfAllowed (now (card .entry)) (now (word .entry)) r ⌝ }
+{
+    let decoded = decode::decode(card);
+    if decoded.refusal != 0 {
+        return ReadAnswer::Refused(decoded.refusal);
+    }
+    reading::read(decoded.code, word)
 }
 
 // The position at which a block starts. Refused: the card, 1 to 5, or a block above 2^k - 1, 7.

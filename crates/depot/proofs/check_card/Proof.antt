@@ -19,8 +19,8 @@ returns c = card-refused _ _ (c .before .before .decode .ensures) (c .if1 .taken
 sub-t5 : tie.Need-sub-t5
 sub-t5 c = D-low _ (sound (c .before .before))
 
-word-bits-requires : tie.Need-word-bits-requires
-word-bits-requires c κs = sound (c .before .before)
+layout-of-requires : tie.Need-layout-of-requires
+layout-of-requires c κs = sound (c .before .before)
 
 last-position-requires : tie.Need-last-position-requires
 last-position-requires c κs = sound (c .before .before .before)
@@ -28,10 +28,10 @@ last-position-requires c κs = sound (c .before .before .before)
 returns-2 : tie.Need-returns-2
 returns-2 c =
     let decoded = c .before .before .before .before in
-    card-sound _ _ (decoded .before .before .decode .ensures) (decoded .if1 .left) _ _ (c .before .word-bits .ensures)
+    card-sound _ _ (decoded .before .before .decode .ensures) (decoded .if1 .left) _ _ (c .before .layout-of .ensures .bits-are)
     (c .last-position .ensures)
 
 pub check-card-spec : {M : Type 1} → statement M
 check-card-spec =
     tie.close
-    (tie.spec decode-requires returns sub-t5 word-bits-requires last-position-requires returns-2)
+    (tie.spec decode-requires returns sub-t5 layout-of-requires last-position-requires returns-2)
