@@ -4,7 +4,7 @@ use mathlib.Core.Path.{_≡_, refl, _∙_, sym}
 use mathlib.Core.Bool.{false}
 use mathlib.Core.List.{List}
 use mathlib.Core.Logic.{⊎-elim}
-use Prim.Native.Nat.{ℕ, _+_, _-_, _*_, _<_}
+use Prim.Native.Nat.{ℕ, _+_, _-_, _*_, _≤_, _<_}
 use native.Mathlib.Nat.{le-dest}
 use native.Mathlib.Omega.{arith}
 use borrow.Author.Tests.{eq-eqb, eqb-false}
@@ -17,6 +17,7 @@ use Rattle.bits.proofs.Places.{length-pack, place-bit, place-pack, cut-above}
 use Rattle.bits.proofs.Searches.{none-of-any}
 use Rattle.bits.proofs.PackedDistance.{packed-distance}
 use Rattle.model.specs.Card.{Code, cardRefusal, codeOf}
+use Rattle.model.specs.Order.{lastPosition}
 use Rattle.model.specs.Words.{wordBits, wordAt, wordBytes}
 use Rattle.model.specs.Reading.{residual}
 use Rattle.model.specs.Answers.{wordLength, spareSet, readWord, readAnswer}
@@ -41,18 +42,20 @@ differing-comm C p q =
     ∙ sym (packed-distance (wordBits C) (word-at-bits C q) (word-at-bits C p))
 
 -- demand 2, writing
-pub neighbours-differ-in-one-bit : (card : List ℕ) (position : ℕ) → NeighboursDifferInOneBit card position (wordBytes (codeOf card) position)
+pub neighbours-differ-in-one-bit : (card : List ℕ) (position : ℕ) → cardRefusal card ≡ 0 → position ≤ lastPosition (codeOf card)
+    → NeighboursDifferInOneBit card position (wordBytes (codeOf card) position)
 unfolding NeighboursDifferInOneBit
-neighbours-differ-in-one-bit card position neighbour sound h h′ =
+neighbours-differ-in-one-bit card position sound h neighbour h′ =
     ⊎-elim
     (λ (next : neighbour ≡ position + 1). rw next (neighbours-differ (codeOf card) (kept card sound) position (omega arith)))
     (λ (last : position ≡ neighbour + 1).
     rw (last, differing-comm (codeOf card) (neighbour + 1) neighbour)
     (neighbours-differ (codeOf card) (kept card sound) neighbour (omega arith)))
 
-pub no-other-positions-word : (card : List ℕ) (position : ℕ) → NoOtherPositionsWord card position (wordBytes (codeOf card) position)
+pub no-other-positions-word : (card : List ℕ) (position : ℕ) → cardRefusal card ≡ 0 → position ≤ lastPosition (codeOf card)
+    → NoOtherPositionsWord card position (wordBytes (codeOf card) position)
 unfolding NoOtherPositionsWord
-no-other-positions-word card position other sound h h′ same =
+no-other-positions-word card position sound h other h′ same =
     words-differ (codeOf card) (kept card sound) other position h′ h same
 
 -- the reading of a sound card
