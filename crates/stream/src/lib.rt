@@ -1,0 +1,1 @@
+// What tramread does with its input, part by part.
