@@ -1,7 +1,7 @@
 pub mod Bytes
 pub mod Refusals
 pub mod Rows
-pub mod SoundCard
+pub mod Decoding
 pub mod GrayStep
 pub mod LeastWeightLoop
 pub mod ChunkSearch

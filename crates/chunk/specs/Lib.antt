@@ -1,1 +1,2 @@
 pub mod WellShaped
+pub mod DecodedFrom

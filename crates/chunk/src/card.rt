@@ -1,6 +1,6 @@
 // The card's bytes: numbers read high byte first, the check, the limits, the rows, and refusals 1 to 4.
 ghost use mathlib.Core.Path.{_≡_};
-ghost use Prim.Native.Nat.{ℕ, _+_, _^_, _≤_, _<_};
+ghost use Prim.Native.Nat.{_+_, _^_, _≤_, _<_};
 ghost use lib.Dec.{leb};
 ghost use lib.ListN.{length, getD};
 ghost use Rattle.model.specs.Card.{byte, highFirst, rowOf, trackOf, storedCheck, computedCheck, withinLimits, rowTooWide, unusedRowSet, unusedByteSet, cardRefusal};
@@ -87,7 +87,7 @@ fn within_limits(n: u32, k: u32) -> bool
 // The twelve rows.
 pub fn rows_of(card: &[u8]) -> [u64; 12]
     requires { ⌜ length (now card) ≡ 512 ⌝ }
-    ensures { λ r. ⌜ ((z : ℕ) → z < 12 → getD r z 0 ≡ rowOf (now (card .entry)) z) ⌝ }
+    ensures { λ r. ⌜ (λ z. getD r z 0) ≡ rowOf (now (card .entry)) ⌝ }
 {
     let mut rows = [0u64; 12];
     let mut z: usize = 0;

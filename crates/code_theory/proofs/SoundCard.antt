@@ -1,14 +1,14 @@
 -- A card that no refusal holds of gives a sound code: each refusal's test is false, and says what it tested.
 -- Assumes nothing.
 use mathlib.Core.Path.{_≡_, refl}
-use mathlib.Core.Bool.{Bool, true, false, cond, not, _&&_, _||_, true≢false, false≢true}
+use mathlib.Core.Bool.{Bool, true, false, cond, not, _&&_, _||_, false≢true}
 use mathlib.Core.List.{List}
 use Prim.Native.Nat.{ℕ, suc, _^_, _≤_, _<_}
 use native.Mathlib.Omega.{arith}
 use borrow.Author.Tests.{leb-true, leb-false, eqb-true, not-false, le-leb}
 use lib.Dec.{leb, eqb}
 use lib.ListN.{length}
-use Rattle.bits.proofs.Searches.{none-of-any}
+use Rattle.bits.proofs.Searches.{or-false-left, or-false-right, none-of-any}
 use Rattle.model.specs.Card.{cardRefusal, codeOf, codeWith, withinLimits, rowTooWide, unusedRowSet, unusedByteSet, dependent, lengthOf, rowsOf, rowOf, storedCheck, computedCheck}
 use Rattle.code_theory.specs.Promise.{Sound}
 use Rattle.code_theory.specs.CardTests.{CardTests}
@@ -23,14 +23,6 @@ both-left false t e = absurd (false≢true e)
 both-right : (s t : Bool) → (s && t) ≡ true → t ≡ true
 both-right true t e = e
 both-right false t e = absurd (false≢true e)
-
-neither-left : (s t : Bool) → (s || t) ≡ false → s ≡ false
-neither-left true t e = absurd (true≢false e)
-neither-left false t e = refl
-
-neither-right : (s t : Bool) → (s || t) ≡ false → t ≡ false
-neither-right true t e = absurd (true≢false e)
-neither-right false t e = e
 
 -- a refusal whose number is not the answer does not hold, and the answer is that of the refusals below it
 not-this : (t : Bool) (number below : ℕ) → cond t (suc number) below ≡ 0 → t ≡ false
@@ -111,9 +103,9 @@ card-tests b e =
       size = eqb-true _ _ (not-false _ (none .0));
       check = eqb-true _ _ (not-false _ (none .1));
       limits = not-false _ (none .2);
-      rows-narrow = neither-left wide unused (neither-left (wide || unused) (unusedByteSet b) (none .3));
-      rows-unused = neither-right wide unused (neither-left (wide || unused) (unusedByteSet b) (none .3));
-      bytes-unused = neither-right (wide || unused) (unusedByteSet b) (none .3);
+      rows-narrow = or-false-left wide unused (or-false-left (wide || unused) (unusedByteSet b) (none .3));
+      rows-unused = or-false-right wide unused (or-false-left (wide || unused) (unusedByteSet b) (none .3));
+      bytes-unused = or-false-right (wide || unused) (unusedByteSet b) (none .3);
       rows-independent = none .4;
     }
 

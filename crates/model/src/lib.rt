@@ -15,6 +15,13 @@ pub struct DecodedCode {
     pub rows: [u64; 12],
 }
 
+// A card decoded: its refusal's number, or 0 for a sound card, whose track number and code stand beside it.
+pub struct Decoded {
+    pub refusal: u32,
+    pub track: u32,
+    pub code: DecodedCode,
+}
+
 // What a sound card is answered with: n, k, track, D, t, d and the last position.
 pub struct CardSummary {
     pub n: u32,

@@ -1,24 +1,22 @@
 -- `chunk::card::has_misplaced` meets its contract: its three tests in their order, on the rows that the card has.
 -- Assumes nothing.
-use mathlib.Core.Path.{_≡_, sym, _∙_}
+use mathlib.Core.Path.{_≡_, sym, ap₂, _∙_}
 use borrow.Author.Needs.{needs}
 use Rattle.model.specs.Card.{lengthOf, rowsOf, rowOf, rowTooWide, unusedRowSet}
 use Rattle.chunk.specs.WellShaped.{misplaced}
-use Rattle.chunk.proofs.Rows.{too-wide-alike, unused-alike}
 use Rattle.chunk.proofs.card.has_misplaced.Statement.{statement}
 use Rattle.chunk.proofs.card.has_misplaced.Tie as tie
 
 too-wide : (c : tie.After-row-too-wide)
     → let b = c .before .before .before .before .args .card .now in c .row-too-wide .result ≡ rowTooWide (lengthOf b) (rowOf b)
-too-wide c =
-    c .row-too-wide .ensures ∙ too-wide-alike _ _ (c .before .before .rows-of .ensures) (c .before .byte-at .ensures .0)
+too-wide c = c .row-too-wide .ensures ∙ ap₂ rowTooWide (c .before .byte-at .ensures .0) (c .before .before .rows-of .ensures)
 
 unused : (c : tie.After-unused-row-set)
     → let b = c .before .before .before .before .before .before .before .args .card .now in
     c .unused-row-set .result ≡ unusedRowSet (rowsOf b) (rowOf b)
 unused c =
     c .unused-row-set .ensures
-    ∙ unused-alike _ _ (c .before .before .before .before .before .rows-of .ensures) (c .before .byte-at2 .ensures .0)
+    ∙ ap₂ unusedRowSet (c .before .byte-at2 .ensures .0) (c .before .before .before .before .before .rows-of .ensures)
 
 rows-of-requires : tie.Need-rows-of-requires
 rows-of-requires c κs = search needs

@@ -8,7 +8,7 @@ use native.Mathlib.Omega.{arith}
 use lib.ListN.{length, getD, set, length-set}
 use lib.Seq.{getD-set-same, getD-set-other}
 use Rattle.model.specs.Card.{rowOf}
-use Rattle.chunk.proofs.Rows.{row-of-bytes}
+use Rattle.chunk.proofs.Rows.{row-of-bytes, rows-alike}
 use Rattle.chunk.proofs.card.rows_of.Statement.{statement}
 use Rattle.chunk.proofs.card.rows_of.Tie as tie
 
@@ -54,7 +54,7 @@ loop-again c =
     (omega arith, simp length-set (loop .inv .1), below-more _ _ below here)
 
 returns : tie.Need-returns Inv-loop μ-loop
-returns c = λ z h. c .before .loop .inv .2 z (omega arith)
+returns c = rows-alike _ (c .before .loop .rows) (c .before .loop .inv .1) (λ z h. c .before .loop .inv .2 z (omega arith))
 
 pub rows-of-spec : {M : Type 1} → statement M
 rows-of-spec =

@@ -1,0 +1,52 @@
+// A card's bytes, checked and decoded.
+ghost use mathlib.Core.Path.{_≡_};
+ghost use Rattle.chunk.specs.DecodedFrom.{DecodedFrom};
+use super::card;
+use super::order;
+use model::Decoded;
+use model::DecodedCode;
+
+// What is handed back of a card that is refused: the number, and no code.
+fn refused(refusal: u32) -> Decoded
+    ensures { λ r. ⌜ r .refusal ≡ refusal ⌝ }
+{
+    Decoded {
+        refusal,
+        track: 0,
+        code: DecodedCode {
+            n: 0,
+            k: 0,
+            distance: 0,
+            rows: [0u64; 12],
+        },
+    }
+}
+
+// Refusals 1 to 5 of any bytes as a card, and the track and the code of a sound one. The rows are dependent where a nonzero set
+// of them has weight 0.
+pub fn decode(card: &[u8]) -> Decoded
+    ensures { λ r. ⌜ DecodedFrom (now (card .entry)) r ⌝ }
+{
+    let refusal = card::shape_refusal(card);
+    if refusal != 0 {
+        return refused(refusal);
+    }
+    let n = card::byte_at(card, 0);
+    let k = card::byte_at(card, 1);
+    let rows = card::rows_of(card);
+    let distance = order::least_weight(n, k, rows);
+    if distance == 0 {
+        return refused(5);
+    }
+    let track = card::track_of(card);
+    Decoded {
+        refusal: 0,
+        track,
+        code: DecodedCode {
+            n,
+            k,
+            distance,
+            rows,
+        },
+    }
+}

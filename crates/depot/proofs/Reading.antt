@@ -1,0 +1,42 @@
+-- What a read answers, one law for each way out of the code; the theorems of demands 2 and 3 hold of the answer that the
+-- definition gives. Assumes nothing.
+use mathlib.Core.Path.{_≡_, refl}
+use mathlib.Core.List.{List}
+use Prim.Native.Nat.{ℕ}
+use borrow.Author.Tests.{eq-eqb, ne-eqb}
+use Rattle.model.specs.Decoded.{meaning}
+use Rattle.model.specs.Answers.{readWord, readAnswer}
+use Rattle.model.specs.declared.Decoded.{Decoded}
+use Rattle.model.specs.declared.ReadAnswer.{ReadAnswer}
+use Rattle.model.specs.declared.ReadAnswer.the-variants.{Refused}
+use Rattle.position_theory.specs.Demands.{NearestOfAllowed, OffByAtMostTwiceTurned, OffByAtMostTurnedAndResidual}
+use Rattle.position_theory.proofs.Demands.{nearest-of-allowed, off-by-at-most-twice-turned, off-by-at-most-turned-and-residual}
+use Rattle.chunk.specs.DecodedFrom.{DecodedFrom}
+
+module _ (card received : List ℕ) where
+  -- what the contract of the read says of its answer
+  abbrev Meets : ReadAnswer → Type 0
+  Meets answer =
+      (answer ≡ readAnswer card received)
+      × (OffByAtMostTwiceTurned card received answer
+      × (OffByAtMostTurnedAndResidual card received answer × NearestOfAllowed card received answer))
+
+  meets : (answer : ReadAnswer) → answer ≡ readAnswer card received → Meets answer
+  meets answer e =
+      (rw e (
+        refl,
+        (
+          off-by-at-most-twice-turned card received,
+          (off-by-at-most-turned-and-residual card received, nearest-of-allowed card received),
+        ),
+      ))
+
+  module _ (decoded : Decoded) (from : DecodedFrom card decoded) where
+    pub card-refused : (decoded .refusal ≡ 0 → ⊥) → Meets (Refused (decoded .refusal))
+    unfolding readAnswer
+    card-refused ne = meets (Refused (decoded .refusal)) (rw (← (from .refusal), ne-eqb (decoded .refusal) 0 ne))
+
+    pub word-read : decoded .refusal ≡ 0 → (answer : ReadAnswer) → answer ≡ readWord (meaning (decoded .code)) received → Meets answer
+    unfolding readAnswer
+    word-read sound answer e =
+        meets answer (rw (← (from .refusal), eq-eqb (decoded .refusal) 0 sound, ← (from .code sound)) e)

@@ -1,0 +1,106 @@
+-- What a write answers and what it leaves in the lent word, one law for each way out of the code. A refusal leaves the lent bytes;
+-- where the word is written, demand 2 holds of what the lent word then holds. Assumes nothing.
+use mathlib.Core.Path.{_≡_, refl, sym, _∙_}
+use mathlib.Core.Bool.{Bool, true, false, cond}
+use mathlib.Core.List.{List}
+use Prim.Native.Nat.{ℕ, _≤_, _<_}
+use borrow.Author.Tests.{eq-eqb, ne-eqb, lt-ltb, le-ltb}
+use native.Mathlib.Omega.{arith}
+use lib.Dec.{eqb}
+use lib.ListN.{length}
+use Rattle.model.specs.Card.{codeOf}
+use Rattle.model.specs.Decoded.{meaning}
+use Rattle.model.specs.Order.{lastPosition}
+use Rattle.model.specs.Words.{wordBytes}
+use Rattle.model.specs.Answers.{wordLength, writeRefusal, writeAnswer, lentAfterWrite}
+use Rattle.model.specs.declared.Decoded.{Decoded}
+use Rattle.model.specs.declared.WriteAnswer.{WriteAnswer}
+use Rattle.model.specs.declared.WriteAnswer.the-variants.{Written, Refused}
+use Rattle.position_theory.specs.Demands.{NeighboursDifferInOneBit, NoOtherPositionsWord}
+use Rattle.position_theory.proofs.Demands.{neighbours-differ-in-one-bit, no-other-positions-word}
+use Rattle.chunk.specs.DecodedFrom.{DecodedFrom}
+
+-- an answer that is Written goes with the word, whatever the test was
+written-of-answer : (ok : Bool) (refusal : ℕ) (word lent : List ℕ) → cond ok Written (Refused refusal) ≡ Written
+    → cond ok word lent ≡ word
+written-of-answer true refusal word lent e = refl
+written-of-answer false refusal word lent e = let never : _≡_ {A = ℕ} 0 1 = cc in absurd (omega arith)
+
+module _ (card : List ℕ) (position : ℕ) (lent : List ℕ) where
+  -- what the contract of the write says of its answer and of the lent word as the write leaves it
+  abbrev Meets : WriteAnswer → List ℕ → Type 0
+  Meets answer left =
+      (answer ≡ writeAnswer card position lent)
+      × ((left ≡ lentAfterWrite card position lent)
+      × ((answer ≡ Written → NeighboursDifferInOneBit card position left)
+      × (answer ≡ Written → NoOtherPositionsWord card position left)))
+
+  the-word : writeAnswer card position lent ≡ Written → lentAfterWrite card position lent ≡ wordBytes (codeOf card) position
+  unfolding writeAnswer lentAfterWrite
+  the-word = written-of-answer (eqb (writeRefusal card position lent) 0) (writeRefusal card position lent) _ lent
+
+  meets : (answer : WriteAnswer) (left : List ℕ) → answer ≡ writeAnswer card position lent
+      → left ≡ lentAfterWrite card position lent → Meets answer left
+  meets answer left e f = (
+    e,
+    (
+      f,
+      (
+        λ w. rw (f ∙ the-word (sym e ∙ w)) (neighbours-differ-in-one-bit card position),
+        λ w. rw (f ∙ the-word (sym e ∙ w)) (no-other-positions-word card position),
+      ),
+    ),
+  )
+
+  refused : (refusal : ℕ) → writeRefusal card position lent ≡ refusal → (refusal ≡ 0 → ⊥) → Meets (Refused refusal) lent
+  unfolding writeAnswer lentAfterWrite
+  refused refusal e ne = meets (Refused refusal) lent (rw (e, ne-eqb refusal 0 ne)) (rw (e, ne-eqb refusal 0 ne))
+
+  module _ (decoded : Decoded) (from : DecodedFrom card decoded) where
+    -- refusals 1 to 5
+    pub card-refused : (decoded .refusal ≡ 0 → ⊥) → Meets (Refused (decoded .refusal)) lent
+    unfolding writeRefusal
+    card-refused ne = refused (decoded .refusal) (rw (← (from .refusal), ne-eqb (decoded .refusal) 0 ne)) ne
+
+    module _ (sound : decoded .refusal ≡ 0) where
+      pub length-refused : (size : ℕ) → size ≡ wordLength (meaning (decoded .code)) → (length lent ≡ size → ⊥) → Meets (Refused 6) lent
+      unfolding writeRefusal
+      length-refused size is ne =
+          refused 6
+          (rw (← (from .refusal), eq-eqb (decoded .refusal) 0 sound, ← (from .code sound), ← is, ne-eqb (length lent) size ne))
+          (λ e. omega arith)
+
+      module _ (size last : ℕ) (is-size : size ≡ wordLength (meaning (decoded .code))) (whole : length lent ≡ size)
+          (is-last : last ≡ lastPosition (meaning (decoded .code))) where
+        pub position-refused : last < position → Meets (Refused 7) lent
+        unfolding writeRefusal
+        position-refused above =
+            refused 7
+            (rw (
+              ← (from .refusal),
+              eq-eqb (decoded .refusal) 0 sound,
+              ← (from .code sound),
+              ← is-size,
+              eq-eqb (length lent) size whole,
+              ← is-last,
+              lt-ltb last position above,
+            ))
+            (λ e. omega arith)
+
+        none-refused : position ≤ last → writeRefusal card position lent ≡ 0
+        unfolding writeRefusal
+        none-refused within =
+            rw (
+              ← (from .refusal),
+              eq-eqb (decoded .refusal) 0 sound,
+              ← (from .code sound),
+              ← is-size,
+              eq-eqb (length lent) size whole,
+              ← is-last,
+              le-ltb last position within,
+            )
+
+        pub written : position ≤ last → (left : List ℕ) → left ≡ wordBytes (meaning (decoded .code)) position → Meets Written left
+        unfolding writeAnswer lentAfterWrite
+        written within left e =
+            meets Written left (rw (none-refused within)) (rw (none-refused within, ← (from .code sound)) e)

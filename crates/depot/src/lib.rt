@@ -1,0 +1,106 @@
+// The public calls. Each takes a card's bytes, checks them itself, and answers every input: the card's bytes may be any list of
+// bytes, and a number any number of its type. What an answer means is said by the definitions that the contracts name.
+ghost use mathlib.Core.Path.{_≡_};
+ghost use Rattle.model.specs.Decoded.{meaning};
+ghost use Rattle.model.specs.Words.{wordBits};
+ghost use Rattle.model.specs.Answers.{wordLength, cardAnswer, writeAnswer, lentAfterWrite, startAnswer, millimetresAnswer};
+ghost use Rattle.model.specs.declared.WriteAnswer.the-variants.{Written};
+ghost use Rattle.code_theory.specs.Promise.{Sound};
+ghost use Rattle.position_theory.specs.Demands.{NeighboursDifferInOneBit, NoOtherPositionsWord};
+use chunk::decode;
+use model::CardAnswer;
+use model::CardSummary;
+use model::DecodedCode;
+use model::NumberAnswer;
+use model::WriteAnswer;
+use position::blocks;
+use position::words;
+
+// The bits of a word.
+fn word_bits(code: DecodedCode) -> u32
+    requires { ⌜ Sound (meaning code) ⌝ }
+    ensures { λ r. ⌜ r ≡ wordBits (meaning code) ⌝ }
+{
+    2 * code.n + 3 * code.distance
+}
+
+// The bytes of a word.
+fn word_length(code: DecodedCode) -> usize
+    requires { ⌜ Sound (meaning code) ⌝ }
+    ensures { λ r. ⌜ r ≡ wordLength (meaning code) ⌝ }
+{
+    ((word_bits(code) + 7) / 8) as usize
+}
+
+// Checks a card. A sound card is answered with its n, k, track, D, t, d and last position; any other with its refusal, 1 to 5.
+pub fn check_card(card: &[u8]) -> CardAnswer
+    ensures answer { λ r. ⌜ r ≡ cardAnswer (now (card .entry)) ⌝ }
+{
+    let decoded = decode::decode(card);
+    if decoded.refusal != 0 {
+        return CardAnswer::Refused(decoded.refusal);
+    }
+    let code = decoded.code;
+    CardAnswer::Sound(CardSummary {
+        n: code.n,
+        k: code.k,
+        track: decoded.track,
+        distance: code.distance,
+        radius: (code.distance - 1) / 2,
+        bits: word_bits(code),
+        last: blocks::last_position(code),
+    })
+}
+
+// Writes the word of a position into the lent word. Refused: the card, 1 to 5; a lent word that has not exactly the bytes of a
+// word, 6; a position above the last, 7. A refused write changes no byte of the lent word. The word that is written differs in
+// just one bit from the word of each neighbouring position, and is the word of no other position.
+pub fn write_word(card: &[u8], position: u32, word: &mut [u8]) -> WriteAnswer
+    ensures answer { λ r. ⌜ r ≡ writeAnswer (now (card .entry)) position (now (word .entry)) ⌝ }
+    ensures left { λ r. ⌜ now (word .exit) ≡ lentAfterWrite (now (card .entry)) position (now (word .entry)) ⌝ }
+    ensures neighbours { λ r. ⌜ (r ≡ Written → NeighboursDifferInOneBit (now (card .entry)) position (now (word .exit))) ⌝ }
+    ensures alone { λ r. ⌜ (r ≡ Written → NoOtherPositionsWord (now (card .entry)) position (now (word .exit))) ⌝ }
+{
+    let decoded = decode::decode(card);
+    if decoded.refusal != 0 {
+        return WriteAnswer::Refused(decoded.refusal);
+    }
+    let code = decoded.code;
+    if word.len() != word_length(code) {
+        return WriteAnswer::Refused(6);
+    }
+    if blocks::last_position(code) < position {
+        return WriteAnswer::Refused(7);
+    }
+    words::write(code, position, word);
+    WriteAnswer::Written
+}
+
+// The position at which a block starts. Refused: the card, 1 to 5, or a block above 2^k - 1, 7.
+pub fn block_start(card: &[u8], block: u32) -> NumberAnswer
+    ensures answer { λ r. ⌜ r ≡ startAnswer (now (card .entry)) block ⌝ }
+{
+    let decoded = decode::decode(card);
+    if decoded.refusal != 0 {
+        return NumberAnswer::Refused(decoded.refusal);
+    }
+    let code = decoded.code;
+    if blocks::last_codeword(code) < block {
+        return NumberAnswer::Refused(7);
+    }
+    NumberAnswer::Number(blocks::block_start(code, block))
+}
+
+// The distance of a position from the buffer face, in millimetres. Refused: the card, 1 to 5, or a position above the last, 7.
+pub fn millimetres(card: &[u8], position: u32) -> NumberAnswer
+    ensures answer { λ r. ⌜ r ≡ millimetresAnswer (now (card .entry)) position ⌝ }
+{
+    let decoded = decode::decode(card);
+    if decoded.refusal != 0 {
+        return NumberAnswer::Refused(decoded.refusal);
+    }
+    if blocks::last_position(decoded.code) < position {
+        return NumberAnswer::Refused(7);
+    }
+    NumberAnswer::Number(50 * position)
+}
