@@ -10,3 +10,9 @@ pub mod ZeroBytes
 pub mod WordChunks
 pub mod WalkedWord
 pub mod CopiedWord
+pub mod MixedBytes
+pub mod BlockSearch
+pub mod RuleRanges
+pub mod UnreadableChunk
+pub mod SeparatorRules
+pub mod SpareBits

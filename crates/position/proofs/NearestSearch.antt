@@ -10,13 +10,16 @@ use Rattle.bits.specs.Sums.{sum, distance, from}
 use Rattle.bits.specs.Places.{place, cut}
 use Rattle.bits.specs.Searches.{leastAt}
 use Rattle.bits.proofs.Distance.{distance-ext, distance-self, distance-split}
-use Rattle.bits.proofs.Places.{cut-below, cut-above}
+use Rattle.bits.proofs.Places.{cut-below, cut-above, cut-ext}
 use Rattle.model.specs.Card.{Code}
 use Rattle.model.specs.Order.{lastCodeword, start}
 use Rattle.model.specs.Words.{wordBits, word, wordAt}
 use Rattle.model.specs.Reading.{range, residual, nearest}
 use Rattle.model.specs.declared.ReadAnswer.the-variants.{At}
 use Rattle.code_theory.specs.Promise.{Sound}
+use Rattle.code_theory.proofs.Promise.{promise}
+use Rattle.code_theory.proofs.Starts.{start-zero}
+use Rattle.position_theory.proofs.Blocks.{word-at-start}
 use Rattle.position_theory.proofs.Bounds.{word-bits-bound}
 use Rattle.position.specs.declared.scan.Scan.{Scan}
 use Rattle.position.specs.Received.{NothingSpare}
@@ -25,19 +28,19 @@ use Rattle.position.specs.SearchReady.{BlockWords, PassedPlaces}
 
 -- the bits in which an array that holds a position's word differs from the received one are its residual
 pub count-is-residual : (C : Code) → Sound C → (w x : List ℕ) (position : ℕ)
-    → ((p : ℕ) → place w p ≡ cut (wordBits C) (wordAt C position) p) → NothingSpare C x
+    → ((p : ℕ) → p < 320 → place w p ≡ cut (wordBits C) (wordAt C position) p) → NothingSpare C x
     → distance 320 (place w) (place x) ≡ residual C (place x) position
 unfolding NothingSpare residual
 count-is-residual C sound w x position holds spare =
     let rest = le-dest (word-bits-bound C sound) in
     let none : distance (rest .0) (from (wordBits C) (place w)) (from (wordBits C) (place x)) ≡ 0 =
-      distance-ext (rest .0)
-        (λ p b. holds (wordBits C + p) ∙ cut-above (wordBits C) (wordAt C position) (wordBits C + p) (omega arith))
-        (λ p b. spare (wordBits C + p) (omega arith))
-      ∙ distance-self (rest .0) (λ p. 0)
+    distance-ext (rest .0)
+    (λ p b. holds (wordBits C + p) (omega arith) ∙ cut-above (wordBits C) (wordAt C position) (wordBits C + p) (omega arith))
+    (λ p b. spare (wordBits C + p) (omega arith))
+    ∙ distance-self (rest .0) (λ p. 0)
     in
     let bits : distance (wordBits C) (place w) (place x) ≡ residual C (place x) position =
-      distance-ext (wordBits C) (λ p b. holds p ∙ cut-below (wordBits C) (wordAt C position) p b) (λ p b. refl)
+    distance-ext (wordBits C) (λ p b. holds p (omega (arith, word-bits-bound C sound)) ∙ cut-below (wordBits C) (wordAt C position) p b) (λ p b. refl)
     in
     ap (λ (d : ℕ). distance d (place w) (place x)) (sym (rest .1))
     ∙ distance-split (wordBits C) (rest .0) (place w) (place x) ∙ omega arith
@@ -54,12 +57,12 @@ pub block-words : (C : Code) (i : ℕ) (u v : List ℕ) → Sound C → i < last
     → ((p : ℕ) → place u p ≡ cut (wordBits C) (word C i) p) → ((p : ℕ) → place v p ≡ cut (wordBits C) (word C (i + 1)) p)
     → BlockWords C i u v
 block-words C i u v sound inside hu hv =
-    record
-      { sound = sound
-      ; inside = inside
-      ; old = λ p b. hu p ∙ cut-below (wordBits C) (word C i) p b
-      ; new = λ p b. hv p ∙ cut-below (wordBits C) (word C (i + 1)) p b
-      }
+    record {
+      sound = sound;
+      inside = inside;
+      old = λ p b. hu p ∙ cut-below (wordBits C) (word C i) p b;
+      new = λ p b. hv p ∙ cut-below (wordBits C) (word C (i + 1)) p b;
+    }
 
 -- a search that stands at the start of a block has passed none of its places
 pub passed-none : (C : Code) (i : ℕ) (x : List ℕ) (s : Scan) → s .position ≡ start C i → Scanned (residual C (place x)) s
@@ -72,3 +75,12 @@ pub answer-of-search : (C : Code) (x : ℕ → ℕ) (rule low high : ℕ) (s : S
     → s .position ≡ high → At (s .best) (s .least) rule ≡ nearest C x (range rule low high)
 unfolding nearest
 answer-of-search C x rule low high s scanned l h = rw (← l, ← h, ← (scanned .nearest), scanned .least)
+
+-- the array that holds w(0) holds the word of position 0
+pub first-word : (C : Code) → Sound C → (w : List ℕ) → ((p : ℕ) → place w p ≡ cut (wordBits C) (word C 0) p)
+    → (p : ℕ) → p < 320 → place w p ≡ cut (wordBits C) (wordAt C 0) p
+first-word C sound w holds p b =
+    holds p ∙ ap (λ (u : ℕ → ℕ). u p) (cut-ext (wordBits C) (word C 0) (wordAt C 0) (λ q l. sym (at-zero q)))
+  where
+    at-zero : (q : ℕ) → wordAt C 0 q ≡ word C 0 q
+    at-zero q = rw (start-zero C) at (word-at-start C (promise C sound) 0 (omega arith) q)

@@ -1,3 +1,4 @@
+pub mod LayoutOf
 pub mod Received
 pub mod Scanned
 pub mod SearchReady

@@ -1,10 +1,21 @@
--- A received word in an array of forty bytes: nothing is set past the word's bits. Assumes nothing.
+-- A received word in an array of forty bytes, and a search through it that begins. Assumes nothing.
 use mathlib.Core.Path.{_≡_}
 use mathlib.Core.List.{List}
-use Prim.Native.Nat.{ℕ, _≤_}
-use Rattle.bits.specs.Places.{place}
+use Prim.Native.Nat.{ℕ, _≤_, _<_}
+use Rattle.bits.specs.Places.{place, cut}
 use Rattle.model.specs.Card.{Code}
-use Rattle.model.specs.Words.{wordBits}
+use Rattle.model.specs.Words.{wordBits, wordAt}
+use Rattle.model.specs.Reading.{residual}
+use Rattle.code_theory.specs.Promise.{Sound}
+use Rattle.position.specs.declared.scan.Scan.{Scan}
+use Rattle.position.specs.Scanned.{Scanned}
 
+-- nothing is set past the word's bits
 unfoldable pub NothingSpare : Code → List ℕ → Type 0
 NothingSpare C x = (p : ℕ) → wordBits C ≤ p → place x p ≡ 0
+
+-- a search s that stands at the position low, whose word the array w holds, in whichever sound code it is that position's
+unfoldable pub Begun : (w x : List ℕ) (low : ℕ) (s : Scan) → Type 0
+Begun w x low s =
+    (C : Code) → Sound C → ((p : ℕ) → p < 320 → place w p ≡ cut (wordBits C) (wordAt C low) p) → NothingSpare C x
+    → Scanned (residual C (place x)) s

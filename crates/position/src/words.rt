@@ -1,6 +1,6 @@
 // Words: w(i), the word of a position, a received word, and in how many bits two words differ.
-// Inside the library a word is an array of the widest word's forty bytes, passed and returned by value. Place p is bit p mod 8,
-// lowest first, of byte p / 8, and the places past the word's bits are 0.
+// Inside the library a word is an array of the widest word's forty bytes, built chunk by chunk, passed and returned by value:
+// document 01 names this form. Place p is bit p mod 8, lowest first, of byte p / 8, and the places past the word's bits are 0.
 ghost use mathlib.Core.Path.{_≡_};
 ghost use Prim.Native.Nat.{ℕ, _+_, _*_, _%_, _^_, _≤_, _<_};
 ghost use lib.Bits.{bitXor};
@@ -122,7 +122,8 @@ fn differs_at(x: u8, y: u8, q: u32) -> u8
 
 // w(i) with the first m places in which w(i) and w(i + 1) differ taken from w(i + 1).
 pub fn word_in_block(code: DecodedCode, i: u32, m: u32) -> [u8; 40]
-    requires { ⌜ Sound (meaning code) × (i ≤ lastCodeword (meaning code)) × (m ≤ distance (wordBits (meaning code)) (word (meaning code) i) (word (meaning code) (i + 1))) ⌝ }
+    requires { ⌜ Sound (meaning code) × (i ≤ lastCodeword (meaning code)) ⌝ }
+    requires { ⌜ m ≤ distance (wordBits (meaning code)) (word (meaning code) i) (word (meaning code) (i + 1)) ⌝ }
     ensures { λ r. ⌜ ((p : ℕ) → place r p ≡ cut (wordBits (meaning code)) (walk (word (meaning code) i) (word (meaning code) (i + 1)) m) p) ⌝ }
 {
     let next = word_of(code, i + 1);
@@ -150,7 +151,8 @@ pub fn word_at(code: DecodedCode, position: u32) -> [u8; 40]
 
 // Writes the word of a position to the lent bytes.
 pub fn write(code: DecodedCode, position: u32, lent: &mut [u8])
-    requires { ⌜ Sound (meaning code) × (position ≤ lastPosition (meaning code)) × (length (now lent) ≡ wordLength (meaning code)) ⌝ }
+    requires { ⌜ Sound (meaning code) × (position ≤ lastPosition (meaning code)) ⌝ }
+    requires { ⌜ length (now lent) ≡ wordLength (meaning code) ⌝ }
     ensures { λ r. ⌜ now (lent .exit) ≡ wordBytes (meaning code) position ⌝ }
 {
     let word = word_at(code, position);

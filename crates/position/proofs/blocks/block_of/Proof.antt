@@ -77,10 +77,12 @@ returns : tie.Need-returns Inv-loop μ-loop
 unfolding blockOf
 returns c =
     let first = c .before .before .before in
+    let C = meaning (first .args .code) in
     let loop = c .before .loop in
     let met : loop .low ≡ loop .high = omega arith in
     sym
-    (greatest-is (λ j. leb (start (meaning (first .args .code)) j) (first .args .position)) (lastCodeword (meaning (first .args .code))) (loop .low) (omega arith) (λ _. le-leb _ _ (loop .inv .2))
+    (greatest-is (λ j. leb (start C j) (first .args .position)) (lastCodeword C) (loop .low) (omega arith)
+    (λ _. le-leb _ _ (loop .inv .2))
     (λ j l b. lt-leb _ _ (loop .inv .3 j (rw (← met) l) b)))
 
 pub block-of-spec : {M : Type 1} → statement M

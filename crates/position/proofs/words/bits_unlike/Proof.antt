@@ -42,7 +42,8 @@ loop-again : tie.Need-loop-again Inv-loop μ-loop
 loop-again c =
     let loop = c .before .before .loop in
     let args = c .before .before .before .args in
-    (omega arith, omega (arith, loop .inv .1, c .byte-unlike .ensures .0, distance-byte (args .t1) (args .t2) (loop .j)), omega (arith, c .byte-unlike .ensures .1))
+    let more = distance-byte (args .t1) (args .t2) (loop .j) in
+    (omega arith, omega (arith, loop .inv .1, c .byte-unlike .ensures .0), omega (arith, c .byte-unlike .ensures .1))
 
 returns : tie.Need-returns Inv-loop μ-loop
 returns c =

@@ -62,7 +62,10 @@ loop-again c =
 
 returns : tie.Need-returns Inv-loop μ-loop
 unfolding place
-returns c = λ p. rw (same-bytes (c .before .before .args .word .now) (c .before .loop .held) (c .before .loop .j) (omega arith) (c .before .loop .inv .2) (c .before .loop .inv .3) (p / 8))
+returns c =
+    let loop = c .before .loop in
+    let bytes = c .before .before .args .word .now in
+    λ p. rw (same-bytes bytes (loop .held) (loop .j) (omega arith) (loop .inv .2) (loop .inv .3) (p / 8))
 
 pub received-spec : {M : Type 1} → statement M
 received-spec =

@@ -40,9 +40,9 @@ word-in-block-requires : tie.Need-word-in-block-requires
 word-in-block-requires c κs =
     let first = c .before .before in
     let S = first .pre .0 in (
-      S,
-      rw (c .before .block-of .ensures) (block-le _ (promise _ S) (first .args .position)),
-      rw (c .block-start .ensures, c .before .block-of .ensures) (steps-to-make (meaning (first .args .code)) S (first .args .position) (first .pre .1)),
+      (S, rw (c .before .block-of .ensures) (block-le _ (promise _ S) (first .args .position))),
+      rw (c .block-start .ensures, c .before .block-of .ensures)
+          (steps-to-make (meaning (first .args .code)) S (first .args .position) (first .pre .1)),
     )
 
 returns : tie.Need-returns

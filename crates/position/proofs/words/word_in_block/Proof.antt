@@ -38,9 +38,9 @@ inside c =
     (λ p b. sym (words .before .word-of .ensures p ∙ cut-below d _ p b)) in
     omega (
       arith,
-      walk-not-over (place-bit _) (place-bit _) _ d (c .before .loop .inv .1) (rw (← same) (start .pre .2)) (c .loop-test .taken),
-      D-high C (start .pre .0),
-      start .pre .0 .n-high,
+      walk-not-over (place-bit _) (place-bit _) _ d (c .before .loop .inv .1) (rw (← same) (start .pre .1)) (c .loop-test .taken),
+      D-high C (start .pre .0 .0),
+      start .pre .0 .0 .n-high,
     )
 
 differs : (c : tie.After-differs-at Inv-loop μ-loop)
@@ -50,13 +50,13 @@ unfolding place
 differs c = c .differs-at .ensures
 
 add-word-of : tie.Need-add-word-of Inv-loop μ-loop
-add-word-of c = omega (arith, last-codeword-bound _ (c .pre .0), c .pre .1)
+add-word-of c = omega (arith, last-codeword-bound _ (c .pre .0 .0), c .pre .0 .1)
 
 word-of-requires : tie.Need-word-of-requires Inv-loop μ-loop
-word-of-requires c κs = c .pre .0
+word-of-requires c κs = c .pre .0 .0
 
 word-of-requires-2 : tie.Need-word-of-requires-2 Inv-loop μ-loop
-word-of-requires-2 c κs = c .before .pre .0
+word-of-requires-2 c κs = c .before .pre .0 .0
 
 loop-holds : tie.Need-loop-holds Inv-loop μ-loop
 loop-holds c = (search needs, walk-begins (place-bit _) (place-bit _) _)

@@ -83,13 +83,16 @@ put-chunk-requires-2 : tie.Need-put-chunk-requires-2
 put-chunk-requires-2 c κs = (omega (arith, fits (c .before)), fits (c .before) .0, zeros-behind _ _ _ (first c))
 
 put-chunk-requires-3 : tie.Need-put-chunk-requires-3
-put-chunk-requires-3 c κs = (omega (arith, fits (c .before .before)), fits (c .before .before) .1, zeros-behind _ _ _ (second c))
+put-chunk-requires-3 c κs =
+    let room = fits (c .before .before) in (omega arith, room .1, zeros-behind _ _ _ (second c))
 
 put-chunk-requires-4 : tie.Need-put-chunk-requires-4
-put-chunk-requires-4 c κs = (omega (arith, fits (c .before .before .before)), fits (c .before .before .before) .0, zeros-behind _ _ _ (third c))
+put-chunk-requires-4 c κs =
+    let room = fits (c .before .before .before) in (omega arith, room .0, zeros-behind _ _ _ (third c))
 
 put-chunk-requires-5 : tie.Need-put-chunk-requires-5
-put-chunk-requires-5 c κs = (omega (arith, fits (c .before .before .before .before)), fits (c .before .before .before .before) .1, zeros-behind _ _ _ (fourth c))
+put-chunk-requires-5 c κs =
+    let room = fits (c .before .before .before .before) in (omega arith, room .1, zeros-behind _ _ _ (fourth c))
 
 returns : tie.Need-returns
 returns c =

@@ -30,7 +30,7 @@ loop-holds c = search needs
 array-read-lent : tie.Need-array-read-lent Inv-loop μ-loop
 array-read-lent c =
     let start = c .before .before .before .before in
-    omega (arith, c .before .loop .inv .0, start .pre .2, D-high (meaning (start .args .code)) (start .pre .0), start .pre .0 .n-high)
+    omega (arith, c .before .loop .inv .0, start .pre .1, D-high (meaning (start .args .code)) (start .pre .0 .0), start .pre .0 .0 .n-high)
 
 slice-write-lent : tie.Need-slice-write-lent Inv-loop μ-loop
 slice-write-lent c = search needs
@@ -61,7 +61,7 @@ returns c =
     let word = c .before .before .word-at .result in
     let fits : (i : ℕ) → Fits w8 (getD word i 0) = λ i. search needs in
     copied-word (loop .lent) word (λ i h. loop .inv .1 i (omega arith)) (meaning (start .args .code)) (start .args .position)
-    (loop .inv .0 ∙ start .pre .2)
+    (loop .inv .0 ∙ start .pre .1)
     (λ i. fits i .fits)
     (c .before .before .word-at .ensures)
 

@@ -1,0 +1,65 @@
+-- The search through a part of a block begins with the word that is w(i+1) below a place and w(i) from there on: the word of
+-- the position at which the places below have been passed. Its distance from w(i) counts the steps to it.
+-- Assumes nothing.
+use mathlib.Core.Path.{_≡_, refl, sym, _∙_, ap}
+use mathlib.Core.Bool.{cond}
+use mathlib.Core.List.{List}
+use mathlib.Core.Logic.{⊎-elim}
+use Prim.Native.Nat.{ℕ, _+_, _≤_, _<_}
+use native.Mathlib.Nat.{le-dest}
+use native.Mathlib.Omega.{arith}
+use lib.Dec.{ltb}
+use borrow.Author.Tests.{lt-ltb, le-ltb}
+use Rattle.bits.specs.Sums.{distance, from}
+use Rattle.bits.specs.Places.{place, cut}
+use Rattle.bits.proofs.Numbers.{lt-or-le}
+use Rattle.bits.proofs.Distance.{distance-ext, distance-self, distance-split}
+use Rattle.bits.proofs.Places.{cut-below, cut-above}
+use Rattle.model.specs.Card.{Code}
+use Rattle.model.specs.Order.{lastCodeword, start}
+use Rattle.model.specs.Words.{wordBits, word, wordAt}
+use Rattle.code_theory.specs.Promise.{Sound}
+use Rattle.code_theory.proofs.Promise.{promise}
+use Rattle.position_theory.proofs.Bounds.{word-bits-bound}
+use Rattle.position_theory.proofs.Stepping.{word-passed}
+use Rattle.position.specs.SearchReady.{BlockWords}
+
+module _ (C : Code) (i : ℕ) (u v w : List ℕ) (at : ℕ) (words : BlockWords C i u v)
+    (spare : (p : ℕ) → place u p ≡ cut (wordBits C) (word C i) p) (room : at ≤ wordBits C)
+    (splice : (p : ℕ) → p < 320 → place w p ≡ cond (ltb p at) (place v p) (place u p)) where
+  below : (p : ℕ) → p < at → place w p ≡ word C (i + 1) p
+  below p b =
+      rw (splice p (omega (arith, word-bits-bound C (words .sound))), lt-ltb p at b) (words .new p (omega arith))
+
+  above : (p : ℕ) → at ≤ p → p < 320 → place w p ≡ place u p
+  above p b l = rw (splice p l, le-ltb p at b)
+
+  -- its distance from w(i) counts the steps to it
+  pub steps-counted : distance 320 (place u) (place w) ≡ distance at (word C i) (word C (i + 1))
+  steps-counted =
+      let rest : (m : ℕ) × (at + m ≡ 320) = le-dest (omega (arith, word-bits-bound C (words .sound))) in
+      let none : distance (rest .0) (from at (place u)) (from at (place w)) ≡ 0 =
+      distance-ext (rest .0) (λ p b. refl) (λ p b. above (at + p) (omega arith) (omega arith)) ∙ distance-self (rest .0) (from at (place u))
+      in
+      let steps : distance at (place u) (place w) ≡ distance at (word C i) (word C (i + 1)) =
+      distance-ext at (λ p b. words .old p (omega arith)) below
+      in
+      ap (λ (d : ℕ). distance d (place u) (place w)) (sym (rest .1)) ∙ distance-split at (rest .0) (place u) (place w) ∙ omega arith
+
+  -- it holds the word of that position
+  pub splice-holds : (p : ℕ) → p < 320
+      → place w p ≡ cut (wordBits C) (wordAt C (start C i + distance at (word C i) (word C (i + 1)))) p
+  splice-holds p l =
+      ⊎-elim
+      (λ (b : p < wordBits C).
+      rw (
+        cut-below (wordBits C) (wordAt C (start C i + distance at (word C i) (word C (i + 1)))) p b,
+        word-passed C (promise C (words .sound)) i (words .inside) at p room b,
+        splice p l,
+        words .old p b,
+        words .new p b,
+      ))
+      (λ (b : wordBits C ≤ p).
+      rw (cut-above (wordBits C) (wordAt C (start C i + distance at (word C i) (word C (i + 1)))) p b)
+      (above p (omega arith) l ∙ spare p ∙ cut-above (wordBits C) (word C i) p b))
+      (lt-or-le p (wordBits C))

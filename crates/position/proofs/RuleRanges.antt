@@ -1,0 +1,64 @@
+-- What each rule allows, as the search through a block meets it: rule 1 from separator 2 to the block's end, rule 2 from its
+-- start to the end of separator 2, and rule 3 over separator 3 of one block and separator 1 of the next.
+-- Assumes nothing.
+use mathlib.Core.Path.{_≡_, refl, sym, _∙_}
+use mathlib.Core.List.{List}
+use Prim.Native.Nat.{ℕ, _+_, _-_, _*_, _≤_, _<_, min}
+use native.Mathlib.Omega.{arith}
+use Rattle.bits.specs.Sums.{sum, distance}
+use Rattle.bits.specs.Places.{place}
+use Rattle.model.specs.Card.{Code}
+use Rattle.model.specs.Order.{lastCodeword, changedWeight, start, lastPosition}
+use Rattle.model.specs.Words.{wordBits, word}
+use Rattle.model.specs.Reading.{range, residual, nearest}
+use Rattle.model.specs.declared.ReadAnswer.the-variants.{At}
+use Rattle.code_theory.specs.Promise.{Sound}
+use Rattle.code_theory.proofs.Promise.{promise}
+use Rattle.position_theory.proofs.Words.{apart, apart-separator₁, apart-chunk₁, apart-separator₂, apart-chunk₂}
+use Rattle.position_theory.proofs.Allowed.{start-on-track}
+use Rattle.position.specs.declared.scan.Scan.{Scan}
+use Rattle.position.specs.Scanned.{Scanned}
+use Rattle.position.specs.SearchReady.{PassedPlaces}
+use Rattle.position.proofs.NearestSearch.{answer-of-search}
+
+module _ (C : Code) (sound : Sound C) (i : ℕ) (inside : i < lastCodeword C) (x : List ℕ) (s : Scan) where
+  -- a search that has passed all places of a block stands at the next start
+  pub at-next-start : PassedPlaces C i x (wordBits C) s → s .position ≡ start C (i + 1)
+  at-next-start passed =
+      passed .position-is ∙ omega (arith, apart C (promise C sound) i inside, promise C sound .start-next i inside)
+
+  -- one that has passed separator 1 has made D steps
+  pub past-separator₁ : PassedPlaces C i x (C .D) s → s .position ≡ start C i + C .D
+  past-separator₁ passed = passed .position-is ∙ omega (arith, apart-separator₁ C (promise C sound) i inside)
+
+  pub rule₁-answer : s .low ≡ start C i + distance (C .D + C .n) (word C i) (word C (i + 1)) → PassedPlaces C i x (wordBits C) s
+      → At (s .best) (s .least) 1 ≡ nearest C (place x) (range 1 (start C i + C .D + changedWeight C i) (start C (i + 1)))
+  rule₁-answer low passed =
+      answer-of-search C (place x) 1 _ _ s (passed .scanned) (low ∙ omega (arith, apart-chunk₁ C (promise C sound) i inside)) (at-next-start passed)
+
+  pub rule₂-answer : s .low ≡ start C i + distance 0 (word C i) (word C (i + 1)) → PassedPlaces C i x (C .D + C .n + C .D) s
+      → At (s .best) (s .least) 2 ≡ nearest C (place x) (range 2 (start C i) (start C i + 2 * C .D + changedWeight C i))
+  unfolding distance sum
+  rule₂-answer low passed =
+      answer-of-search C (place x) 2 _ _ s (passed .scanned) (low ∙ omega arith)
+      (passed .position-is ∙ omega (arith, apart-separator₂ C (promise C sound) i inside))
+
+  -- one that begins at separator 3 begins D steps before the next start
+  pub before-next-start : s .low ≡ start C i + distance (C .D + C .n + C .D + C .n) (word C i) (word C (i + 1))
+      → s .low ≡ start C (i + 1) - C .D
+  before-next-start low =
+      low ∙ omega (arith, apart-chunk₂ C (promise C sound) i inside, promise C sound .start-next i inside)
+
+-- rule 3 around a start: at the last one the track ends there, and at any other it goes on for D steps at least
+pub rule₃-answer : (C : Code) → Sound C → (p : ℕ) (x : List ℕ) (s : Scan) → Scanned (residual C (place x)) s → s .low ≡ start C p - C .D
+    → s .position ≡ min (start C p + C .D) (lastPosition C)
+    → At (s .best) (s .least) 3 ≡ nearest C (place x) (range 3 (start C p - C .D) (min (start C p + C .D) (lastPosition C)))
+rule₃-answer C sound p x s scanned low high = answer-of-search C (place x) 3 _ _ s scanned low high
+
+pub track-ends : (C : Code) (p : ℕ) → p ≡ lastCodeword C → start C p ≡ min (start C p + C .D) (lastPosition C)
+unfolding lastPosition
+track-ends C p e = rw e (omega arith)
+
+pub track-goes-on : (C : Code) → Sound C → (p : ℕ) → p < lastCodeword C → start C p + C .D ≡ min (start C p + C .D) (lastPosition C)
+track-goes-on C sound p inside =
+    omega (arith, promise C sound .start-next p inside, start-on-track C (promise C sound) (p + 1) (omega arith))

@@ -1,0 +1,64 @@
+-- The spare bits of a received word, by a count of ones. Assumes nothing.
+use mathlib.Core.Path.{_≡_, refl, _∙_}
+use mathlib.Core.Bool.{Bool, true, false}
+use mathlib.Core.List.{List}
+use mathlib.Core.Logic.{⊎-elim}
+use Prim.Native.Nat.{ℕ, suc, _+_, _-_, _*_, _/_, _≤_, _<_}
+use native.Mathlib.Nat.{le-dest, zero-div}
+use native.Mathlib.Omega.{arith}
+use lib.Dec.{eqb}
+use lib.ListN.{length, List·getD-eq-default}
+use borrow.Author.Tests.{eqb-false, ne-eqb}
+use Rattle.bits.specs.Sums.{sum, from}
+use Rattle.bits.specs.Places.{place}
+use Rattle.bits.specs.Searches.{any}
+use Rattle.bits.proofs.Numbers.{lt-or-le}
+use Rattle.bits.proofs.Sums.{sum-longer, sum-zero}
+use Rattle.bits.proofs.Searches.{any-none, none-of-any}
+use Rattle.bits.proofs.Places.{place-bit}
+use Rattle.model.specs.Card.{Code}
+use Rattle.model.specs.Words.{wordBits}
+use Rattle.model.specs.Answers.{wordLength, spareSet}
+use Rattle.position.specs.Received.{NothingSpare}
+
+-- a summand is at most the sum
+summand-le : (f : ℕ → ℕ) (m q : ℕ) → q < m → f q ≤ sum f m
+unfolding sum
+summand-le f m q h = omega (arith, sum-longer f {a = suc q} {d = m} h)
+
+-- places past the end of a list are 0
+past-end : (l : List ℕ) (p : ℕ) → 8 * length l ≤ p → place l p ≡ 0
+unfolding place
+past-end l p h =
+    let past : length l ≤ p / 8 = omega arith in rw (List·getD-eq-default l 0 past, zero-div) refl
+
+module _ (C : Code) (received x : List ℕ) (same : (p : ℕ) → place x p ≡ place received p) where
+  pub spare-none : sum (from (wordBits C) (place x)) (8 * wordLength C - wordBits C) ≡ 0 → spareSet C received ≡ false
+  unfolding spareSet
+  spare-none e =
+      any-none _ _ (λ q b. ne-eqb (place received (wordBits C + q)) 1 (λ (one : place received (wordBits C + q) ≡ 1).
+      omega (arith, summand-le (from (wordBits C) (place x)) (8 * wordLength C - wordBits C) q b, same (wordBits C + q))))
+
+  pub spare-some : (sum (from (wordBits C) (place x)) (8 * wordLength C - wordBits C) ≡ 0 → ⊥) → spareSet C received ≡ true
+  unfolding spareSet
+  spare-some ne = by-test (spareSet C received) refl
+    where
+      none-set : spareSet C received ≡ false → (q : ℕ) → q < 8 * wordLength C - wordBits C → place x (wordBits C + q) ≡ 0
+      none-set f q b =
+          let not-one = eqb-false (place received (wordBits C + q)) 1 (none-of-any (λ q. eqb (place received (wordBits C + q)) 1) _ f q b) in
+          omega (arith, same (wordBits C + q), place-bit received (wordBits C + q), not-one)
+
+      by-test : (t : Bool) → spareSet C received ≡ t → spareSet C received ≡ true
+      by-test true e = e
+      by-test false e = absurd (ne (sum-zero _ (none-set e)))
+
+  pub nothing-spare : length received ≡ wordLength C → sum (from (wordBits C) (place x)) (8 * wordLength C - wordBits C) ≡ 0
+      → NothingSpare C x
+  unfolding NothingSpare
+  nothing-spare h e p l =
+      ⊎-elim
+      (λ (b : p < 8 * wordLength C).
+      let rest = le-dest l in
+      rw (← (rest .1)) (omega (arith, summand-le (from (wordBits C) (place x)) (8 * wordLength C - wordBits C) (rest .0) (omega arith))))
+      (λ (b : 8 * wordLength C ≤ p). same p ∙ past-end received p (omega arith))
+      (lt-or-le p (8 * wordLength C))

@@ -1,0 +1,13 @@
+-- Where chunk 1 is unreadable, rule 3 refuses the word by 10, whatever chunk 2 reads as. Assumes nothing.
+use mathlib.Core.Path.{_≡_, refl}
+use Prim.Native.Nat.{ℕ}
+use Rattle.model.specs.Card.{Code}
+use Rattle.model.specs.Reading.{rule₃, nearest}
+use Rattle.model.specs.declared.Chunk.{Chunk}
+use Rattle.model.specs.declared.Chunk.the-variants.{Codeword, Unreadable}
+use Rattle.model.specs.declared.ReadAnswer.the-variants.{Refused}
+
+pub unreadable-first : (C : Code) (x : ℕ → ℕ) (second : Chunk) → Refused 10 ≡ nearest C x (rule₃ C Unreadable second)
+unfolding nearest rule₃
+unreadable-first C x (Codeword p e) = refl
+unreadable-first C x Unreadable = refl

@@ -1,0 +1,33 @@
+-- `position::layout::layout_of` meets its contract: the sums fit, since a word has 320 bits at most. Assumes nothing.
+use native.Mathlib.Omega.{arith}
+use mathlib.Core.Path.{refl}
+use Rattle.model.specs.Decoded.{meaning}
+use Rattle.position_theory.proofs.Bounds.{word-bits-bound}
+use Rattle.position.proofs.layout.layout_of.Statement.{statement}
+use Rattle.position.proofs.layout.layout_of.Tie as tie
+
+add-separator2 : tie.Need-add-separator2
+add-separator2 c = omega (arith, word-bits-bound (meaning (c .args .code)) (c .pre))
+
+add-chunk2 : tie.Need-add-chunk2
+add-chunk2 c = omega (arith, word-bits-bound (meaning (c .args .code)) (c .pre))
+
+add-separator3 : tie.Need-add-separator3
+add-separator3 c = omega (arith, word-bits-bound (meaning (c .args .code)) (c .pre))
+
+add-t7 : tie.Need-add-t7
+add-t7 c = omega (arith, word-bits-bound (meaning (c .args .code)) (c .pre))
+
+returns : tie.Need-returns
+returns c =
+    record {
+      chunk₁-at = refl;
+      separator₂-at = refl;
+      chunk₂-at = refl;
+      separator₃-at = refl;
+      bits-are = omega arith;
+      fits = word-bits-bound (meaning (c .args .code)) (c .pre);
+    }
+
+pub layout-of-spec : {M : Type 1} → statement M
+layout-of-spec = tie.close (tie.spec add-separator2 add-chunk2 add-separator3 add-t7 returns)

@@ -1,0 +1,23 @@
+-- `position::reading::begin` meets its contract: the count of differing bits is the residual. Assumes nothing.
+use mathlib.Core.Path.{refl, _∙_}
+use borrow.Author.Needs.{needs}
+use Rattle.position.specs.Received.{Begun}
+use Rattle.position.proofs.NearestSearch.{count-is-residual, scanned-first}
+use Rattle.position.proofs.reading.begin.Statement.{statement}
+use Rattle.position.proofs.reading.begin.Tie as tie
+
+bits-unlike-requires : tie.Need-bits-unlike-requires
+bits-unlike-requires c κs = search needs
+
+returns : tie.Need-returns
+unfolding Begun
+returns c = (
+  refl,
+  refl,
+  λ C sound holds spare.
+      scanned-first _ (c .before .args .low) (c .bits-unlike .result)
+      (c .bits-unlike .ensures ∙ count-is-residual C sound _ _ (c .before .args .low) holds spare),
+)
+
+pub begin-spec : {M : Type 1} → statement M
+begin-spec = tie.close (tie.spec bits-unlike-requires returns)

@@ -1,0 +1,26 @@
+-- `position::reading::chunk_reading` meets its contract: the search reads the chunk's bits, as a number, by the chunk promise's
+-- definition, which looks at no others. Assumes nothing.
+use mathlib.Core.Path.{_∙_}
+use native.Mathlib.Omega.{arith}
+use borrow.Author.Needs.{needs}
+use Rattle.model.specs.Decoded.{meaning}
+use Rattle.code_theory.proofs.ChunkReading.{chunkReading-ext}
+use Rattle.position_theory.proofs.Bounds.{word-bits-bound}
+use Rattle.position.proofs.reading.chunk_reading.Statement.{statement}
+use Rattle.position.proofs.reading.chunk_reading.Tie as tie
+
+chunk-at-requires : tie.Need-chunk-at-requires
+chunk-at-requires c κs =
+    let sound = c .before .pre .0 in
+    (omega (arith, c .before .pre .1, word-bits-bound (meaning (c .before .args .code)) sound), sound .n-high)
+
+read-chunk-requires : tie.Need-read-chunk-requires
+read-chunk-requires c κs = search needs
+
+returns : tie.Need-returns
+returns c =
+    c .read-chunk .ensures
+    ∙ chunkReading-ext (meaning (c .before .before .before .args .code)) _ _ (c .before .chunk-at .ensures .1)
+
+pub chunk-reading-spec : {M : Type 1} → statement M
+chunk-reading-spec = tie.close (tie.spec chunk-at-requires read-chunk-requires returns)

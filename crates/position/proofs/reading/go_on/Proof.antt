@@ -1,0 +1,59 @@
+-- `position::reading::go_on` meets its contract: separator 1 of block p. Assumes nothing.
+use mathlib.Core.Path.{_∙_}
+use Rattle.model.specs.Decoded.{meaning}
+use Rattle.code_theory.proofs.Starts.{last-codeword-bound}
+use Rattle.position.specs.SearchReady.{BlockWords, PassedPlaces, Passes}
+use Rattle.position.proofs.NearestSearch.{block-words, passed-none}
+use Rattle.position.proofs.RuleRanges.{past-separator₁}
+use native.Mathlib.Omega.{arith}
+use borrow.Author.Needs.{needs}
+use Rattle.position.proofs.reading.go_on.Statement.{statement}
+use Rattle.position.proofs.reading.go_on.Tie as tie
+
+word-of-requires : tie.Need-word-of-requires
+word-of-requires c κs = search needs
+
+add-word-of : tie.Need-add-word-of
+add-word-of c = omega (arith, c .before .pre .1, last-codeword-bound (meaning (c .before .args .code)) (c .before .pre .0))
+
+word-of-requires-2 : tie.Need-word-of-requires-2
+word-of-requires-2 c κs = search needs
+
+words : (c : tie.After-word-of2)
+    → BlockWords (meaning (c .before .before .args .code)) (c .before .before .args .p) (c .before .word-of .result) (c .word-of2 .result)
+words c =
+    let first = c .before .before in
+    block-words (meaning (first .args .code)) (first .args .p) _ _ (first .pre .0) (first .pre .1) (c .before .word-of .ensures) (c .word-of2 .ensures)
+
+none-passed : (c : tie.After-word-of2)
+    → PassedPlaces (meaning (c .before .before .args .code)) (c .before .before .args .p) (c .before .before .args .t2) 0 (c .before .before .args .s)
+none-passed c =
+    let first = c .before .before in
+    passed-none (meaning (first .args .code)) (first .args .p) _ (first .args .s) (first .pre .2) (first .pre .3)
+
+pass-places-requires : tie.Need-pass-places-requires
+pass-places-requires c κs =
+    let there = c .before .before .before in
+    let first = there .before .before in
+    record {
+      code = meaning (first .args .code);
+      block = first .args .p;
+      words = words there;
+      passed = none-passed there;
+      forward = omega arith;
+      room = omega arith;
+    }
+
+returns : tie.Need-returns
+unfolding Passes
+returns c =
+    let there = c .before .before .before .before in
+    let first = there .before .before in
+    let C = meaning (first .args .code) in
+    let passed = c .pass-places .ensures .1 C (first .args .p) (words there) (none-passed there) (omega arith) in
+    (c .pass-places .ensures .0, past-separator₁ C (first .pre .0) (first .args .p) (first .pre .1) _ (c .pass-places .result) passed, passed .scanned)
+
+pub go-on-spec : {M : Type 1} → statement M
+go-on-spec =
+    tie.close
+    (tie.spec word-of-requires add-word-of word-of-requires-2 pass-places-requires returns)

@@ -1,0 +1,30 @@
+-- `position::reading::nearest_after` meets its contract: block p from its start to the end of separator 2. Assumes nothing.
+use mathlib.Core.Path.{_∙_}
+use Rattle.model.specs.Decoded.{meaning}
+use Rattle.position.proofs.RuleRanges.{rule₂-answer}
+use native.Mathlib.Omega.{arith}
+use borrow.Author.Needs.{needs}
+use Rattle.position.proofs.reading.nearest_after.Statement.{statement}
+use Rattle.position.proofs.reading.nearest_after.Tie as tie
+
+layout-of-requires : tie.Need-layout-of-requires
+layout-of-requires c κs = search needs
+
+search-block-requires : tie.Need-search-block-requires
+search-block-requires c κs = search needs
+
+found-requires : tie.Need-found-requires
+found-requires c κs = search needs
+
+returns : tie.Need-returns
+returns c =
+    let first = c .before .before .before in
+    let at = c .before .before .layout-of .ensures in
+    let search = c .before .search-block .ensures in
+    c .found .ensures
+    ∙ rule₂-answer (meaning (first .args .code)) (first .pre .0) (first .args .p) (first .pre .2) _ (c .before .search-block .result)
+    (search .0) (rw (at .chunk₂-at) at (search .1))
+
+pub nearest-after-spec : {M : Type 1} → statement M
+nearest-after-spec =
+    tie.close (tie.spec layout-of-requires search-block-requires found-requires returns)

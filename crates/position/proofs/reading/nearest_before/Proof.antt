@@ -1,0 +1,39 @@
+-- `position::reading::nearest_before` meets its contract: block p - 1 from separator 2 to its end. Assumes nothing.
+use mathlib.Core.Path.{_≡_, _∙_, sym, ap}
+use Prim.Native.Nat.{ℕ, _+_, _-_}
+use Rattle.bits.specs.Sums.{distance}
+use Rattle.model.specs.Decoded.{meaning}
+use Rattle.position.proofs.RuleRanges.{rule₁-answer}
+use native.Mathlib.Omega.{arith}
+use borrow.Author.Needs.{needs}
+use Rattle.position.proofs.reading.nearest_before.Statement.{statement}
+use Rattle.position.proofs.reading.nearest_before.Tie as tie
+
+layout-of-requires : tie.Need-layout-of-requires
+layout-of-requires c κs = search needs
+
+sub-search-block : tie.Need-sub-search-block
+sub-search-block c = search needs
+
+search-block-requires : tie.Need-search-block-requires
+search-block-requires c κs = search needs
+
+found-requires : tie.Need-found-requires
+found-requires c κs = search needs
+
+returns : tie.Need-returns
+returns c =
+    let first = c .before .before .before in
+    let C = meaning (first .args .code) in
+    let at = c .before .before .layout-of .ensures in
+    let search = c .before .search-block .ensures in
+    let here : first .args .p ≡ first .args .p - 1 + 1 = omega (arith, first .pre .2) in
+    c .found .ensures
+    ∙ rule₁-answer C (first .pre .0) (first .args .p - 1) (omega (arith, first .pre .2, first .pre .3)) _ (c .before .search-block .result)
+    (rw (at .separator₂-at) at (search .0)) (rw (at .bits-are) at (search .1))
+    ∙ rw (← here)
+
+pub nearest-before-spec : {M : Type 1} → statement M
+nearest-before-spec =
+    tie.close
+    (tie.spec layout-of-requires sub-search-block search-block-requires found-requires returns)

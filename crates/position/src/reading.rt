@@ -1,0 +1,225 @@
+// Reading a received word: separators, code chunks, the three rules, and the nearest position that they allow.
+ghost use mathlib.Core.Path.{_≡_};
+ghost use Prim.Native.Nat.{_+_, _-_, _*_, _≤_, _<_, min};
+ghost use Rattle.bits.specs.Sums.{distance, from};
+ghost use Rattle.bits.specs.Places.{place};
+ghost use Rattle.model.specs.Answers.{readWord};
+ghost use Rattle.model.specs.Decoded.{meaning};
+ghost use Rattle.model.specs.Order.{lastCodeword, changedWeight, start, lastPosition};
+ghost use Rattle.model.specs.Words.{wordBits, word};
+ghost use Rattle.model.specs.Reading.{chunkReading, chunk₁, chunk₂, range, rule₁, rule₂, rule₃, residual, nearest, reading};
+ghost use Rattle.code_theory.specs.Promise.{Sound};
+ghost use Rattle.position.specs.Received.{NothingSpare, Begun};
+ghost use Rattle.position.specs.Scanned.{Scanned};
+ghost use Rattle.position.specs.SearchReady.{PassedPlaces};
+use super::blocks;
+use super::layout;
+use super::places;
+use super::scan;
+use super::scan::Scan;
+use super::splice;
+use super::words;
+use chunk::search;
+use model::Chunk;
+use model::DecodedCode;
+use model::ReadAnswer;
+
+// A search that stands at its first position, whose word is `w`.
+fn begin(w: [u8; 40], x: [u8; 40], low: u32) -> Scan
+    ensures { λ r. ⌜ (r .low ≡ low) × (r .position ≡ low) × Begun w x low r ⌝ }
+{
+    let residual = words::bits_unlike(w, x);
+    Scan {
+        low,
+        position: low,
+        residual,
+        best: low,
+        least: residual,
+    }
+}
+
+// The search through block i from the position at which the places below `at` have been passed to the one at which those
+// below `to` have. The first residual is counted, and each step changes it by one.
+fn search_block(code: DecodedCode, x: [u8; 40], i: u32, at: u32, to: u32) -> Scan
+    requires { ⌜ Sound (meaning code) × NothingSpare (meaning code) x × (i < lastCodeword (meaning code)) × (at ≤ to) × (to ≤ wordBits (meaning code)) ⌝ }
+    ensures { λ r. ⌜ (r .low ≡ start (meaning code) i + distance at (word (meaning code) i) (word (meaning code) (i + 1))) × PassedPlaces (meaning code) i x to r ⌝ }
+{
+    let u = words::word_of(code, i);
+    let v = words::word_of(code, i + 1);
+    let w = splice::spliced(u, v, at);
+    let first = begin(
+        w,
+        x,
+        blocks::block_start(code, i) + words::bits_unlike(u, w),
+    );
+    scan::pass_places(&u, &v, &x, at, to, first)
+}
+
+// The answer of a search that has come to the last allowed position.
+fn found(s: Scan, rule: u32) -> ReadAnswer
+    ensures { λ r. ⌜ r ≡ ReadAnswer.At (s .best) (s .least) rule ⌝ }
+{
+    ReadAnswer::At {
+        position: s.best,
+        residual: s.least,
+        rule,
+    }
+}
+
+// Rule 1, chunk 1 reading p: the nearest from r(p-1) + D + A(p-1), where separator 2 begins to change, to r(p).
+fn nearest_before(code: DecodedCode, x: [u8; 40], p: u32) -> ReadAnswer
+    requires { ⌜ Sound (meaning code) × NothingSpare (meaning code) x × (1 ≤ p) × (p ≤ lastCodeword (meaning code)) ⌝ }
+    ensures { λ r. ⌜ r ≡ nearest (meaning code) (place x) (range 1 (start (meaning code) (p - 1) + code .distance + changedWeight (meaning code) (p - 1)) (start (meaning code) p)) ⌝ }
+{
+    let at = layout::layout_of(code);
+    found(search_block(code, x, p - 1, at.separator2, at.bits), 1)
+}
+
+// Rule 2, chunk 2 reading p: the nearest from r(p) to r(p) + 2D + A(p), where separator 2 has changed.
+fn nearest_after(code: DecodedCode, x: [u8; 40], p: u32) -> ReadAnswer
+    requires { ⌜ Sound (meaning code) × NothingSpare (meaning code) x × (p < lastCodeword (meaning code)) ⌝ }
+    ensures { λ r. ⌜ r ≡ nearest (meaning code) (place x) (range 2 (start (meaning code) p) (start (meaning code) p + 2 * code .distance + changedWeight (meaning code) p)) ⌝ }
+{
+    let at = layout::layout_of(code);
+    found(search_block(code, x, p, 0, at.chunk2), 2)
+}
+
+// The search from D steps before r(p), or from 0, to r(p): separator 3 of the block before changes.
+fn approach(code: DecodedCode, x: [u8; 40], p: u32) -> Scan
+    requires { ⌜ Sound (meaning code) × NothingSpare (meaning code) x × (p ≤ lastCodeword (meaning code)) ⌝ }
+    ensures { λ r. ⌜ (r .low ≡ start (meaning code) p - code .distance) × (r .position ≡ start (meaning code) p) × Scanned (residual (meaning code) (place x)) r ⌝ }
+{
+    if p == 0 {
+        return begin(words::word_of(code, 0), x, 0);
+    }
+    let at = layout::layout_of(code);
+    search_block(code, x, p - 1, at.separator3, at.bits)
+}
+
+// The search on from r(p), through D steps after it: separator 1 of block p changes.
+fn go_on(code: DecodedCode, x: [u8; 40], p: u32, s: Scan) -> Scan
+    requires { ⌜ Sound (meaning code) × (p < lastCodeword (meaning code)) × (s .position ≡ start (meaning code) p) × Scanned (residual (meaning code) (place x)) s ⌝ }
+    ensures { λ r. ⌜ (r .low ≡ s .low) × (r .position ≡ start (meaning code) p + code .distance) × Scanned (residual (meaning code) (place x)) r ⌝ }
+{
+    let u = words::word_of(code, p);
+    let v = words::word_of(code, p + 1);
+    scan::pass_places(&u, &v, &x, 0, code.distance, s)
+}
+
+// Rule 3, both chunks reading p: the nearest from r(p) - D to r(p) + D, cut to the track.
+fn nearest_around(code: DecodedCode, x: [u8; 40], p: u32) -> ReadAnswer
+    requires { ⌜ Sound (meaning code) × NothingSpare (meaning code) x × (p ≤ lastCodeword (meaning code)) ⌝ }
+    ensures { λ r. ⌜ r ≡ nearest (meaning code) (place x) (range 3 (start (meaning code) p - code .distance) (min (start (meaning code) p + code .distance) (lastPosition (meaning code)))) ⌝ }
+{
+    let before = approach(code, x, p);
+    if p == blocks::last_codeword(code) {
+        return found(before, 3);
+    }
+    found(go_on(code, x, p, before), 3)
+}
+
+// Code chunk 1, or 2, which starts at place `at`.
+fn chunk_reading(code: DecodedCode, x: [u8; 40], at: u32) -> Chunk
+    requires { ⌜ Sound (meaning code) × (at + code .n ≤ wordBits (meaning code)) ⌝ }
+    ensures { λ r. ⌜ r ≡ chunkReading (meaning code) (from at (place x)) ⌝ }
+{
+    search::read_chunk(code, places::chunk_at(&x, at, code.n))
+}
+
+// What rule 1 answers: it reads chunk 1.
+fn by_rule1(code: DecodedCode, x: [u8; 40]) -> ReadAnswer
+    requires { ⌜ Sound (meaning code) × NothingSpare (meaning code) x ⌝ }
+    ensures { λ r. ⌜ r ≡ nearest (meaning code) (place x) (rule₁ (meaning code) (chunkReading (meaning code) (chunk₁ (meaning code) (place x)))) ⌝ }
+{
+    let at = layout::layout_of(code);
+    match chunk_reading(code, x, at.chunk1) {
+        Chunk::Codeword { number, unlike: _ } => {
+            if number == 0 {
+                return ReadAnswer::Refused(12);
+            }
+            nearest_before(code, x, number)
+        }
+        Chunk::Unreadable => ReadAnswer::Refused(10),
+    }
+}
+
+// What rule 2 answers: it reads chunk 2.
+fn by_rule2(code: DecodedCode, x: [u8; 40]) -> ReadAnswer
+    requires { ⌜ Sound (meaning code) × NothingSpare (meaning code) x ⌝ }
+    ensures { λ r. ⌜ r ≡ nearest (meaning code) (place x) (rule₂ (meaning code) (chunkReading (meaning code) (chunk₂ (meaning code) (place x)))) ⌝ }
+{
+    let at = layout::layout_of(code);
+    match chunk_reading(code, x, at.chunk2) {
+        Chunk::Codeword { number, unlike: _ } => {
+            if number == blocks::last_codeword(code) {
+                return ReadAnswer::Refused(12);
+            }
+            nearest_after(code, x, number)
+        }
+        Chunk::Unreadable => ReadAnswer::Refused(10),
+    }
+}
+
+// What rule 3 answers: it reads both chunks, which must read alike.
+fn by_rule3(code: DecodedCode, x: [u8; 40]) -> ReadAnswer
+    requires { ⌜ Sound (meaning code) × NothingSpare (meaning code) x ⌝ }
+    ensures { λ r. ⌜ r ≡ nearest (meaning code) (place x) (rule₃ (meaning code) (chunkReading (meaning code) (chunk₁ (meaning code) (place x))) (chunkReading (meaning code) (chunk₂ (meaning code) (place x)))) ⌝ }
+{
+    let at = layout::layout_of(code);
+    let Chunk::Codeword {
+        number: first,
+        unlike: _,
+    } = chunk_reading(code, x, at.chunk1)
+    else {
+        return ReadAnswer::Refused(10);
+    };
+    let Chunk::Codeword {
+        number: second,
+        unlike: _,
+    } = chunk_reading(code, x, at.chunk2)
+    else {
+        return ReadAnswer::Refused(10);
+    };
+    if first != second {
+        return ReadAnswer::Refused(11);
+    }
+    nearest_around(code, x, first)
+}
+
+// The reading of a word whose spare bits are zero: the separators name the rule.
+fn read_places(code: DecodedCode, x: [u8; 40]) -> ReadAnswer
+    requires { ⌜ Sound (meaning code) × NothingSpare (meaning code) x ⌝ }
+    ensures { λ r. ⌜ r ≡ reading (meaning code) (place x) ⌝ }
+{
+    let at = layout::layout_of(code);
+    let s1 = places::separator_at(&x, 0, code.distance);
+    let s2 = places::separator_at(&x, at.separator2, code.distance);
+    let s3 = places::separator_at(&x, at.separator3, code.distance);
+    if s1 == s2 {
+        if s2 == s3 {
+            return by_rule3(code, x);
+        }
+        return by_rule1(code, x);
+    }
+    if s2 == s3 {
+        return by_rule2(code, x);
+    }
+    ReadAnswer::Refused(9)
+}
+
+// The reading of a received word, of any length.
+pub fn read(code: DecodedCode, word: &[u8]) -> ReadAnswer
+    requires { ⌜ Sound (meaning code) ⌝ }
+    ensures { λ r. ⌜ r ≡ readWord (meaning code) (now (word .entry)) ⌝ }
+{
+    let bits = layout::layout_of(code).bits;
+    let len = (bits + 7) / 8;
+    if word.len() != len as usize {
+        return ReadAnswer::Refused(6);
+    }
+    let x = words::received(word);
+    if places::ones_between(&x, bits, 8 * len - bits) != 0 {
+        return ReadAnswer::Refused(8);
+    }
+    read_places(code, x)
+}
