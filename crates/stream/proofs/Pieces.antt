@@ -14,7 +14,7 @@ use Rattle.model.specs.Answers.{wordLength, readWord}
 use Rattle.report.specs.Report.{wordPart, answerAt, wordLines, readCount, wordsRead}
 
 -- word i lies within the first m words
-within : (w i m : ℕ) → i < m → i * w + w ≤ m * w
+pub within : (w i m : ℕ) → i < m → i * w + w ≤ m * w
 within w i m h = rw suc-mul at (mul-le-mul-right w h)
 
 module _ (w m : ℕ) (first second : List ℕ) (whole : length first ≡ m * w) where
