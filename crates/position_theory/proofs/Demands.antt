@@ -58,8 +58,8 @@ unfolding NoOtherPositionsWord
 no-other-positions-word card position sound h other h′ same =
     words-differ (codeOf card) (kept card sound) other position h′ h same
 
--- the reading of a sound card
-read-sound : (card received : List ℕ) → cardRefusal card ≡ 0 → readAnswer card received ≡ readWord (codeOf card) received
+-- of a sound card, the public call's answer is that of the inner call, which is handed the card's code
+pub read-sound : (card received : List ℕ) → cardRefusal card ≡ 0 → readAnswer card received ≡ readWord (codeOf card) received
 unfolding readAnswer
 read-sound card received sound = rw (eq-eqb (cardRefusal card) 0 sound)
 
