@@ -11,18 +11,7 @@ use lib.Count.{ones, ones-cat}
 use lib.Pow.{pow-pos, pow-mono, mod-pow-add, shr-shr}
 use Rattle.bits.specs.Sums.{sum, unlike, distance}
 use Rattle.bits.specs.Places.{bit, weight}
-use Rattle.bits.proofs.Sums.{sum-ext, sum-zero, sum-longer}
-
--- ---- sums of bits
-
-sum-none : (f : ℕ → ℕ) (d : ℕ) → sum f d ≡ 0 → (p : ℕ) → p < d → f p ≡ 0
-unfolding sum
-sum-none f d e p l = omega (arith, sum-longer f {a = suc p} {d = d} l)
-
-sum-le : (f : ℕ → ℕ) (d : ℕ) → ((p : ℕ) → f p < 2) → sum f d ≤ d
-unfolding sum
-sum-le f zero h = omega arith
-sum-le f (suc d) h = omega (arith, sum-le f d h, h d)
+use Rattle.bits.proofs.Sums.{sum-ext, sum-zero, sum-of-bits, summand-le}
 
 -- ---- the digits of a number
 
@@ -119,7 +108,7 @@ eq-of-xor-zero x y e =
 
 pub weight-le : (n x : ℕ) → weight n x ≤ n
 unfolding weight
-weight-le n x = sum-le (bit x) n (bit-bit x)
+weight-le n x = sum-of-bits (bit x) n (bit-bit x)
 
 -- one place more
 pub weight-next : (n x : ℕ) → weight (n + 1) x ≡ weight n x + bit x n
@@ -133,7 +122,7 @@ weight-zero n = sum-zero n (λ p l. bit-zero p)
 -- of the numbers below 2 ^ n only 0 has weight 0
 pub zero-of-weight : (n x : ℕ) → x < 2 ^ n → weight n x ≡ 0 → x ≡ 0
 unfolding weight
-zero-of-weight n x h e = bit-ext-below n x 0 h (pow-pos n) (λ p l. sum-none (bit x) n e p l ∙ sym (bit-zero p))
+zero-of-weight n x h e = bit-ext-below n x 0 h (pow-pos n) (λ p l. omega (arith, summand-le (bit x) n p l) ∙ sym (bit-zero p))
 
 -- the weight of an exclusive-or is the distance of the two
 pub weight-xor : (n x y : ℕ) → weight n (bitXor x y) ≡ distance n (bit x) (bit y)

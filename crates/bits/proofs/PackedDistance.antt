@@ -1,10 +1,10 @@
 -- Packed into bytes, words are as far apart as they were: the spare bits are zero in both. Assumes nothing.
-use mathlib.Core.Path.{_≡_, refl, _∙_}
+use mathlib.Core.Path.{_≡_, _∙_}
 use Prim.Native.Nat.{ℕ, _+_, _*_, _<_}
 use native.Mathlib.Nat.{le-dest}
 use native.Mathlib.Omega.{arith}
 use Rattle.bits.specs.Sums.{distance, from}
-use Rattle.bits.specs.Places.{bytesFor, place, cut, pack, differingBits}
+use Rattle.bits.specs.Places.{bytesFor, place, pack, differingBits}
 use Rattle.bits.proofs.Distance.{distance-ext, distance-self, distance-split}
 use Rattle.bits.proofs.Places.{length-pack, place-pack, cut-below, cut-above}
 

@@ -11,7 +11,7 @@ use lib.ListN.{length, getD, length-append, List·getD-append, List·getD-eq-def
 use lib.Pow.{pow-pos, mod-pow-add, pow-add}
 use lib.Seq.{ext-getD, getD-at}
 use borrow.Author.Tests.{lt-ltb, le-ltb}
-use Rattle.bits.proofs.Searches.{below-or-above}
+use Rattle.bits.proofs.Numbers.{lt-or-le}
 use Rattle.bits.specs.Sums.{sum}
 use Rattle.bits.specs.Places.{bit, place, cut, bytesFor, byteOf, listOf, pack}
 
@@ -89,7 +89,7 @@ cut-above d u p h = rw (le-ltb p d h)
 
 pub cut-bit : (d : ℕ) (u : ℕ → ℕ) → ((p : ℕ) → u p < 2) → (p : ℕ) → cut d u p < 2
 cut-bit d u bits p =
-    ⊎-elim (λ h. rw (cut-below d u p h) (bits p)) (λ h. rw (cut-above d u p h) (omega arith)) (below-or-above p d)
+    ⊎-elim (λ h. rw (cut-below d u p h) (bits p)) (λ h. rw (cut-above d u p h) (omega arith)) (lt-or-le p d)
 
 pub cut-ext : (d : ℕ) (u v : ℕ → ℕ) → ((p : ℕ) → p < d → u p ≡ v p) → cut d u ≡ cut d v
 cut-ext d u v same =
@@ -97,7 +97,7 @@ cut-ext d u v same =
     (λ p.
     ⊎-elim (λ h. cut-below d u p h ∙ same p h ∙ sym (cut-below d v p h))
     (λ h. cut-above d u p h ∙ sym (cut-above d v p h))
-    (below-or-above p d))
+    (lt-or-le p d))
 
 -- packing
 
@@ -120,7 +120,7 @@ byte-of-places d u bits i =
     rw (getD-listOf (bytesFor d) (byteOf (cut d u)) i h)
     (number-below (λ q. cut d u (8 * i + q)) (λ q. cut-bit d u bits (8 * i + q)) 8))
     (λ h. rw (past-pack d u i h) (omega arith))
-    (below-or-above i (bytesFor d))
+    (lt-or-le i (bytesFor d))
 
 pub place-pack : (d : ℕ) (u : ℕ → ℕ) → ((p : ℕ) → u p < 2) → (p : ℕ) → place (pack d u) p ≡ cut d u p
 unfolding pack byteOf place
@@ -132,7 +132,7 @@ place-pack d u bits p =
     (bit-of-number (λ q. cut d u (8 * (p / 8) + q)) (λ q. cut-bit d u bits (8 * (p / 8) + q)) 8 (p % 8) (omega arith)
     ∙ ap (cut d u) split))
     (λ h. rw (past-pack d u (p / 8) h, cut-above d u p (omega arith), zero-div))
-    (below-or-above (p / 8) (bytesFor d))
+    (lt-or-le (p / 8) (bytesFor d))
 
 -- the places of byte i
 pub places-of-byte : (l : List ℕ) (i q : ℕ) → q < 8 → place l (8 * i + q) ≡ bit (getD l i 0) q

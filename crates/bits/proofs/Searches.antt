@@ -8,16 +8,8 @@ use native.Mathlib.Nat.{eq-or-lt-of-le, lt-of-not-le, le-of-suc-le-suc, le-antis
 use native.Mathlib.Omega.{arith}
 use lib.Dec.{ltb}
 use borrow.Author.Tests.{ltb-true, ltb-false}
+use Rattle.bits.proofs.Numbers.{true-or-false, or-false-left, or-false-right}
 use Rattle.bits.specs.Searches.{any, firstFrom, first, leastAt, greatest}
-
--- a test is true or false
-pub true-or-false : (b : Bool) → (b ≡ true) ⊎ (b ≡ false)
-true-or-false true = inl refl
-true-or-false false = inr refl
-
--- a number lies below a bound or not
-pub below-or-above : (p d : ℕ) → (p < d) ⊎ (d ≤ p)
-below-or-above p d = ⊎-elim (λ e. inl (ltb-true p d e)) (λ e. inr (ltb-false p d e)) (true-or-false (ltb p d))
 
 -- a test that is true is not false
 never : {b : Bool} → b ≡ true → b ≡ false → ⊥
@@ -32,14 +24,6 @@ last-or-below : {i m : ℕ} → i < suc m → (i ≡ m) ⊎ (i < m)
 last-or-below h = eq-or-lt-of-le (le-of-suc-le-suc h)
 
 -- any: whether the test ever holds
-
-pub or-false-left : (a b : Bool) → (a || b) ≡ false → a ≡ false
-or-false-left true b h = h
-or-false-left false b h = refl
-
-pub or-false-right : (a b : Bool) → (a || b) ≡ false → b ≡ false
-or-false-right true b h = absurd (true≢false h)
-or-false-right false b h = h
 
 or-true-right : (a b : Bool) → b ≡ true → (a || b) ≡ true
 or-true-right true b h = refl

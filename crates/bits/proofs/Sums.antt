@@ -3,6 +3,7 @@
 use mathlib.Core.Path.{_≡_, refl}
 use Prim.Native.Nat.{ℕ, zero, suc, _+_, _≤_, _<_}
 use native.Mathlib.Nat.{add-zero, add-suc, le-dest}
+use native.Mathlib.Numerals.{add-one}
 use native.Mathlib.Omega.{arith}
 use Rattle.bits.specs.Sums.{sum, from}
 
@@ -39,3 +40,19 @@ sum-zero (suc d) h = omega (arith, sum-zero d (λ p b. h p (omega arith)), h d (
 -- a sum over more places is at least as great
 pub sum-longer : (f : ℕ → ℕ) {a d : ℕ} → a ≤ d → sum f a ≤ sum f d
 sum-longer f {a} h = let more = le-dest h in rw (← more .1) (omega (arith, sum-split f a (more .0)))
+
+-- one place more, counted as a program counts
+pub sum-more : (f : ℕ → ℕ) (z : ℕ) → sum f (z + 1) ≡ sum f z + f z
+unfolding sum
+sum-more f z = rw (add-one z)
+
+-- a summand is at most the sum
+pub summand-le : (f : ℕ → ℕ) (m q : ℕ) → q < m → f q ≤ sum f m
+unfolding sum
+summand-le f m q h = omega (arith, sum-longer f {a = suc q} {d = m} h)
+
+-- a sum of bits is at most their number
+pub sum-of-bits : (f : ℕ → ℕ) (d : ℕ) → ((p : ℕ) → f p < 2) → sum f d ≤ d
+unfolding sum
+sum-of-bits f zero h = omega arith
+sum-of-bits f (suc d) h = omega (arith, sum-of-bits f d h, h d)

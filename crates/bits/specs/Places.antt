@@ -39,6 +39,6 @@ listOf (suc m) f = listOf m f ++ (f m ∷ [])
 unfoldable pub pack : ℕ → (ℕ → ℕ) → List ℕ
 pack d u = listOf (bytesFor d) (byteOf (cut d u))
 
--- in how many bits two byte lists of one length differ
+-- in how many bits two byte lists, of the same length, differ
 unfoldable pub differingBits : (a b : List ℕ) → ℕ
 differingBits a b = distance (8 * length a) (place a) (place b)

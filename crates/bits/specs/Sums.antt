@@ -9,7 +9,7 @@ unfoldable pub sum : (ℕ → ℕ) → ℕ → ℕ
 sum f zero = 0
 sum f (suc d) = sum f d + f d
 
--- 1 where two bits differ, 0 where they are alike
+-- of two bits, each 0 or 1: 1 where they differ, 0 where they are alike
 abbrev pub unlike : ℕ → ℕ → ℕ
 unlike a b = (a + b) % 2
 

@@ -6,7 +6,7 @@ use mathlib.Core.List.{List}
 use Prim.Native.Nat.{ℕ, _-_, _^_, _≤_, _<_}
 use native.Mathlib.Omega.{arith}
 use lib.ListN.{getD}
-use Rattle.bits.proofs.Searches.{or-false-left}
+use Rattle.bits.proofs.Numbers.{or-false-left}
 use Rattle.model.specs.Card.{lengthOf, rowsOf, rowOf, codeOf, trackOf, cardRefusal, dependent}
 use Rattle.model.specs.Decoded.{meaning}
 use Rattle.model.specs.declared.Decoded.{Decoded}

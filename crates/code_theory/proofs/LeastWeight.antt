@@ -14,7 +14,8 @@ use lib.Pow.{suc-ones, lt-of-le-ones, le-ones}
 use Rattle.bits.specs.Places.{weight}
 use Rattle.bits.proofs.Binary.{weight-zero, zero-of-weight}
 use Rattle.bits.proofs.Numbers.{lt-or-le, eq-or-ne}
-use Rattle.bits.proofs.Searches.{any-none, none-of-any, true-or-false}
+use Rattle.bits.proofs.Numbers.{true-or-false}
+use Rattle.bits.proofs.Searches.{any-none, none-of-any}
 use Rattle.model.specs.Card.{sumOfRows, leastWeight, dependent}
 use Rattle.model.specs.Order.{gray}
 use Rattle.code_theory.specs.LeastDistance.{leastInOrder}

@@ -1,6 +1,6 @@
 -- A sound card's code keeps the chunk promise: the first codeword within the radius of a chunk is the only one, blocks
 -- follow one another, and consecutive codewords differ in one row. Assumes nothing.
-use mathlib.Core.Path.{_≡_}
+use mathlib.Core.Path.{_∙_, _≡_, refl, sym}
 use Prim.Native.Nat.{ℕ, _≤_}
 use native.Mathlib.Nat.{lt-of-not-le}
 use native.Mathlib.Omega.{arith}
@@ -8,8 +8,9 @@ use lib.Pow.{lt-of-le-ones}
 use Rattle.model.specs.Card.{Code, radius}
 use Rattle.model.specs.Order.{lastCodeword}
 use Rattle.model.specs.Reading.{chunkDistance, chunkReading}
-use Rattle.model.specs.declared.Chunk.the-variants.{Codeword}
-use Rattle.code_theory.specs.Promise.{Sound, ChunkPromise}
+use Rattle.model.specs.declared.Chunk.{Chunk}
+use Rattle.model.specs.declared.Chunk.the-variants.{Codeword, Unreadable}
+use Rattle.code_theory.specs.Promise.{Sound, ReadsChunks, ChunkPromise}
 use Rattle.code_theory.proofs.Codewords.{step-distance}
 use Rattle.code_theory.proofs.LeastDistance.{D-low, one-within-radius}
 use Rattle.code_theory.proofs.Starts.{start-zero, start-next}
@@ -28,9 +29,21 @@ pub promise : (C : Code) → Sound C → ChunkPromise C
 promise C S =
     record {
       D-pos = D-low C S;
-      reads = reads C S;
-      read = reading-near C;
+      chunks = record { reads = reads C S; within = reading-near C };
       start-zero = start-zero C;
       start-next = start-next C;
       step = step-distance C;
     }
+
+-- two readers that promise to read chunks answer alike on every chunk, readable or not
+pub readers-agree : (C : Code) (f g : (ℕ → ℕ) → Chunk) → ReadsChunks C f → ReadsChunks C g → (x : ℕ → ℕ) → f x ≡ g x
+readers-agree C f g F G x = by-answer (f x) refl (g x) refl
+  where
+    by-answer : (a : Chunk) → f x ≡ a → (b : Chunk) → g x ≡ b → f x ≡ g x
+    by-answer (Codeword p e) h b k =
+        let near = F .within x p e h in
+        h ∙ rw (near .1) (sym (G .reads x p (near .0) (rw (near .1) at (near .2))))
+    by-answer Unreadable h (Codeword p e) k =
+        let near = G .within x p e k in
+        F .reads x p (near .0) (rw (near .1) at (near .2)) ∙ rw (← (near .1)) (sym k)
+    by-answer Unreadable h Unreadable k = h ∙ sym k

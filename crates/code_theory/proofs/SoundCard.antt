@@ -8,7 +8,8 @@ use native.Mathlib.Omega.{arith}
 use borrow.Author.Tests.{leb-true, leb-false, eqb-true, not-false, le-leb}
 use lib.Dec.{leb, eqb}
 use lib.ListN.{length}
-use Rattle.bits.proofs.Searches.{or-false-left, or-false-right, none-of-any}
+use Rattle.bits.proofs.Numbers.{or-false-left, or-false-right}
+use Rattle.bits.proofs.Searches.{none-of-any}
 use Rattle.model.specs.Card.{cardRefusal, codeOf, codeWith, withinLimits, rowTooWide, unusedRowSet, unusedByteSet, dependent, lengthOf, rowsOf, rowOf, storedCheck, computedCheck}
 use Rattle.code_theory.specs.Promise.{Sound}
 use Rattle.code_theory.specs.CardTests.{CardTests}

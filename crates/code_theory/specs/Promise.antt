@@ -7,6 +7,7 @@ use Rattle.bits.specs.Places.{bit}
 use Rattle.model.specs.Card.{Code, sumOfRows, leastWeight, radius}
 use Rattle.model.specs.Order.{codeword, lastCodeword, changedWeight, blockLength, start}
 use Rattle.model.specs.Reading.{chunkDistance, chunkReading}
+use Rattle.model.specs.declared.Chunk.{Chunk}
 use Rattle.model.specs.declared.Chunk.the-variants.{Codeword}
 
 -- a code that a sound card gives: within the card's limits, no row wider than n, rows independent, D the least weight
@@ -21,16 +22,19 @@ pub record Sound (C : Code) : Type 0 where
   pub independent : (g : ℕ) → 0 < g → g < 2 ^ C .k → sumOfRows (C .row) (C .k) g ≡ 0 → ⊥
   pub least : C .D ≡ leastWeight (C .n) (sumOfRows (C .row) (C .k)) (2 ^ C .k)
 
--- The chunk promise: all that the position code knows of the chunk code. Any reader of chunks that answers as
--- `chunkReading` does meets it, whatever its search.
+-- What a reader of code chunks promises, whatever its search. Two readers that promise it answer alike (`readers-agree`).
+pub record ReadsChunks (C : Code) (read : (ℕ → ℕ) → Chunk) : Type 0 where
+  -- a chunk within the radius of c(p) reads p, in the count of places in which they differ
+  pub reads : (x : ℕ → ℕ) (p : ℕ) → p ≤ lastCodeword C → chunkDistance C x p ≤ radius C
+      → read x ≡ Codeword p (chunkDistance C x p)
+  -- a chunk that reads p lies within the radius of c(p), a codeword of the code, and the count is as answered
+  pub within : (x : ℕ → ℕ) (p e : ℕ) → read x ≡ Codeword p e
+      → (p ≤ lastCodeword C) × (e ≡ chunkDistance C x p) × (e ≤ radius C)
+
+-- The chunk promise: all that the position theory knows of the chunk code and its order
 pub record ChunkPromise (C : Code) : Type 0 where
   pub D-pos : 1 ≤ C .D
-  -- a chunk within the radius of c(p) reads p
-  pub reads : (x : ℕ → ℕ) (p : ℕ) → p ≤ lastCodeword C → chunkDistance C x p ≤ radius C
-      → chunkReading C x ≡ Codeword p (chunkDistance C x p)
-  -- a chunk that reads p lies within the radius of c(p), a codeword of the code, in the count of places that it answers
-  pub read : (x : ℕ → ℕ) (p e : ℕ) → chunkReading C x ≡ Codeword p e
-      → (p ≤ lastCodeword C) × (e ≡ chunkDistance C x p) × (e ≤ radius C)
+  pub chunks : ReadsChunks C (chunkReading C)
   -- the first block starts at 0, and each one where the one before it ends
   pub start-zero : start C 0 ≡ 0
   pub start-next : (i : ℕ) → i < lastCodeword C → start C (i + 1) ≡ start C i + blockLength C i

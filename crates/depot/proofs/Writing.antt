@@ -1,14 +1,11 @@
 -- What a write answers and what it leaves in the lent word, one law for each way out of the code. A refusal leaves the lent bytes;
 -- where the word is written, demand 2 holds of what the lent word then holds. Assumes nothing.
-use mathlib.Core.Path.{_≡_, refl, sym, _∙_}
-use mathlib.Core.Bool.{Bool, true, false, cond}
+use mathlib.Core.Path.{_≡_, sym, _∙_}
 use mathlib.Core.List.{List}
 use Prim.Native.Nat.{ℕ, _≤_, _<_}
 use borrow.Author.Tests.{eq-eqb, ne-eqb, lt-ltb, le-ltb}
 use native.Mathlib.Omega.{arith}
-use lib.Dec.{eqb}
 use lib.ListN.{length}
-use Rattle.model.specs.Card.{codeOf}
 use Rattle.model.specs.Decoded.{meaning}
 use Rattle.model.specs.Order.{lastPosition}
 use Rattle.model.specs.Words.{wordBytes}
@@ -16,15 +13,10 @@ use Rattle.model.specs.Answers.{wordLength, writeRefusal, writeAnswer, lentAfte
 use Rattle.model.specs.declared.Decoded.{Decoded}
 use Rattle.model.specs.declared.WriteAnswer.{WriteAnswer}
 use Rattle.model.specs.declared.WriteAnswer.the-variants.{Written, Refused}
-use Rattle.position_theory.specs.Demands.{NeighboursDifferInOneBit, NoOtherPositionsWord}
+use Rattle.position_theory.specs.Demands.{WrittenIfServable, UnchangedIfRefused, NeighboursDifferInOneBit, NoOtherPositionsWord}
 use Rattle.position_theory.proofs.Demands.{neighbours-differ-in-one-bit, no-other-positions-word}
+use Rattle.position_theory.proofs.Writing.{written-if-servable, unchanged-if-refused, written-means}
 use Rattle.chunk.specs.DecodedFrom.{DecodedFrom}
-
--- an answer that is Written goes with the word, whatever the test was
-written-of-answer : (ok : Bool) (refusal : ℕ) (word lent : List ℕ) → cond ok Written (Refused refusal) ≡ Written
-    → cond ok word lent ≡ word
-written-of-answer true refusal word lent e = refl
-written-of-answer false refusal word lent e = let never : _≡_ {A = ℕ} 0 1 = cc in absurd (omega arith)
 
 module _ (card : List ℕ) (position : ℕ) (lent : List ℕ) where
   -- what the contract of the write says of its answer and of the lent word as the write leaves it
@@ -32,12 +24,10 @@ module _ (card : List ℕ) (position : ℕ) (lent : List ℕ) where
   Meets answer left =
       (answer ≡ writeAnswer card position lent)
       × ((left ≡ lentAfterWrite card position lent)
+      × (WrittenIfServable card position lent answer
+      × (UnchangedIfRefused lent left answer
       × ((answer ≡ Written → NeighboursDifferInOneBit card position left)
-      × (answer ≡ Written → NoOtherPositionsWord card position left)))
-
-  the-word : writeAnswer card position lent ≡ Written → lentAfterWrite card position lent ≡ wordBytes (codeOf card) position
-  unfolding writeAnswer lentAfterWrite
-  the-word = written-of-answer (eqb (writeRefusal card position lent) 0) (writeRefusal card position lent) _ lent
+      × (answer ≡ Written → NoOtherPositionsWord card position left)))))
 
   meets : (answer : WriteAnswer) (left : List ℕ) → answer ≡ writeAnswer card position lent
       → left ≡ lentAfterWrite card position lent → Meets answer left
@@ -46,8 +36,16 @@ module _ (card : List ℕ) (position : ℕ) (lent : List ℕ) where
     (
       f,
       (
-        λ w. rw (f ∙ the-word (sym e ∙ w)) (neighbours-differ-in-one-bit card position),
-        λ w. rw (f ∙ the-word (sym e ∙ w)) (no-other-positions-word card position),
+        rw e (written-if-servable card position lent),
+        (
+          rw (e, f) (unchanged-if-refused card position lent),
+          (
+            λ w. let means = written-means card position lent (sym e ∙ w) in
+                rw (f ∙ means .2) (neighbours-differ-in-one-bit card position (means .0) (means .1)),
+            λ w. let means = written-means card position lent (sym e ∙ w) in
+                rw (f ∙ means .2) (no-other-positions-word card position (means .0) (means .1)),
+          ),
+        ),
       ),
     ),
   )

@@ -5,7 +5,7 @@ ghost use Rattle.model.specs.Decoded.{meaning};
 ghost use Rattle.model.specs.Answers.{wordLength, cardAnswer, writeAnswer, lentAfterWrite, readAnswer, startAnswer, millimetresAnswer};
 ghost use Rattle.model.specs.declared.WriteAnswer.the-variants.{Written};
 ghost use Rattle.code_theory.specs.Promise.{Sound};
-ghost use Rattle.position_theory.specs.Demands.{NeighboursDifferInOneBit, NoOtherPositionsWord, NearestOfAllowed, OffByAtMostTwiceTurned, OffByAtMostTurnedAndResidual};
+ghost use Rattle.position_theory.specs.Demands.{WrittenIfServable, UnchangedIfRefused, NeighboursDifferInOneBit, NoOtherPositionsWord, NearestOfAllowed, OffByAtMostTwiceTurned, OffByAtMostTurnedAndResidual};
 use chunk::decode;
 use model::CardAnswer;
 use model::CardSummary;
@@ -48,11 +48,13 @@ pub fn check_card(card: &[u8]) -> CardAnswer
 }
 
 // Writes the word of a position into the lent word. Refused: the card, 1 to 5; a lent word that has not exactly the bytes of a
-// word, 6; a position above the last, 7. A refused write changes no byte of the lent word. The word that is written differs in
+// word, 6; a position above the last, 7. Anything else is written. A refused write changes no byte of the lent word. The word that is written differs in
 // just one bit from the word of each neighbouring position, and is the word of no other position.
 pub fn write_word(card: &[u8], position: u32, word: &mut [u8]) -> WriteAnswer
     ensures answer { λ r. ⌜ r ≡ writeAnswer (now (card .entry)) position (now (word .entry)) ⌝ }
     ensures left { λ r. ⌜ now (word .exit) ≡ lentAfterWrite (now (card .entry)) position (now (word .entry)) ⌝ }
+    ensures served { λ r. ⌜ WrittenIfServable (now (card .entry)) position (now (word .entry)) r ⌝ }
+    ensures unchanged { λ r. ⌜ UnchangedIfRefused (now (word .entry)) (now (word .exit)) r ⌝ }
     ensures neighbours { λ r. ⌜ (r ≡ Written → NeighboursDifferInOneBit (now (card .entry)) position (now (word .exit))) ⌝ }
     ensures alone { λ r. ⌜ (r ≡ Written → NoOtherPositionsWord (now (card .entry)) position (now (word .exit))) ⌝ }
 {

@@ -1,6 +1,6 @@
 -- Document 01, "Where a call can be turned down": what each of the five public calls answers, for every list of bytes and
 -- every number, the refusals in the table's order as far as the call has the thing. Assumes nothing.
-use Prim.Native.Nat.{ℕ, _+_, _-_, _*_, _/_}
+use Prim.Native.Nat.{ℕ, _+_, _-_, _*_}
 use mathlib.Core.Bool.{Bool, cond, not}
 use mathlib.Core.List.{List}
 use lib.Dec.{ltb, eqb}

@@ -1,11 +1,14 @@
--- Document 01, "Two cards to try": the cases marked *, and the cards that it refuses, as one table of questions and
--- answers. That the definitions answer so is one theorem, in crate starred_cases. Assumes nothing.
+-- Document 01, "Two cards to try": every case marked *, and with them the cards' figures and the refused cards and words
+-- that it names, as one table of questions and answers. That the definitions answer so is one theorem, in crate starred_cases. Assumes nothing.
 use Prim.Native.Nat.{ℕ, zero, suc, _-_, _*_, _/_, _%_}
 use mathlib.Core.List.{List, [], _∷_, _++_}
 use lib.ListN.{length, replicate}
-use Rattle.bits.specs.Places.{bit, listOf}
-use Rattle.model.specs.Card.{computedCheck, storedCheck, codeOf}
+use Rattle.bits.specs.Sums.{sum}
+use Rattle.bits.specs.Places.{bit, place, listOf, differingBits}
+use Rattle.model.specs.Card.{Code, computedCheck, storedCheck, codeOf}
 use Rattle.model.specs.Order.{codeword, lastPosition, start}
+use Rattle.model.specs.Words.{wordBytes}
+use Rattle.model.specs.Reading.{separator₂, separator₃}
 use Rattle.model.specs.Answers.{cardAnswer, writeAnswer, lentAfterWrite, readAnswer}
 use Rattle.model.specs.declared.CardAnswer.{CardAnswer}
 use Rattle.model.specs.declared.CardAnswer.the-variants.{Sound, Refused as CardRefused}
@@ -41,6 +44,8 @@ pub data Question : Type 0 where
   starts : (card : List ℕ) (blocks : ℕ) → Question
   write : (card : List ℕ) (position : ℕ) (lent : List ℕ) → Question
   read : (card received : List ℕ) → Question
+  bitsUnlike : (card : List ℕ) (position : ℕ) (received : List ℕ) → Question
+  onesOfSeparators : (card received : List ℕ) → Question
 
 -- document 01's number of a refusal, alone; of any other answer 0 and its values
 unfoldable pub cardNumbers : CardAnswer → List ℕ
@@ -68,6 +73,11 @@ answerTo (order card m) = codewordPlaces card m
 answerTo (starts card m) = listOf m (start (codeOf card)) ++ (lastPosition (codeOf card) ∷ [])
 answerTo (write card position lent) = writeNumbers (writeAnswer card position lent) ++ lentAfterWrite card position lent
 answerTo (read card received) = readNumbers (readAnswer card received)
+answerTo (bitsUnlike card position received) = differingBits (wordBytes (codeOf card) position) received ∷ []
+answerTo (onesOfSeparators card received) =
+    let C : Code = codeOf card in
+    let x : ℕ → ℕ = place received in
+    sum x (C .D) ∷ sum (separator₂ C x) (C .D) ∷ sum (separator₃ C x) (C .D) ∷ []
 
 -- a question and what document 01 says
 pub record Case : Type 0 where
@@ -87,7 +97,8 @@ starredCases =
     ∷ case (write cardB 7 (0xaa ∷ 0xaa ∷ [])) (0 ∷ 0x7f ∷ 0x00 ∷ [])
     ∷ case (write cardB 15 (0xaa ∷ 0xaa ∷ [])) (0 ∷ 0xff ∷ 0x7f ∷ [])
     ∷ case (write cardB 16 (0xaa ∷ 0xaa ∷ [])) (7 ∷ 0xaa ∷ 0xaa ∷ [])
-    -- 7 with one bit turned reads 5; refusals 12 and 11; words of 1 and 3 bytes
+    -- 7 with one bit turned reads 5, off by two; refusals 12 and 11; words of 1 and 3 bytes
+    ∷ case (bitsUnlike cardB 7 (0x5f ∷ 0x00 ∷ [])) (1 ∷ [])
     ∷ case (read cardB (0x5f ∷ 0x00 ∷ [])) (0 ∷ 5 ∷ 1 ∷ 2 ∷ [])
     ∷ case (read cardB (0x00 ∷ 0x70 ∷ [])) (12 ∷ [])
     ∷ case (read cardB (0x00 ∷ 0x0e ∷ [])) (11 ∷ [])
@@ -97,8 +108,9 @@ starredCases =
     ∷ case (check cardA) (0 ∷ 3 ∷ 2 ∷ 0 ∷ 2 ∷ 0 ∷ 12 ∷ 30 ∷ [])
     ∷ case (order cardA 4) (0 ∷ 0 ∷ 0 ∷ 1 ∷ 1 ∷ 0 ∷ 1 ∷ 0 ∷ 1 ∷ 0 ∷ 1 ∷ 1 ∷ [])
     ∷ case (starts cardA 4) (0 ∷ 10 ∷ 20 ∷ 30 ∷ 30 ∷ [])
-    -- the word of 5 is 11 110 10 000 00 and reads 5 by rule 2; that of 9, 11 110 11 110 10, reads 9 by rule 1
+    -- the word of 5 is 11 110 10 000 00, separator 2 ties, and it reads 5 by rule 2; that of 9, 11 110 11 110 10, reads 9 by rule 1
     ∷ case (write cardA 5 (0 ∷ 0 ∷ [])) (0 ∷ 0b00101111 ∷ 0b0000 ∷ [])
+    ∷ case (onesOfSeparators cardA (0b00101111 ∷ 0b0000 ∷ [])) (2 ∷ 1 ∷ 0 ∷ [])
     ∷ case (read cardA (0b00101111 ∷ 0b0000 ∷ [])) (0 ∷ 5 ∷ 0 ∷ 2 ∷ [])
     ∷ case (write cardA 9 (0 ∷ 0 ∷ [])) (0 ∷ 0b11101111 ∷ 0b0101 ∷ [])
     ∷ case (read cardA (0b11101111 ∷ 0b0101 ∷ [])) (0 ∷ 9 ∷ 0 ∷ 1 ∷ [])

@@ -1,6 +1,6 @@
 -- Document 01, "Order and words", first half: the Gray order, the codewords c(i), and the starts r(i) of the blocks.
 -- Assumes nothing.
-use Prim.Native.Nat.{ℕ, _+_, _-_, _*_, _/_, _%_, _^_}
+use Prim.Native.Nat.{ℕ, _+_, _-_, _*_, _/_, _^_}
 use lib.Bits.{bitXor}
 use lib.Dec.{eqb}
 use Rattle.bits.specs.Sums.{sum, unlike}
@@ -21,6 +21,7 @@ unfoldable pub codeword : Code → ℕ → ℕ
 codeword C i = sumOfRows (C .row) (C .k) (gray i)
 
 -- the row in which c(i) and c(i+1) differ: the one row that Gray(i) and Gray(i+1) do not both have or both lack
+-- (for i below 2^k - 1; past that there is none, and the answer means nothing)
 unfoldable pub changedRow : Code → ℕ → ℕ
 changedRow C i = first (λ z. eqb (unlike (bit (gray i) z) (bit (gray (i + 1)) z)) 1) (C .k)
 

@@ -1,6 +1,6 @@
 -- Document 01, "Reading a word": the separators, the code chunks, the three rules, and the nearest allowed position.
 -- A received word is a bit function here; Answers.antt takes it from bytes. Assumes nothing.
-use Prim.Native.Nat.{ℕ, suc, _+_, _-_, _*_, _^_, min}
+use Prim.Native.Nat.{ℕ, _+_, _-_, _*_, _^_, min}
 use mathlib.Core.Bool.{cond}
 use lib.Dec.{leb, ltb, eqb}
 use Rattle.bits.specs.Sums.{sum, distance, from}
@@ -22,7 +22,7 @@ majority D x = cond (ltb D (2 * sum x D)) 1 0
 unfoldable pub chunkDistance : Code → (ℕ → ℕ) → ℕ → ℕ
 chunkDistance C x p = distance (C .n) (bit (codeword C p)) x
 
--- a code chunk reads as p if c(p) lies within t bits of it (the first such p; a theorem says that there is one at most)
+-- a code chunk reads as p if c(p) lies within t bits of it (the first such p; `one-within-radius` says that there is one at most)
 unfoldable pub chunkReading : Code → (ℕ → ℕ) → Chunk
 chunkReading C x =
     let p = first (λ i. leb (chunkDistance C x i) (radius C)) (2 ^ C .k) in

@@ -27,6 +27,7 @@ unfoldable pub blockOf : Code → ℕ → ℕ
 blockOf C position = greatest (λ i. leb (start C i) position) (lastCodeword C)
 
 -- the word of a position r(i) + m of block i: w(i) with the first m places in which w(i) and w(i+1) differ taken from w(i+1)
+-- (for a position up to the last, where m is 0 and nothing is taken from w(2^k), which doesn't exist)
 unfoldable pub wordAt : Code → ℕ → ℕ → ℕ
 wordAt C position =
     let i : ℕ = blockOf C position in walk (word C i) (word C (i + 1)) (position - start C i)

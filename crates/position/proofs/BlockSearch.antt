@@ -16,9 +16,8 @@ use Rattle.bits.proofs.Numbers.{lt-or-le}
 use Rattle.bits.proofs.Distance.{distance-ext, distance-self, distance-split}
 use Rattle.bits.proofs.Places.{cut-below, cut-above}
 use Rattle.model.specs.Card.{Code}
-use Rattle.model.specs.Order.{lastCodeword, start}
+use Rattle.model.specs.Order.{start}
 use Rattle.model.specs.Words.{wordBits, word, wordAt}
-use Rattle.code_theory.specs.Promise.{Sound}
 use Rattle.code_theory.proofs.Promise.{promise}
 use Rattle.position_theory.proofs.Bounds.{word-bits-bound}
 use Rattle.position_theory.proofs.Stepping.{word-passed}

@@ -1,11 +1,11 @@
 -- A byte with the low bits of one byte and the high bits of another, and a word put together of such bytes.
 -- Assumes nothing.
-use mathlib.Core.Path.{_≡_, refl, sym, _∙_, ap}
+use mathlib.Core.Path.{_≡_, refl, sym}
 use mathlib.Core.Bool.{cond}
 use mathlib.Core.List.{List}
 use mathlib.Core.Logic.{⊎-elim}
-use Prim.Native.Nat.{ℕ, zero, suc, _+_, _-_, _*_, _/_, _%_, _^_, _≤_, _<_, min}
-use native.Mathlib.Nat.{le-dest, mod-lt, mul-assoc, mul-comm, mul-mod-left, div-lt-iff-lt-mul, eq-or-lt-of-le}
+use Prim.Native.Nat.{ℕ, suc, _+_, _-_, _*_, _/_, _%_, _^_, _≤_, _<_, min}
+use native.Mathlib.Nat.{le-dest, mod-lt, mul-assoc, div-lt-iff-lt-mul, eq-or-lt-of-le}
 use native.Mathlib.Omega.{arith}
 use lib.Bits.{bitXor, xor-shifted, shifted-even}
 use lib.Dec.{ltb}
@@ -13,7 +13,6 @@ use lib.ListN.{length, getD, set}
 use lib.Pow.{pow-pos, pow-add, shr-lt, shr-shr, shl-shr, high, field, mod-mod-pow}
 use lib.Seq.{getD-set-same, getD-set-other}
 use borrow.Author.Tests.{lt-ltb, le-ltb}
-use Rattle.bits.specs.Sums.{unlike}
 use Rattle.bits.specs.Places.{bit, place}
 use Rattle.bits.proofs.Numbers.{lt-or-le}
 use Rattle.bits.proofs.Binary.{bit-bit, bit-high, bit-xor}

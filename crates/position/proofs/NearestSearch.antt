@@ -3,7 +3,7 @@
 -- its nearest is the answer. Assumes nothing.
 use mathlib.Core.Path.{_≡_, refl, sym, _∙_, ap}
 use mathlib.Core.List.{List}
-use Prim.Native.Nat.{ℕ, zero, _+_, _-_, _*_, _≤_, _<_}
+use Prim.Native.Nat.{ℕ, _+_, _<_}
 use native.Mathlib.Nat.{le-dest, sub-self}
 use native.Mathlib.Omega.{arith}
 use Rattle.bits.specs.Sums.{sum, distance, from}

@@ -1,9 +1,8 @@
 -- A search passes one place of a block: where w(i) and w(i+1) are alike there, nothing changes; where they differ, it comes
 -- one position on, and the residual changes by that place. Assumes nothing.
-use mathlib.Core.Path.{_≡_, refl, sym, _∙_}
+use mathlib.Core.Path.{_≡_, refl, _∙_}
 use mathlib.Core.List.{List}
-use Prim.Native.Nat.{ℕ, suc, _+_, _*_, _%_, _≤_, _<_}
-use native.Mathlib.Nat.{add-assoc}
+use Prim.Native.Nat.{ℕ, _+_, _≤_, _<_}
 use native.Mathlib.Numerals.{add-one}
 use native.Mathlib.Omega.{arith}
 use Rattle.bits.specs.Sums.{distance, unlike}
@@ -11,7 +10,6 @@ use Rattle.bits.specs.Places.{place}
 use Rattle.bits.proofs.Distance.{distance-suc}
 use Rattle.bits.proofs.Places.{place-bit}
 use Rattle.model.specs.Card.{Code}
-use Rattle.model.specs.Order.{start}
 use Rattle.model.specs.Words.{wordBits, word}
 use Rattle.model.specs.Reading.{residual}
 use Rattle.code_theory.proofs.Promise.{promise}

@@ -1,9 +1,9 @@
 -- What each rule allows, as the search through a block meets it: rule 1 from separator 2 to the block's end, rule 2 from its
 -- start to the end of separator 2, and rule 3 over separator 3 of one block and separator 1 of the next.
 -- Assumes nothing.
-use mathlib.Core.Path.{_≡_, refl, sym, _∙_}
+use mathlib.Core.Path.{_≡_, _∙_}
 use mathlib.Core.List.{List}
-use Prim.Native.Nat.{ℕ, _+_, _-_, _*_, _≤_, _<_, min}
+use Prim.Native.Nat.{ℕ, _+_, _-_, _*_, _<_, min}
 use native.Mathlib.Omega.{arith}
 use Rattle.bits.specs.Sums.{sum, distance}
 use Rattle.bits.specs.Places.{place}

@@ -1,6 +1,6 @@
 -- A search that has come one position further: the new position is the nearest if its residual is below the least so far,
 -- and otherwise the nearest is what it was. Assumes nothing.
-use mathlib.Core.Path.{_≡_, refl, sym, _∙_}
+use mathlib.Core.Path.{_≡_}
 use Prim.Native.Nat.{ℕ, _+_, _-_, _≤_, _<_}
 use native.Mathlib.Omega.{arith}
 use borrow.Author.Tests.{lt-ltb, le-ltb}

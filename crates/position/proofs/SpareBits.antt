@@ -3,7 +3,7 @@ use mathlib.Core.Path.{_≡_, refl, _∙_}
 use mathlib.Core.Bool.{Bool, true, false}
 use mathlib.Core.List.{List}
 use mathlib.Core.Logic.{⊎-elim}
-use Prim.Native.Nat.{ℕ, suc, _+_, _-_, _*_, _/_, _≤_, _<_}
+use Prim.Native.Nat.{ℕ, _+_, _-_, _*_, _/_, _≤_, _<_}
 use native.Mathlib.Nat.{le-dest, zero-div}
 use native.Mathlib.Omega.{arith}
 use lib.Dec.{eqb}
@@ -11,20 +11,14 @@ use lib.ListN.{length, List·getD-eq-default}
 use borrow.Author.Tests.{eqb-false, ne-eqb}
 use Rattle.bits.specs.Sums.{sum, from}
 use Rattle.bits.specs.Places.{place}
-use Rattle.bits.specs.Searches.{any}
 use Rattle.bits.proofs.Numbers.{lt-or-le}
-use Rattle.bits.proofs.Sums.{sum-longer, sum-zero}
+use Rattle.bits.proofs.Sums.{summand-le, sum-zero}
 use Rattle.bits.proofs.Searches.{any-none, none-of-any}
 use Rattle.bits.proofs.Places.{place-bit}
 use Rattle.model.specs.Card.{Code}
 use Rattle.model.specs.Words.{wordBits}
 use Rattle.model.specs.Answers.{wordLength, spareSet}
 use Rattle.position.specs.Received.{NothingSpare}
-
--- a summand is at most the sum
-summand-le : (f : ℕ → ℕ) (m q : ℕ) → q < m → f q ≤ sum f m
-unfolding sum
-summand-le f m q h = omega (arith, sum-longer f {a = suc q} {d = m} h)
 
 -- places past the end of a list are 0
 past-end : (l : List ℕ) (p : ℕ) → 8 * length l ≤ p → place l p ≡ 0

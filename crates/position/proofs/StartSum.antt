@@ -2,19 +2,14 @@
 -- Assumes nothing.
 use mathlib.Core.Path.{_≡_, refl}
 use Prim.Native.Nat.{ℕ, _+_, _*_, _/_, _^_, _≤_}
-use native.Mathlib.Numerals.{add-one}
 use native.Mathlib.Omega.{arith}
 use Rattle.bits.specs.Sums.{sum}
 use Rattle.bits.specs.Places.{weight}
-use Rattle.bits.proofs.Sums.{sum-longer}
+use Rattle.bits.proofs.Sums.{sum-longer, sum-more}
 use Rattle.model.specs.Card.{Code}
 use Rattle.model.specs.Order.{lastCodeword, start}
 use Rattle.code_theory.specs.Promise.{Sound}
 use Rattle.code_theory.proofs.Starts.{start-bound, last-codeword-bound}
-
-sum-more : (f : ℕ → ℕ) (z : ℕ) → sum f (z + 1) ≡ sum f z + f z
-unfolding sum
-sum-more f z = rw add-one
 
 -- what row z adds to the start of block i, apart from the factor 2
 abbrev pub rowPart : Code → ℕ → ℕ → ℕ

@@ -1,6 +1,6 @@
 -- The layout of a code's words. Assumes nothing.
 use mathlib.Core.Path.{_≡_}
-use Prim.Native.Nat.{ℕ, _+_, _≤_}
+use Prim.Native.Nat.{_+_, _≤_}
 use Rattle.model.specs.Card.{Code}
 use Rattle.model.specs.Words.{wordBits}
 use Rattle.position.specs.declared.layout.Layout.{Layout}

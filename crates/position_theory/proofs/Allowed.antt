@@ -3,18 +3,18 @@
 use mathlib.Core.Path.{_≡_, refl}
 use mathlib.Core.Bool.{Bool, true, false, cond}
 use mathlib.Core.Logic.{⊎-elim}
-use Prim.Native.Nat.{ℕ, _+_, _-_, _*_, _≤_, _<_, min}
+use Prim.Native.Nat.{ℕ, _+_, _≤_, _<_}
 use native.Mathlib.Nat.{eq-or-lt-of-le, le-dest, add-sub-cancel}
 use native.Mathlib.Omega.{arith}
 use lib.Dec.{eqb}
-use borrow.Author.Tests.{eqb-true, eqb-false}
+use borrow.Author.Tests.{eqb-false}
 use Rattle.model.specs.Card.{Code}
 use Rattle.model.specs.Order.{lastCodeword, changedWeight, start, lastPosition}
 use Rattle.model.specs.Reading.{majority, ruleOf, chunkReading, chunk₁, separator₂, chunk₂, separator₃, Allowed, range, none, rule₁, rule₂, rule₃, allowedBy, allowed}
 use Rattle.model.specs.declared.Chunk.{Chunk}
 use Rattle.model.specs.declared.Chunk.the-variants.{Codeword, Unreadable}
 use Rattle.code_theory.specs.Promise.{ChunkPromise}
-use Rattle.position_theory.specs.Ranges.{Isometric, GoodRange}
+use Rattle.position_theory.specs.Ranges.{GoodRange}
 use Rattle.position_theory.proofs.Blocks.{starts-rise}
 use Rattle.position_theory.proofs.Isometry.{isometric-part, isometric-block, isometric-around}
 
@@ -87,7 +87,7 @@ module _ (C : Code) (promise : ChunkPromise C) where
       rule = ruleOf (majority (C .D) x) (majority (C .D) (separator₂ C x)) (majority (C .D) (separator₃ C x))
 
       codeword-of : (chunk : ℕ → ℕ) (p e : ℕ) → chunkReading C chunk ≡ Codeword p e → p ≤ lastCodeword C
-      codeword-of chunk p e r = promise .read chunk p e r .0
+      codeword-of chunk p e r = promise .chunks .within chunk p e r .0
 
       by-rule : (first second third : Bool)
           → GoodRange C (cond first (rule₁ C (chunkReading C (chunk₁ C x)))

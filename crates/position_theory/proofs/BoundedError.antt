@@ -2,22 +2,22 @@
 -- answer is near it. No two positions share a word: read with nothing turned, a word gives back its position.
 -- Assumes nothing.
 use mathlib.Core.Path.{_≡_, refl, sym, _∙_}
-use mathlib.Core.Bool.{true, false}
+use mathlib.Core.Bool.{false}
 use mathlib.Core.List.{List}
 use mathlib.Core.Logic.{⊎-elim}
-use Prim.Native.Nat.{ℕ, _+_, _-_, _*_, _/_, _≤_, _<_}
+use Prim.Native.Nat.{ℕ, _+_, _≤_, _<_}
 use native.Mathlib.Nat.{le-dest}
 use native.Mathlib.Omega.{arith}
 use lib.ListN.{length}
 use borrow.Author.Tests.{eq-eqb}
 use Rattle.bits.specs.Sums.{distance, from}
-use Rattle.bits.specs.Places.{place, pack}
-use Rattle.bits.proofs.Distance.{distance-ext, distance-self}
+use Rattle.bits.specs.Places.{place}
+use Rattle.bits.proofs.Distance.{distance-ext}
 use Rattle.bits.proofs.Places.{place-pack, place-bit, cut-below}
 use Rattle.bits.proofs.Walk.{walk-bits}
-use Rattle.model.specs.Card.{Code, radius, cardRefusal, codeOf}
+use Rattle.model.specs.Card.{Code, radius}
 use Rattle.model.specs.Order.{lastCodeword, blockLength, start, lastPosition}
-use Rattle.model.specs.Words.{wordBits, word, blockOf, wordAt, wordBytes}
+use Rattle.model.specs.Words.{wordBits, blockOf, wordAt, wordBytes}
 use Rattle.model.specs.Reading.{reading, residual}
 use Rattle.model.specs.Answers.{wordLength, spareSet, readWord}
 use Rattle.model.specs.declared.ReadAnswer.{ReadAnswer}
@@ -25,7 +25,7 @@ use Rattle.model.specs.declared.ReadAnswer.the-variants.{At, Refused}
 use Rattle.code_theory.specs.Promise.{ChunkPromise}
 use Rattle.position_theory.specs.Ranges.{Allows}
 use Rattle.position_theory.specs.Damage.{ChunksWithin, WithinRadius, turnedInAll, turned, Near, residualOf}
-use Rattle.position_theory.proofs.Words.{five-distance, word-in-order, word-bits}
+use Rattle.position_theory.proofs.Words.{five-distance, word-bits}
 use Rattle.position_theory.proofs.Blocks.{in-its-block, block-le, block-low}
 use Rattle.position_theory.proofs.TrueAllowed.{start-allowed, inside-allowed}
 use Rattle.position_theory.proofs.WholeChunks.{whole-at-start, whole-in-block}

@@ -24,7 +24,7 @@ use Rattle.model.specs.Answers.{wordLength, spareSet, readWord, readAnswer}
 use Rattle.code_theory.specs.Promise.{ChunkPromise}
 use Rattle.code_theory.proofs.Promise.{promise}
 use Rattle.code_theory.proofs.SoundCard.{sound-card}
-use Rattle.position_theory.specs.Damage.{WithinRadius, turned, residualOf}
+use Rattle.position_theory.specs.Damage.{turned, residualOf}
 use Rattle.position_theory.specs.Demands.{NeighboursDifferInOneBit, NoOtherPositionsWord, NearestOfAllowed, OffByAtMostTwiceTurned, OffByAtMostTurnedAndResidual}
 use Rattle.position_theory.proofs.Nearest.{reading-is-nearest}
 use Rattle.position_theory.proofs.BoundedError.{word-at-bits, place-of-word, read-word, error-bounded, near-loosen}
@@ -42,22 +42,24 @@ differing-comm C p q =
     ∙ sym (packed-distance (wordBits C) (word-at-bits C q) (word-at-bits C p))
 
 -- demand 2, writing
-pub neighbours-differ-in-one-bit : (card : List ℕ) (position : ℕ) → NeighboursDifferInOneBit card position (wordBytes (codeOf card) position)
+pub neighbours-differ-in-one-bit : (card : List ℕ) (position : ℕ) → cardRefusal card ≡ 0 → position ≤ lastPosition (codeOf card)
+    → NeighboursDifferInOneBit card position (wordBytes (codeOf card) position)
 unfolding NeighboursDifferInOneBit
-neighbours-differ-in-one-bit card position neighbour sound h h′ =
+neighbours-differ-in-one-bit card position sound h neighbour h′ =
     ⊎-elim
     (λ (next : neighbour ≡ position + 1). rw next (neighbours-differ (codeOf card) (kept card sound) position (omega arith)))
     (λ (last : position ≡ neighbour + 1).
     rw (last, differing-comm (codeOf card) (neighbour + 1) neighbour)
     (neighbours-differ (codeOf card) (kept card sound) neighbour (omega arith)))
 
-pub no-other-positions-word : (card : List ℕ) (position : ℕ) → NoOtherPositionsWord card position (wordBytes (codeOf card) position)
+pub no-other-positions-word : (card : List ℕ) (position : ℕ) → cardRefusal card ≡ 0 → position ≤ lastPosition (codeOf card)
+    → NoOtherPositionsWord card position (wordBytes (codeOf card) position)
 unfolding NoOtherPositionsWord
-no-other-positions-word card position other sound h h′ same =
+no-other-positions-word card position sound h other h′ same =
     words-differ (codeOf card) (kept card sound) other position h′ h same
 
--- the reading of a sound card
-read-sound : (card received : List ℕ) → cardRefusal card ≡ 0 → readAnswer card received ≡ readWord (codeOf card) received
+-- of a sound card, the public call's answer is that of the inner call, which is handed the card's code
+pub read-sound : (card received : List ℕ) → cardRefusal card ≡ 0 → readAnswer card received ≡ readWord (codeOf card) received
 unfolding readAnswer
 read-sound card received sound = rw (eq-eqb (cardRefusal card) 0 sound)
 

@@ -1,22 +1,22 @@
 -- Demand 2, writing: the words of neighbouring positions differ in one bit, since both lie in one block; and no two
 -- positions share a word, since a word with nothing turned is read as each position that has it.
 -- Assumes nothing.
-use mathlib.Core.Path.{_≡_, refl, _∙_}
+use mathlib.Core.Path.{_≡_, _∙_}
 use mathlib.Core.Bool.{false}
 use mathlib.Core.Logic.{⊎-elim}
-use Prim.Native.Nat.{ℕ, _+_, _*_, _-_, _≤_, _<_}
+use Prim.Native.Nat.{ℕ, _+_, _≤_, _<_}
 use native.Mathlib.Nat.{eq-or-lt-of-le}
 use native.Mathlib.Omega.{arith}
 use Rattle.bits.specs.Sums.{distance}
-use Rattle.bits.specs.Places.{place, differingBits}
+use Rattle.bits.specs.Places.{differingBits}
 use Rattle.bits.proofs.Distance.{distance-self}
 use Rattle.bits.proofs.Searches.{any-none}
 use Rattle.bits.proofs.Places.{length-pack, place-pack, cut-above}
 use Rattle.bits.proofs.PackedDistance.{packed-distance}
-use Rattle.model.specs.Card.{Code, radius}
-use Rattle.model.specs.Order.{lastCodeword, start, lastPosition}
+use Rattle.model.specs.Card.{Code}
+use Rattle.model.specs.Order.{lastCodeword, lastPosition}
 use Rattle.model.specs.Words.{wordBits, blockOf, wordAt, wordBytes}
-use Rattle.model.specs.Answers.{wordLength, spareSet, readWord}
+use Rattle.model.specs.Answers.{spareSet, readWord}
 use Rattle.model.specs.declared.ReadAnswer.{ReadAnswer}
 use Rattle.model.specs.declared.ReadAnswer.the-variants.{At, Refused}
 use Rattle.code_theory.specs.Promise.{ChunkPromise}

@@ -1,18 +1,17 @@
 -- Words are as far apart as positions within a block, ends included, and within D of a start: before a start only
 -- separator 3 is changed, after it only separator 1, and these places don't meet, so the distances add.
 -- Assumes nothing.
-use mathlib.Core.Path.{_≡_, refl, sym}
+use mathlib.Core.Path.{_≡_}
 use mathlib.Core.Logic.{_⊎_, inl, inr, ⊎-elim}
-use Prim.Native.Nat.{ℕ, suc, _+_, _-_, _*_, _≤_, _<_, min}
+use Prim.Native.Nat.{ℕ, _+_, _-_, _≤_, _<_, min}
 use native.Mathlib.Nat.{le-dest, eq-or-lt-of-le, eq-zero-or-pos}
 use native.Mathlib.Omega.{arith}
 use Rattle.bits.specs.Sums.{distance}
-use Rattle.bits.specs.Walk.{walk}
 use Rattle.bits.proofs.Numbers.{lt-or-le}
 use Rattle.bits.proofs.Distance.{distance-ext, distance-self, distance-through}
 use Rattle.bits.proofs.Walk.{walk-isometry, walk-before, walk-after}
 use Rattle.model.specs.Card.{Code}
-use Rattle.model.specs.Order.{lastCodeword, blockLength, changedWeight, start, lastPosition}
+use Rattle.model.specs.Order.{lastCodeword, blockLength, start, lastPosition}
 use Rattle.model.specs.Words.{wordBits, word, wordAt}
 use Rattle.code_theory.specs.Promise.{ChunkPromise}
 use Rattle.position_theory.specs.Ranges.{Isometric}

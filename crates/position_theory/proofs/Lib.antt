@@ -10,3 +10,4 @@ pub mod DistinctWords
 pub mod Demands
 pub mod Stepping
 pub mod Bounds
+pub mod Writing

@@ -6,12 +6,12 @@ use mathlib.Core.Logic.{⊎-elim}
 use Prim.Native.Nat.{ℕ, _+_, _-_, _≤_, _<_}
 use native.Mathlib.Nat.{add-sub-of-le}
 use native.Mathlib.Omega.{arith}
-use Rattle.bits.specs.Sums.{distance}
 use Rattle.bits.specs.Searches.{leastAt}
 use Rattle.bits.proofs.Numbers.{lt-or-le}
 use Rattle.bits.proofs.Distance.{distance-comm, distance-triangle}
 use Rattle.bits.proofs.Searches.{leastAt-low, leastAt-high, leastAt-least, leastAt-first}
 use Rattle.model.specs.Card.{Code}
+use Rattle.model.specs.Order.{lastPosition}
 use Rattle.model.specs.Words.{wordBits, wordAt}
 use Rattle.model.specs.Reading.{Allowed, range, none, allowed, residual, nearest, reading}
 use Rattle.code_theory.specs.Promise.{ChunkPromise}
@@ -24,9 +24,9 @@ module _ (C : Code) (promise : ChunkPromise C) (x : ℕ → ℕ) where
   good : (rule low high : ℕ) → allowed C x ≡ range rule low high → GoodRange C (range rule low high)
   good rule low high is = rw is at (allowed-good C promise x)
 
-  nearest-is : (rule low high : ℕ) → allowed C x ≡ range rule low high → low ≤ high
+  nearest-is : (rule low high : ℕ) → allowed C x ≡ range rule low high → low ≤ high → high ≤ lastPosition C
       → NearestAllowed C x (leastAt (residual C x) low (high - low)) (residual C x (leastAt (residual C x) low (high - low))) rule
-  nearest-is rule low high is h =
+  nearest-is rule low high is h top =
       let all : low + (high - low) ≡ high = add-sub-of-le h in
       record {
         low = low;
@@ -34,6 +34,7 @@ module _ (C : Code) (promise : ChunkPromise C) (x : ℕ → ℕ) where
         is = is;
         from-low = leastAt-low (residual C x) low (high - low);
         to-high = rw all at (leastAt-high (residual C x) low (high - low));
+        on-track = omega (arith, rw all at (leastAt-high (residual C x) low (high - low)), top);
         counted = refl;
         none-nearer = λ q l b. leastAt-least (residual C x) low (high - low) q l (rw all b);
         none-smaller = λ q l b. leastAt-first (residual C x) low (high - low) q l b;
@@ -41,7 +42,7 @@ module _ (C : Code) (promise : ChunkPromise C) (x : ℕ → ℕ) where
 
   reading-of : (a : Allowed) → allowed C x ≡ a → IsReading C x (nearest C x a)
   unfolding nearest IsReading GoodRange
-  reading-of (range rule low high) is = nearest-is rule low high is (good rule low high is .0)
+  reading-of (range rule low high) is = nearest-is rule low high is (good rule low high is .0) (good rule low high is .1)
   reading-of (none refusal) is = is
 
   -- demand 2, reading: for every word
@@ -72,7 +73,7 @@ module _ (C : Code) (promise : ChunkPromise C) (x : ℕ → ℕ) where
   answer-near position a =
       let facts = good (a .rule) (a .low) (a .high) (a .is) in
       let q : ℕ = leastAt (residual C x) (a .low) (a .high - a .low) in
-      let n = nearest-is (a .rule) (a .low) (a .high) (a .is) (facts .0) in
+      let n = nearest-is (a .rule) (a .low) (a .high) (a .is) (facts .0) (facts .1) in
       rw (a .is) (
         (
           omega (arith, apart-by-residuals (a .low) (a .high) q position (facts .2) (n .from-low) (n .to-high) (a .from-low) (a .to-high)),

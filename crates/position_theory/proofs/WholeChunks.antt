@@ -7,7 +7,7 @@ use Prim.Native.Nat.{ℕ, zero, suc, _+_, _-_, _*_, _/_, _%_, _≤_, _<_}
 use native.Mathlib.Nat.{eq-zero-or-pos}
 use native.Mathlib.Omega.{arith}
 use borrow.Author.Tests.{lt-ltb, le-ltb}
-use Rattle.bits.specs.Sums.{sum, distance, from}
+use Rattle.bits.specs.Sums.{sum, distance}
 use Rattle.bits.specs.Places.{bit}
 use Rattle.bits.proofs.Sums.{sum-ext}
 use Rattle.bits.proofs.Distance.{distance-ext}
@@ -53,7 +53,7 @@ chunk-reads : (C : Code) → ChunkPromise C → (j : ℕ) (u y : ℕ → ℕ) �
     → ((p : ℕ) → p < C .n → u p ≡ bit (codeword C j) p) → distance (C .n) u y ≤ radius C → ReadsAs C y j
 unfolding ReadsAs chunkDistance
 chunk-reads C promise j u y h hu d =
-    (_, promise .reads y j h (rw (← (distance-ext {u = u} {v = y} (C .n) hu (λ p b. refl))) d))
+    (_, promise .chunks .reads y j h (rw (← (distance-ext {u = u} {v = y} (C .n) hu (λ p b. refl))) d))
 
 -- the chunks of a word u with at most t bits turned in each: one that holds its chunk of w(j) reads j, or the parity of j
 module _ (C : Code) (promise : ChunkPromise C) {u x : ℕ → ℕ} (hx : (p : ℕ) → x p < 2) (d : ChunksWithin C (radius C) u x) (j : ℕ) where

@@ -1,10 +1,10 @@
 -- Words chunk by chunk: what stands in each of the five chunks of w(i), how the distance of two words adds up over the
 -- chunks, and how far w(i) and w(i+1) are apart up to each chunk's end. Assumes nothing.
 use mathlib.Core.Path.{_≡_, refl}
-use Prim.Native.Nat.{ℕ, _+_, _*_, _%_, _≤_, _<_}
+use Prim.Native.Nat.{ℕ, _+_, _*_, _%_, _<_}
 use native.Mathlib.Nat.{add-assoc, mod-lt}
 use native.Mathlib.Omega.{arith}
-use Rattle.bits.specs.Sums.{distance, from, join, unlike}
+use Rattle.bits.specs.Sums.{distance}
 use Rattle.bits.specs.Places.{bit}
 use Rattle.bits.proofs.Distance.{distance-ext, distance-split, distance-everywhere, join-left, join-right, join-bits}
 use Rattle.model.specs.Card.{Code}

@@ -1,5 +1,6 @@
--- The customer's demands 2 and 3 of a card and a word as bytes, named after what they say: the contracts of the writing and
--- the reading call state them of what the call answers. Assumes nothing.
+-- The customer's demands of a card and a word as bytes, named after what they say: the contracts of the writing and the
+-- reading call state them of what the call answers and leaves. (Of demand 1, that every call ends is part of every proof, and
+-- that a call is refused by the table's number is the equation with `writeAnswer` or `readAnswer`.) Assumes nothing.
 use mathlib.Core.Path.{_≡_}
 use mathlib.Core.List.{List}
 use mathlib.Core.Logic.{_⊎_}
@@ -12,22 +13,32 @@ use Rattle.model.specs.Order.{lastPosition}
 use Rattle.model.specs.Words.{wordBytes}
 use Rattle.model.specs.Reading.{residual}
 use Rattle.model.specs.Answers.{wordLength, spareSet}
+use Rattle.model.specs.declared.WriteAnswer.{WriteAnswer}
+use Rattle.model.specs.declared.WriteAnswer.the-variants.{Written}
 use Rattle.model.specs.declared.ReadAnswer.{ReadAnswer}
 use Rattle.position_theory.specs.Nearest.{IsReading}
 use Rattle.position_theory.specs.Damage.{WithinRadius, turned, Near, residualOf}
 
--- Demand 2, writing, for a sound card: of the words of two neighbouring positions just one bit differs
+-- Demand 1, writing: for a sound card, a position on its track and a lent word of the right length, the word is written
+unfoldable pub WrittenIfServable : (card : List ℕ) (position : ℕ) (lent : List ℕ) → WriteAnswer → Type 0
+WrittenIfServable card position lent answer =
+    cardRefusal card ≡ 0 → position ≤ lastPosition (codeOf card) → length lent ≡ wordLength (codeOf card) → answer ≡ Written
+
+-- Demand 1, writing: a write that is refused leaves the lent word as it was
+unfoldable pub UnchangedIfRefused : (before after : List ℕ) → WriteAnswer → Type 0
+UnchangedIfRefused before after answer = (answer ≡ Written → ⊥) → after ≡ before
+
+-- Demand 2, writing: the word of each neighbouring position differs from the written one in just one bit
 unfoldable pub NeighboursDifferInOneBit : (card : List ℕ) (position : ℕ) (written : List ℕ) → Type 0
 NeighboursDifferInOneBit card position written =
-    (neighbour : ℕ) → cardRefusal card ≡ 0 → position ≤ lastPosition (codeOf card) → neighbour ≤ lastPosition (codeOf card)
+    (neighbour : ℕ) → neighbour ≤ lastPosition (codeOf card)
     → (neighbour ≡ position + 1) ⊎ (position ≡ neighbour + 1)
     → differingBits written (wordBytes (codeOf card) neighbour) ≡ 1
 
--- Demand 2, writing, for a sound card: no other position has this word
+-- Demand 2, writing: no other position has the written word
 unfoldable pub NoOtherPositionsWord : (card : List ℕ) (position : ℕ) (written : List ℕ) → Type 0
 NoOtherPositionsWord card position written =
-    (other : ℕ) → cardRefusal card ≡ 0 → position ≤ lastPosition (codeOf card) → other ≤ lastPosition (codeOf card)
-    → wordBytes (codeOf card) other ≡ written → other ≡ position
+    (other : ℕ) → other ≤ lastPosition (codeOf card) → wordBytes (codeOf card) other ≡ written → other ≡ position
 
 -- Demand 2, reading, for a sound card and a word of the right length with spare bits zero: the answer is the allowed position
 -- nearest to the word, or the refusal of a word that allows none, and a residual is the count of differing bits

@@ -3,17 +3,19 @@
 use mathlib.Core.Path.{_≡_}
 use Prim.Native.Nat.{ℕ, _≤_, _<_}
 use Rattle.model.specs.Card.{Code}
+use Rattle.model.specs.Order.{lastPosition}
 use Rattle.model.specs.Reading.{range, none, allowed, residual}
 use Rattle.model.specs.declared.ReadAnswer.{ReadAnswer}
 use Rattle.model.specs.declared.ReadAnswer.the-variants.{At, Refused}
 
--- the position q is allowed, no allowed one is nearer to x, none smaller is as near, and e is its residual
+-- the position q is allowed and on the track, no allowed one is nearer to x, none smaller is as near, and e is its residual
 pub record NearestAllowed (C : Code) (x : ℕ → ℕ) (q e rule : ℕ) : Type 0 where
   pub low : ℕ
   pub high : ℕ
   pub is : allowed C x ≡ range rule low high
   pub from-low : low ≤ q
   pub to-high : q ≤ high
+  pub on-track : q ≤ lastPosition C
   pub counted : e ≡ residual C x q
   pub none-nearer : (q′ : ℕ) → low ≤ q′ → q′ ≤ high → e ≤ residual C x q′
   pub none-smaller : (q′ : ℕ) → low ≤ q′ → q′ < q → e < residual C x q′

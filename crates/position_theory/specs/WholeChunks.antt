@@ -11,6 +11,7 @@ use Rattle.model.specs.declared.Chunk.the-variants.{Codeword}
 unfoldable pub ReadsAs : Code → (ℕ → ℕ) → ℕ → Type 0
 ReadsAs C chunk p = (e : ℕ) × (chunkReading C chunk ≡ Codeword p e)
 
+-- each chunk that is whole at offset m, held from w(i) (old) or taken from w(i+1) (new), reads as what it is
 pub record WholeChunksRead (C : Code) (x : ℕ → ℕ) (i m : ℕ) : Type 0 where
   pub separator₁-old : m ≡ 0 → majority (C .D) x ≡ i % 2
   pub separator₁-new : C .D ≤ m → majority (C .D) x ≡ (i + 1) % 2

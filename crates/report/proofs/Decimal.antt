@@ -8,7 +8,7 @@ use native.Mathlib.Omega.{arith}
 use native.Mathlib.Nat.{pow-suc}
 use borrow.Author.Tests.{lt-ltb, le-ltb}
 use lib.ListN.{length, length-append}
-use Rattle.bits.proofs.Searches.{below-or-above}
+use Rattle.bits.proofs.Numbers.{lt-or-le}
 use Rattle.report.specs.Text.{digit, digitsWithin, decimal}
 
 -- a number below ten is one digit
@@ -28,7 +28,7 @@ within-enough (suc m) zero x h l = absurd (omega arith)
 within-enough (suc m) (suc k) x h l =
     ⊎-elim (λ below. rw (within-below-ten m x below, within-below-ten k x below))
     (λ more. rw (within-more m x more, within-more k x more, within-enough m k (x / 10) (omega arith) (omega arith)))
-    (below-or-above x 10)
+    (lt-or-le x 10)
 
 pub decimal-below-ten : (x : ℕ) → x < 10 → decimal x ≡ digit x ∷ []
 unfolding decimal
@@ -46,7 +46,7 @@ length-more x h = rw (decimal-more x h, length-append)
 pub has-digit : (x : ℕ) → 1 ≤ length (decimal x)
 has-digit x =
     ⊎-elim (λ below. rw (decimal-below-ten x below) (omega arith)) (λ more. rw (length-more x more) (omega arith))
-    (below-or-above x 10)
+    (lt-or-le x 10)
 
 -- a number below 10^(m + 1) has at most m + 1 digits
 pub decimal-short : (m x : ℕ) → x < 10 ^ suc m → length (decimal x) ≤ suc m
@@ -56,4 +56,4 @@ decimal-short (suc m) x h =
     (λ more.
     let wide : x < 10 ^ suc m * 10 = rw pow-suc at h in
     rw (length-more x more) (omega (arith, decimal-short m (x / 10) (omega arith))))
-    (below-or-above x 10)
+    (lt-or-le x 10)

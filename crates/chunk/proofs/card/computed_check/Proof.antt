@@ -4,9 +4,9 @@ use Prim.Native.Nat.{ℕ, _+_, _*_, _-_, _≤_, _<_}
 use mathlib.Core.Path.{_≡_}
 use borrow.Author.Needs.{needs}
 use native.Mathlib.Nat.{mul-le-mul, le-of-suc-le-suc}
-use native.Mathlib.Numerals.{add-one}
 use native.Mathlib.Omega.{arith}
 use Rattle.bits.specs.Sums.{sum}
+use Rattle.bits.proofs.Sums.{sum-more}
 use Rattle.model.specs.Card.{byte, computedCheck}
 use Rattle.chunk.proofs.card.computed_check.Statement.{statement}
 use Rattle.chunk.proofs.card.computed_check.Tie as tie
@@ -20,11 +20,6 @@ abbrev μ-loop : tie.MeasureT-loop
 -- what one place adds
 term : (p d : ℕ) → p < 510 → d < 256 → (p + 1) * d ≤ 130050
 term p d h k = mul-le-mul {n₁ = p + 1} {n₂ = 510} {m₂ = 255} (omega arith) (le-of-suc-le-suc k)
-
--- one place more
-sum-more : (f : ℕ → ℕ) (p : ℕ) → sum f (p + 1) ≡ sum f p + f p
-unfolding sum
-sum-more f p = rw add-one
 
 loop-holds : tie.Need-loop-holds Inv-loop μ-loop
 unfolding sum

@@ -10,12 +10,12 @@ use native.Mathlib.Nat.{div-eq-of-lt, le-div-iff-mul-le, lt-of-lt-of-le}
 use native.Mathlib.Omega.{arith}
 use lib.Dec.{leb, eqb}
 use lib.Pow.{pow-pos, pow-mono}
-use Rattle.bits.proofs.Searches.{below-or-above}
+use Rattle.bits.proofs.Numbers.{lt-or-le}
 use Rattle.chunk.proofs.card.too_wide.Statement.{statement}
 use Rattle.chunk.proofs.card.too_wide.Tie as tie
 
 shifted : (n row : ℕ) → not (eqb (row / 2 ^ n) 0) ≡ leb (2 ^ n) row
-shifted n row = ⊎-elim narrow wide (below-or-above row (2 ^ n))
+shifted n row = ⊎-elim narrow wide (lt-or-le row (2 ^ n))
   where
     narrow : row < 2 ^ n → not (eqb (row / 2 ^ n) 0) ≡ leb (2 ^ n) row
     narrow h = rw (div-eq-of-lt h, lt-leb (2 ^ n) row h)

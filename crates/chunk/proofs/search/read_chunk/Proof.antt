@@ -34,7 +34,7 @@ abbrev μ-loop : tie.MeasureT-loop
 μ-loop x n k rows radius last word₀ i₀ word i = last - i
 
 sub-radius : tie.Need-sub-radius Inv-bits μ-bits Inv-loop μ-loop
-sub-radius c = D-low (meaning (c .before .before .args .code)) (c .before .before .pre)
+sub-radius c = omega (arith, D-low (meaning (c .before .before .args .code)) (c .before .before .pre))
 
 two-to-requires : tie.Need-two-to-requires Inv-bits μ-bits Inv-loop μ-loop
 two-to-requires c κs = search needs

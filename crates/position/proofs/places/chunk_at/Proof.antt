@@ -7,9 +7,6 @@ use borrow.Author.Needs.{needs}
 use native.Mathlib.Omega.{arith}
 use Rattle.position.proofs.places.chunk_at.Statement.{statement}
 use Rattle.position.proofs.places.chunk_at.Tie as tie
-use Rattle.position.proofs.places.chunk_at.Reads as reads
-use Rattle.position.proofs.places.chunk_at.Lts as lts
-use Rattle.position.proofs.places.bit_at.Reads as bit-at-reads
 
 abbrev Inv-loop : tie.InvT-loop
 Inv-loop w at n value₀ p₀ value p =
@@ -18,34 +15,27 @@ Inv-loop w at n value₀ p₀ value p =
 abbrev μ-loop : tie.MeasureT-loop
 μ-loop w at n value₀ p₀ value p = p
 
--- src/places.rt:50:5
 loop-holds : tie.Need-loop-holds Inv-loop μ-loop
 loop-holds c = (omega arith, pow-pos _, λ q l. absurd (omega arith))
 
--- src/places.rt:51:9
 sub-p : tie.Need-sub-p Inv-loop μ-loop
 sub-p c = search needs
 
--- src/places.rt:52:17
 mul-value : tie.Need-mul-value Inv-loop μ-loop
 mul-value c =
     let loop = c .before .loop in
     let room = shift-in-fits (loop .value) 0 (c .before .before .args .n - loop .p) (omega arith) (omega arith) (loop .inv .1) in
     record { fits = omega arith }
 
--- src/places.rt:52:39
 add-bit-at : tie.Need-add-bit-at Inv-loop μ-loop
 add-bit-at c = search needs
 
--- src/places.rt:52:29
 bit-at-requires : tie.Need-bit-at-requires Inv-loop μ-loop
 bit-at-requires c κs = search needs
 
--- src/places.rt:52:29
 cast-value : tie.Need-cast-value Inv-loop μ-loop
 cast-value c = search needs
 
--- src/places.rt:52:17
 add-value : tie.Need-add-value Inv-loop μ-loop
 add-value c =
     let loop = c .before .before .loop in
@@ -54,11 +44,9 @@ add-value c =
           shift-in-fits (loop .value) (c .bit-at .result) (c .before .before .before .args .n - loop .p) (c .bit-at .ensures .1) (omega arith) (loop .inv .1);
     }
 
--- src/places.rt:50:5
 loop-less : tie.Need-loop-less Inv-loop μ-loop
 loop-less c = search needs
 
--- src/places.rt:50:5
 loop-again : tie.Need-loop-again Inv-loop μ-loop
 loop-again c =
     let loop = c .before .before .loop in
@@ -71,7 +59,6 @@ loop-again c =
           (c .bit-at .ensures .1) (omega arith) (omega arith) (c .bit-at .ensures .0) (loop .inv .2),
     )
 
--- src/places.rt:44:1
 returns : tie.Need-returns Inv-loop μ-loop
 returns c =
     let loop = c .before .loop in

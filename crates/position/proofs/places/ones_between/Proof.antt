@@ -7,9 +7,6 @@ use borrow.Author.Needs.{needs}
 use native.Mathlib.Omega.{arith}
 use Rattle.position.proofs.places.ones_between.Statement.{statement}
 use Rattle.position.proofs.places.ones_between.Tie as tie
-use Rattle.position.proofs.places.ones_between.Reads as reads
-use Rattle.position.proofs.places.ones_between.Lts as lts
-use Rattle.position.proofs.places.bit_at.Reads as bit-at-reads
 
 abbrev Inv-loop : tie.InvT-loop
 Inv-loop w at len ones₀ p₀ ones p = (p ≤ len) × (ones ≡ sum (from at (place w)) p) × (ones ≤ p)
@@ -17,32 +14,25 @@ Inv-loop w at len ones₀ p₀ ones p = (p ≤ len) × (ones ≡ sum (from at (p
 abbrev μ-loop : tie.MeasureT-loop
 μ-loop w at len ones₀ p₀ ones p = len - p
 
--- src/places.rt:24:5
 loop-holds : tie.Need-loop-holds Inv-loop μ-loop
 unfolding sum
 loop-holds c = (omega arith, refl, omega arith)
 
--- src/places.rt:25:27
 add-bit-at : tie.Need-add-bit-at Inv-loop μ-loop
 add-bit-at c = search needs
 
--- src/places.rt:25:17
 bit-at-requires : tie.Need-bit-at-requires Inv-loop μ-loop
 bit-at-requires c κs = search needs
 
--- src/places.rt:25:9
 add-ones : tie.Need-add-ones Inv-loop μ-loop
 add-ones c = search needs
 
--- src/places.rt:26:9
 add-p : tie.Need-add-p Inv-loop μ-loop
 add-p c = search needs
 
--- src/places.rt:24:5
 loop-less : tie.Need-loop-less Inv-loop μ-loop
 loop-less c = search needs
 
--- src/places.rt:24:5
 loop-again : tie.Need-loop-again Inv-loop μ-loop
 unfolding sum
 loop-again c =
@@ -50,7 +40,6 @@ loop-again c =
     let bit = c .bit-at .ensures in
     (omega arith, rw (add-one (loop .p), loop .inv .1, bit .0), omega arith)
 
--- src/places.rt:18:1
 returns : tie.Need-returns Inv-loop μ-loop
 returns c =
     let loop = c .before .loop in

@@ -4,24 +4,17 @@ use native.Mathlib.Omega.{arith}
 use borrow.Author.Needs.{needs}
 use Rattle.position.proofs.places.separator_at.Statement.{statement}
 use Rattle.position.proofs.places.separator_at.Tie as tie
-use Rattle.position.proofs.places.separator_at.Reads as reads
-use Rattle.position.proofs.places.separator_at.Lts as lts
-use Rattle.position.proofs.places.ones_between.Reads as ones-between-reads
 
--- src/places.rt:36:23
 ones-between-requires : tie.Need-ones-between-requires
 ones-between-requires c κs = search needs
 
--- src/places.rt:36:19
 mul-if1 : tie.Need-mul-if1
 mul-if1 c = search needs
 
--- src/places.rt:32:1
 returns : tie.Need-returns
 unfolding majority
 returns c = (rw (← (c .before .ones-between .ensures .0), lt-ltb _ _ (c .if1 .taken)), omega arith)
 
--- src/places.rt:32:1
 returns-2 : tie.Need-returns-2
 unfolding majority
 returns-2 c = (rw (← (c .before .ones-between .ensures .0), le-ltb _ _ (c .if1 .left)), omega arith)

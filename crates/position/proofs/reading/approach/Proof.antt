@@ -1,7 +1,7 @@
 -- `position::reading::approach` meets its contract: at the first start there is nothing before, and at any other one separator
 -- 3 of the block before. Assumes nothing.
 use mathlib.Core.Path.{_≡_, _∙_, sym}
-use Prim.Native.Nat.{ℕ, _+_, _-_, _<_}
+use Prim.Native.Nat.{_+_, _-_, _<_}
 use Rattle.model.specs.Decoded.{meaning}
 use Rattle.model.specs.Order.{lastCodeword, start}
 use Rattle.code_theory.proofs.Starts.{start-zero}

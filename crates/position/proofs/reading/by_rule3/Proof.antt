@@ -4,11 +4,8 @@ use borrow.Author.Tests.{eq-eqb, ne-eqb}
 use Rattle.bits.specs.Places.{place}
 use Rattle.model.specs.Decoded.{meaning}
 use Rattle.model.specs.Reading.{chunkReading, chunk₁, chunk₂, rule₃, nearest}
-use Rattle.model.specs.declared.Chunk.{Chunk}
-use Rattle.model.specs.declared.Chunk.the-variants.{Codeword, Unreadable}
 use Rattle.code_theory.proofs.Promise.{promise}
 use Rattle.position.proofs.UnreadableChunk.{unreadable-first}
-use native.Mathlib.Omega.{arith}
 use borrow.Author.Needs.{needs}
 use Rattle.position.proofs.reading.by_rule3.Statement.{statement}
 use Rattle.position.proofs.reading.by_rule3.Tie as tie
@@ -72,7 +69,7 @@ nearest-around-requires c κs =
     let first = there .before .before in (
       first .pre .0,
       first .pre .1,
-      promise (meaning (first .args .code)) (first .pre .0) .read _ _ _ (sym (chunk-read₁ there) ∙ told .before .first .given .1) .0,
+      promise (meaning (first .args .code)) (first .pre .0) .chunks .within _ _ _ (sym (chunk-read₁ there) ∙ told .before .first .given .1) .0,
     )
 
 returns-4 : tie.Need-returns-4

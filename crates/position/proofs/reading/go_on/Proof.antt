@@ -1,5 +1,4 @@
 -- `position::reading::go_on` meets its contract: separator 1 of block p. Assumes nothing.
-use mathlib.Core.Path.{_∙_}
 use Rattle.model.specs.Decoded.{meaning}
 use Rattle.code_theory.proofs.Starts.{last-codeword-bound}
 use Rattle.position.specs.SearchReady.{BlockWords, PassedPlaces, Passes}

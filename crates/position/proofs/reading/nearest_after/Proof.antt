@@ -2,7 +2,6 @@
 use mathlib.Core.Path.{_∙_}
 use Rattle.model.specs.Decoded.{meaning}
 use Rattle.position.proofs.RuleRanges.{rule₂-answer}
-use native.Mathlib.Omega.{arith}
 use borrow.Author.Needs.{needs}
 use Rattle.position.proofs.reading.nearest_after.Statement.{statement}
 use Rattle.position.proofs.reading.nearest_after.Tie as tie

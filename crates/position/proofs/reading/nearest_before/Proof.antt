@@ -1,7 +1,6 @@
 -- `position::reading::nearest_before` meets its contract: block p - 1 from separator 2 to its end. Assumes nothing.
-use mathlib.Core.Path.{_≡_, _∙_, sym, ap}
-use Prim.Native.Nat.{ℕ, _+_, _-_}
-use Rattle.bits.specs.Sums.{distance}
+use mathlib.Core.Path.{_≡_, _∙_}
+use Prim.Native.Nat.{_+_, _-_}
 use Rattle.model.specs.Decoded.{meaning}
 use Rattle.position.proofs.RuleRanges.{rule₁-answer}
 use native.Mathlib.Omega.{arith}

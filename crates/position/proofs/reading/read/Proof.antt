@@ -12,7 +12,6 @@ use Rattle.model.specs.Reading.{reading}
 use Rattle.model.specs.Words.{wordBits}
 use Rattle.position_theory.proofs.BoundedError.{read-word}
 use Rattle.position.proofs.SpareBits.{spare-none, spare-some, nothing-spare}
-use native.Mathlib.Omega.{arith}
 use borrow.Author.Needs.{needs}
 use Rattle.position.proofs.reading.read.Statement.{statement}
 use Rattle.position.proofs.reading.read.Tie as tie

@@ -1,11 +1,9 @@
 -- `position::reading::read_places` meets its contract: the separators name the rule. Assumes nothing.
 use mathlib.Core.Path.{_≡_, _∙_, sym, ap}
-use Prim.Native.Nat.{ℕ}
 use Rattle.bits.specs.Places.{place}
 use Rattle.model.specs.Decoded.{meaning}
 use Rattle.model.specs.Reading.{majority, separator₂, separator₃}
 use Rattle.position.proofs.SeparatorRules.{from-zero, reads-by-rule₁, reads-by-rule₂, reads-by-rule₃, reads-by-none}
-use native.Mathlib.Omega.{arith}
 use borrow.Author.Needs.{needs}
 use Rattle.position.proofs.reading.read_places.Statement.{statement}
 use Rattle.position.proofs.reading.read_places.Tie as tie

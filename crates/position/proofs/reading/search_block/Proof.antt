@@ -1,7 +1,7 @@
 -- `position::reading::search_block` meets its contract: the search begins at the position whose word is put together of the
 -- block's two words, and passes the places from there. Assumes nothing.
 use mathlib.Core.Path.{_≡_, _∙_, ap₂}
-use Prim.Native.Nat.{ℕ, _+_, _≤_}
+use Prim.Native.Nat.{_+_}
 use native.Mathlib.Omega.{arith}
 use borrow.Author.Needs.{needs}
 use Rattle.bits.specs.Sums.{distance}
@@ -13,7 +13,7 @@ use Rattle.position_theory.proofs.Bounds.{position-bound}
 use Rattle.position_theory.proofs.Stepping.{steps-room}
 use Rattle.code_theory.proofs.Starts.{last-codeword-bound}
 use Rattle.position.specs.Received.{Begun}
-use Rattle.position.specs.SearchReady.{BlockWords, PassedPlaces, SearchReady, Passes}
+use Rattle.position.specs.SearchReady.{BlockWords, PassedPlaces, Passes}
 use Rattle.position.proofs.NearestSearch.{block-words}
 use Rattle.position.proofs.BlockSearch.{steps-counted, splice-holds}
 use Rattle.position.proofs.reading.search_block.Statement.{statement}

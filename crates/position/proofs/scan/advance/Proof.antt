@@ -1,17 +1,12 @@
 use Rattle.position.proofs.Scanning.{scanned-nearer, scanned-no-nearer}
 use mathlib.Core.Path.{refl}
-use native.Mathlib.Omega.{arith}
 use borrow.Author.Needs.{needs}
 use Rattle.position.proofs.scan.advance.Statement.{statement}
 use Rattle.position.proofs.scan.advance.Tie as tie
-use Rattle.position.proofs.scan.advance.Reads as reads
-use Rattle.position.proofs.scan.advance.Lts as lts
 
--- src/scan.rt:35:20
 add-position : tie.Need-add-position
 add-position c = search needs
 
--- src/scan.rt:30:1
 returns : tie.Need-returns
 returns c = (
   (refl, refl),
@@ -19,7 +14,6 @@ returns c = (
       scanned-nearer f (c .before .before .before .args .s) scanned (c .before .before .before .args .residual) next (c .if1 .taken),
 )
 
--- src/scan.rt:30:1
 returns-2 : tie.Need-returns-2
 returns-2 c = (
   (refl, refl),

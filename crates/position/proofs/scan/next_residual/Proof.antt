@@ -2,22 +2,16 @@ use native.Mathlib.Omega.{arith}
 use borrow.Author.Needs.{needs}
 use Rattle.position.proofs.scan.next_residual.Statement.{statement}
 use Rattle.position.proofs.scan.next_residual.Tie as tie
-use Rattle.position.proofs.scan.next_residual.Reads as reads
-use Rattle.position.proofs.scan.next_residual.Lts as lts
 
--- src/scan.rt:23:9
 sub-result : tie.Need-sub-result
 sub-result c = c .before .pre .3 (c .if1 .taken)
 
--- src/scan.rt:25:9
 add-result : tie.Need-add-result
 add-result c = search needs
 
--- src/scan.rt:18:1
 returns : tie.Need-returns
 returns c = λ old h differs. omega (arith, c .if1 .taken, c .before .pre .3 (c .if1 .taken))
 
--- src/scan.rt:18:1
 returns-2 : tie.Need-returns-2
 returns-2 c = search needs
 

@@ -2,25 +2,18 @@
 -- measure is the places that are left. Assumes nothing.
 use mathlib.Core.Path.{_≡_, refl, sym, _∙_}
 use mathlib.Core.Logic.{⊎-elim}
-use Prim.Native.Nat.{ℕ, _+_, _-_, _≤_, _<_}
+use Prim.Native.Nat.{_+_, _-_, _≤_, _<_}
 use borrow.Author.Needs.{needs}
 use native.Mathlib.Omega.{arith}
 use Rattle.bits.specs.Sums.{unlike}
 use Rattle.bits.specs.Places.{place}
-use Rattle.model.specs.Card.{Code}
-use Rattle.model.specs.Words.{wordBits}
 use Rattle.position_theory.proofs.Bounds.{word-bits-bound, residual-bound, position-bound}
 use Rattle.position_theory.proofs.Stepping.{steps-room}
 use Rattle.code_theory.proofs.Promise.{promise}
-use Rattle.position.specs.SearchReady.{BlockWords, PassedPlaces, SearchReady, Passes}
+use Rattle.position.specs.SearchReady.{PassedPlaces, Passes}
 use Rattle.position.proofs.Passing.{pass-alike, residual-positive, next-residual-is, pass-differing}
 use Rattle.position.proofs.scan.pass_places.Statement.{statement}
 use Rattle.position.proofs.scan.pass_places.Tie as tie
-use Rattle.position.proofs.scan.pass_places.Reads as reads
-use Rattle.position.proofs.scan.pass_places.Lts as lts
-use Rattle.position.proofs.places.bit_at.Reads as bit-at-reads
-use Rattle.position.proofs.scan.advance.Reads as advance-reads
-use Rattle.position.proofs.scan.next_residual.Reads as next-residual-reads
 
 abbrev Inv-loop : tie.InvT-loop
 Inv-loop u v x at to q₀ state₀ q state = (q₀ ≤ q) × (q ≤ to) × (state .low ≡ state₀ .low) × Passes u v x q₀ q state₀ state

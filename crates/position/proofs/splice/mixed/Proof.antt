@@ -1,7 +1,5 @@
 -- `position::splice::mixed` meets its contract: the law of a byte put together of two. Assumes nothing.
-use mathlib.Core.Path.{_≡_}
-use Prim.Native.Nat.{ℕ, _<_, _+_, _*_, _/_, _%_}
-use native.Mathlib.Nat.{div-mul-le-self}
+use Prim.Native.Nat.{_<_, _+_, _*_, _/_, _%_}
 use native.Mathlib.Omega.{arith}
 use borrow.Author.Needs.{needs}
 use lib.Pow.{pow-pos}

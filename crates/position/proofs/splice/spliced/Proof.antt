@@ -11,10 +11,6 @@ use borrow.Author.Needs.{needs}
 use native.Mathlib.Omega.{arith}
 use Rattle.position.proofs.splice.spliced.Statement.{statement}
 use Rattle.position.proofs.splice.spliced.Tie as tie
-use Rattle.position.proofs.splice.spliced.Reads as reads
-use Rattle.position.proofs.splice.spliced.Lts as lts
-use Rattle.position.proofs.splice.mixed.Reads as mixed-reads
-use Rattle.position.proofs.splice.places_below.Reads as places-below-reads
 
 abbrev Inv-loop : tie.InvT-loop
 Inv-loop at u v word₀ j₀ word j =
@@ -23,43 +19,33 @@ Inv-loop at u v word₀ j₀ word j =
 abbrev μ-loop : tie.MeasureT-loop
 μ-loop at u v word₀ j₀ word j = 40 - j
 
--- src/splice.rt:38:5
 loop-holds : tie.Need-loop-holds Inv-loop μ-loop
 loop-holds c = (omega arith, refl, λ p b. absurd (omega arith))
 
--- src/splice.rt:39:25
 array-read-mixed : tie.Need-array-read-mixed Inv-loop μ-loop
 array-read-mixed c = search needs
 
--- src/splice.rt:39:31
 array-read-mixed-2 : tie.Need-array-read-mixed-2 Inv-loop μ-loop
 array-read-mixed-2 c = search needs
 
--- src/splice.rt:39:54
 cast-places-below : tie.Need-cast-places-below Inv-loop μ-loop
 cast-places-below c = search needs
 
--- src/splice.rt:39:37
 places-below-requires : tie.Need-places-below-requires Inv-loop μ-loop
 places-below-requires c κs = search needs
 
--- src/splice.rt:39:19
 mixed-requires : tie.Need-mixed-requires Inv-loop μ-loop
 mixed-requires c κs = search needs
 
--- src/splice.rt:39:9
 array-write-word : tie.Need-array-write-word Inv-loop μ-loop
 array-write-word c = search needs
 
--- src/splice.rt:40:9
 add-j : tie.Need-add-j Inv-loop μ-loop
 add-j c = search needs
 
--- src/splice.rt:38:5
 loop-less : tie.Need-loop-less Inv-loop μ-loop
 loop-less c = search needs
 
--- src/splice.rt:38:5
 loop-again : tie.Need-loop-again Inv-loop μ-loop
 loop-again c =
     let loop = c .before .before .before .loop in
@@ -68,7 +54,6 @@ loop-again c =
     λ q h. rw (← (c .before .places-below .ensures)) (c .mixed .ensures q h) in
     (omega arith, simp length-set (loop .inv .1), splice-more _ _ _ _ (loop .j) (c .mixed .result) (omega arith) (loop .inv .2) bits)
 
--- src/splice.rt:33:1
 returns : tie.Need-returns Inv-loop μ-loop
 returns c p h = c .before .loop .inv .2 p (omega arith)
 

@@ -1,0 +1,55 @@
+-- `capi::dunnavish_block_start` meets its contract: the count of the lent numbers, then what the library answered.
+-- Assumes nothing.
+use mathlib.Core.Path.{sym, _∙_}
+use mathlib.Core.List.{[], _∷_}
+use borrow.Author.Needs.{needs}
+use Rattle.capi.specs.Crossing.{numberCount, numberStatus, numberLeft}
+use Rattle.capi.proofs.Lent.{wrong-count-changes-nothing, refusal-changes-nothing, values-are-left, all-stored}
+use Rattle.capi.proofs.dunnavish_block_start.Statement.{statement}
+use Rattle.capi.proofs.dunnavish_block_start.Tie as tie
+
+returns : tie.Need-returns
+returns c = wrong-count-changes-nothing numberCount _ (c .if1 .taken) _ _
+
+block-start-requires : tie.Need-block-start-requires
+block-start-requires c κs = search needs
+
+enum-known-answer : tie.Need-enum-known-answer
+enum-known-answer c = search needs
+
+enum-known-answer-2 : tie.Need-enum-known-answer-2
+enum-known-answer-2 c = search needs
+
+slice-write-values : tie.Need-slice-write-values
+slice-write-values c = search needs
+
+returns-2 : tie.Need-returns-2
+unfolding numberStatus numberLeft
+returns-2 c =
+    let asked = c .before .before .before in
+    rw (sym (asked .block-start .ensures) ∙ c .before .answer .given .1)
+    (refusal-changes-nothing numberCount _ (asked .before .if1 .left) _)
+
+same-length : tie.Need-same-length
+same-length c = search needs
+
+returns-3 : tie.Need-returns-3
+unfolding numberStatus numberLeft
+returns-3 c =
+    let asked = c .before .before .before in
+    let alike = asked .before .if1 .left in
+    rw (sym (asked .block-start .ensures) ∙ c .before .answer2 .given .1, all-stored (_ ∷ []) _ alike)
+    (values-are-left numberCount _ alike _)
+
+pub dunnavish-block-start-spec : {M : Type 1} → statement M
+dunnavish-block-start-spec =
+    tie.close
+    (tie.spec
+    returns
+    block-start-requires
+    enum-known-answer
+    enum-known-answer-2
+    slice-write-values
+    returns-2
+    same-length
+    returns-3)

@@ -1,0 +1,81 @@
+-- `capi::dunnavish_check_card` meets its contract: the count of the lent numbers, then what the library answered.
+-- Assumes nothing.
+use mathlib.Core.Path.{sym, _∙_}
+use mathlib.Core.List.{[], _∷_}
+use native.Mathlib.Omega.{arith}
+use borrow.Author.Needs.{needs}
+use lib.ListN.{length-set}
+use Rattle.capi.specs.Crossing.{cardCount, cardStatus, cardLeft}
+use Rattle.capi.proofs.Lent.{wrong-count-changes-nothing, refusal-changes-nothing, values-are-left, all-stored}
+use Rattle.capi.proofs.dunnavish_check_card.Statement.{statement}
+use Rattle.capi.proofs.dunnavish_check_card.Tie as tie
+
+returns : tie.Need-returns
+returns c = wrong-count-changes-nothing cardCount _ (c .if1 .taken) _ _
+
+check-card-requires : tie.Need-check-card-requires
+check-card-requires c κs = search needs
+
+enum-known-answer : tie.Need-enum-known-answer
+enum-known-answer c = search needs
+
+enum-known-answer-2 : tie.Need-enum-known-answer-2
+enum-known-answer-2 c = search needs
+
+slice-write-values : tie.Need-slice-write-values
+slice-write-values c = search needs
+
+slice-write-values-2 : tie.Need-slice-write-values-2
+slice-write-values-2 c = search needs
+
+slice-write-values-3 : tie.Need-slice-write-values-3
+slice-write-values-3 c = search needs
+
+slice-write-values-4 : tie.Need-slice-write-values-4
+slice-write-values-4 c = simp length-set (omega arith)
+
+slice-write-values-5 : tie.Need-slice-write-values-5
+slice-write-values-5 c = simp length-set (omega arith)
+
+slice-write-values-6 : tie.Need-slice-write-values-6
+slice-write-values-6 c = simp length-set (omega arith)
+
+slice-write-values-7 : tie.Need-slice-write-values-7
+slice-write-values-7 c = simp length-set (omega arith)
+
+returns-2 : tie.Need-returns-2
+unfolding cardStatus cardLeft
+returns-2 c =
+    let asked = c .before .before .before in
+    rw (sym (asked .check-card .ensures) ∙ c .before .answer .given .1)
+    (refusal-changes-nothing cardCount _ (asked .before .if1 .left) _)
+
+same-length : tie.Need-same-length
+same-length c = search needs
+
+returns-3 : tie.Need-returns-3
+unfolding cardStatus cardLeft
+returns-3 c =
+    let asked = c .before .before .before in
+    let alike = asked .before .if1 .left in
+    rw (sym (asked .check-card .ensures) ∙ c .before .answer2 .given .1, all-stored (_ ∷ _ ∷ _ ∷ _ ∷ _ ∷ _ ∷ _ ∷ []) _ alike)
+    (values-are-left cardCount _ alike _)
+
+pub dunnavish-check-card-spec : {M : Type 1} → statement M
+dunnavish-check-card-spec =
+    tie.close
+    (tie.spec
+    returns
+    check-card-requires
+    enum-known-answer
+    enum-known-answer-2
+    slice-write-values
+    slice-write-values-2
+    slice-write-values-3
+    slice-write-values-4
+    slice-write-values-5
+    slice-write-values-6
+    slice-write-values-7
+    returns-2
+    same-length
+    returns-3)

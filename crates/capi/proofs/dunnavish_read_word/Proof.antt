@@ -1,0 +1,63 @@
+-- `capi::dunnavish_read_word` meets its contract: the count of the lent numbers, then what the library answered.
+-- Assumes nothing.
+use mathlib.Core.Path.{sym, _∙_}
+use mathlib.Core.List.{[], _∷_}
+use borrow.Author.Needs.{needs}
+use Rattle.capi.specs.Crossing.{readCount, readStatus, readLeft}
+use Rattle.capi.proofs.Lent.{wrong-count-changes-nothing, refusal-changes-nothing, values-are-left, all-stored}
+use Rattle.capi.proofs.dunnavish_read_word.Statement.{statement}
+use Rattle.capi.proofs.dunnavish_read_word.Tie as tie
+
+returns : tie.Need-returns
+returns c = wrong-count-changes-nothing readCount _ (c .if1 .taken) _ _
+
+read-word-requires : tie.Need-read-word-requires
+read-word-requires c κs = search needs
+
+enum-known-answer : tie.Need-enum-known-answer
+enum-known-answer c = search needs
+
+enum-known-answer-2 : tie.Need-enum-known-answer-2
+enum-known-answer-2 c = search needs
+
+slice-write-values : tie.Need-slice-write-values
+slice-write-values c = search needs
+
+slice-write-values-2 : tie.Need-slice-write-values-2
+slice-write-values-2 c = search needs
+
+slice-write-values-3 : tie.Need-slice-write-values-3
+slice-write-values-3 c = search needs
+
+returns-2 : tie.Need-returns-2
+unfolding readStatus readLeft
+returns-2 c =
+    let asked = c .before .before .before in
+    rw (sym (asked .read-word .ensures .0) ∙ c .before .answer .given .1)
+    (refusal-changes-nothing readCount _ (asked .before .if1 .left) _)
+
+same-length : tie.Need-same-length
+same-length c = search needs
+
+returns-3 : tie.Need-returns-3
+unfolding readStatus readLeft
+returns-3 c =
+    let asked = c .before .before .before in
+    let alike = asked .before .if1 .left in
+    rw (sym (asked .read-word .ensures .0) ∙ c .before .answer2 .given .1, all-stored (_ ∷ _ ∷ _ ∷ []) _ alike)
+    (values-are-left readCount _ alike _)
+
+pub dunnavish-read-word-spec : {M : Type 1} → statement M
+dunnavish-read-word-spec =
+    tie.close
+    (tie.spec
+    returns
+    read-word-requires
+    enum-known-answer
+    enum-known-answer-2
+    slice-write-values
+    slice-write-values-2
+    slice-write-values-3
+    returns-2
+    same-length
+    returns-3)

@@ -1,0 +1,59 @@
+-- `capi::dunnavish_write_word` meets its contract: the library's own contract says what the lent word holds.
+-- Assumes nothing.
+use mathlib.Core.Path.{_≡_, refl, sym, _∙_}
+use Prim.Native.Nat.{ℕ}
+use native.Mathlib.Omega.{arith}
+use borrow.Author.Needs.{needs}
+use Rattle.model.specs.declared.WriteAnswer.{WriteAnswer}
+use Rattle.model.specs.declared.WriteAnswer.the-variants.{Written, Refused}
+use Rattle.position_theory.specs.Demands.{UnchangedIfRefused}
+use Rattle.capi.specs.Crossing.{writeStatus, UnchangedUnlessZero}
+use Rattle.capi.proofs.dunnavish_write_word.Statement.{statement}
+use Rattle.capi.proofs.dunnavish_write_word.Tie as tie
+
+refused-is-not-written : (answer : WriteAnswer) (refusal : ℕ) → answer ≡ Refused refusal → answer ≡ Written → ⊥
+refused-is-not-written answer refusal refused written = let clash : _≡_ {A = ℕ} 0 1 = cc in omega arith
+
+write-word-requires : tie.Need-write-word-requires
+write-word-requires c κs = search needs
+
+enum-known-answer : tie.Need-enum-known-answer
+enum-known-answer c = search needs
+
+enum-told : tie.Need-enum-told
+enum-told c = search needs
+
+same-length : tie.Need-same-length
+same-length c = search needs
+
+returns : tie.Need-returns
+unfolding writeStatus UnchangedUnlessZero UnchangedIfRefused
+returns c =
+    let asked = c .before .before .before .before .before in
+    let refused = c .before .answer .given .1 in (
+      rw (sym (asked .write-word .ensures .0) ∙ refused),
+      (asked .write-word .ensures .1 .0, λ _. asked .write-word .ensures .1 .1 .1 .0 (refused-is-not-written _ _ refused)),
+    )
+
+same-length-2 : tie.Need-same-length-2
+same-length-2 c = search needs
+
+returns-2 : tie.Need-returns-2
+unfolding writeStatus UnchangedUnlessZero
+returns-2 c =
+    let asked = c .before .before .before .before in (
+      rw (sym (asked .write-word .ensures .0) ∙ c .enum-told .given .1),
+      (asked .write-word .ensures .1 .0, λ nonzero. absurd (nonzero refl)),
+    )
+
+pub dunnavish-write-word-spec : {M : Type 1} → statement M
+dunnavish-write-word-spec =
+    tie.close
+    (tie.spec
+    write-word-requires
+    enum-known-answer
+    enum-told
+    same-length
+    returns
+    same-length-2
+    returns-2)

@@ -1,0 +1,120 @@
+// The library's five calls for programs in C, Rust and other languages: numbers and slices alone, no state, no `requires`. Each
+// returns a status, 0 or the refusal's number, and puts the values of its answer into numbers that the caller lends. Lent numbers
+// that are not exactly as many as the answer has values are answered 100, before anything else is looked at. Whenever the status
+// is not 0, nothing that was lent has changed. include/dunnavish.h says the same to a programmer in C.
+ghost use mathlib.Core.Path.{_≡_};
+ghost use Rattle.model.specs.Answers.{cardAnswer, writeAnswer, lentAfterWrite, readAnswer, startAnswer, millimetresAnswer};
+ghost use Rattle.capi.specs.Crossing.{statusFor, leftFor, UnchangedUnlessZero, cardCount, cardStatus, cardLeft, writeStatus, readCount, readStatus, readLeft, numberCount, numberStatus, numberLeft};
+use model::CardAnswer;
+use model::NumberAnswer;
+use model::ReadAnswer;
+use model::WriteAnswer;
+
+// The status of a call whose lent numbers are too few or too many.
+const WRONG_COUNT: u32 = 100;
+
+// Checks a card: n, k, track, D, t, d and last position into seven numbers.
+#[no_mangle]
+pub extern "C" fn dunnavish_check_card(card: &[u8], values: &mut [u32]) -> u32
+    ensures status { λ r. ⌜ r ≡ statusFor cardCount (now (values .entry)) (cardStatus (cardAnswer (now (card .entry)))) ⌝ }
+    ensures left { λ _. ⌜ now (values .exit) ≡ leftFor cardCount (now (values .entry)) (cardLeft (cardAnswer (now (card .entry))) (now (values .entry))) ⌝ }
+    ensures unchanged { λ r. ⌜ UnchangedUnlessZero (now (values .entry)) r (now (values .exit)) ⌝ }
+{
+    if values.len() != 7 {
+        return WRONG_COUNT;
+    }
+    let answer = depot::check_card(card);
+    match answer {
+        CardAnswer::Refused(refusal) => refusal,
+        CardAnswer::Sound(summary) => {
+            values[0] = summary.n;
+            values[1] = summary.k;
+            values[2] = summary.track;
+            values[3] = summary.distance;
+            values[4] = summary.radius;
+            values[5] = summary.bits;
+            values[6] = summary.last;
+            0
+        }
+    }
+}
+
+// Writes the word of a position into the lent word.
+#[no_mangle]
+pub extern "C" fn dunnavish_write_word(card: &[u8], position: u32, word: &mut [u8]) -> u32
+    ensures status { λ r. ⌜ r ≡ writeStatus (writeAnswer (now (card .entry)) position (now (word .entry))) ⌝ }
+    ensures left { λ _. ⌜ now (word .exit) ≡ lentAfterWrite (now (card .entry)) position (now (word .entry)) ⌝ }
+    ensures unchanged { λ r. ⌜ UnchangedUnlessZero (now (word .entry)) r (now (word .exit)) ⌝ }
+{
+    let answer = depot::write_word(card, position, word);
+    match answer {
+        WriteAnswer::Refused(refusal) => refusal,
+        WriteAnswer::Written => 0,
+    }
+}
+
+// Reads a received word: position, residual and rule into three numbers.
+#[no_mangle]
+pub extern "C" fn dunnavish_read_word(card: &[u8], word: &[u8], values: &mut [u32]) -> u32
+    ensures status { λ r. ⌜ r ≡ statusFor readCount (now (values .entry)) (readStatus (readAnswer (now (card .entry)) (now (word .entry)))) ⌝ }
+    ensures left { λ _. ⌜ now (values .exit) ≡ leftFor readCount (now (values .entry)) (readLeft (readAnswer (now (card .entry)) (now (word .entry))) (now (values .entry))) ⌝ }
+    ensures unchanged { λ r. ⌜ UnchangedUnlessZero (now (values .entry)) r (now (values .exit)) ⌝ }
+{
+    if values.len() != 3 {
+        return WRONG_COUNT;
+    }
+    let answer = depot::read_word(card, word);
+    match answer {
+        ReadAnswer::Refused(refusal) => refusal,
+        ReadAnswer::At {
+            position,
+            residual,
+            rule,
+        } => {
+            values[0] = position;
+            values[1] = residual;
+            values[2] = rule;
+            0
+        }
+    }
+}
+
+// The position at which a block starts, into one number.
+#[no_mangle]
+pub extern "C" fn dunnavish_block_start(card: &[u8], block: u32, values: &mut [u32]) -> u32
+    ensures status { λ r. ⌜ r ≡ statusFor numberCount (now (values .entry)) (numberStatus (startAnswer (now (card .entry)) block)) ⌝ }
+    ensures left { λ _. ⌜ now (values .exit) ≡ leftFor numberCount (now (values .entry)) (numberLeft (startAnswer (now (card .entry)) block) (now (values .entry))) ⌝ }
+    ensures unchanged { λ r. ⌜ UnchangedUnlessZero (now (values .entry)) r (now (values .exit)) ⌝ }
+{
+    if values.len() != 1 {
+        return WRONG_COUNT;
+    }
+    let answer = depot::block_start(card, block);
+    match answer {
+        NumberAnswer::Refused(refusal) => refusal,
+        NumberAnswer::Number(number) => {
+            values[0] = number;
+            0
+        }
+    }
+}
+
+// The distance of a position from the buffer face in millimetres, into one number.
+#[no_mangle]
+pub extern "C" fn dunnavish_millimetres(card: &[u8], position: u32, values: &mut [u32]) -> u32
+    ensures status { λ r. ⌜ r ≡ statusFor numberCount (now (values .entry)) (numberStatus (millimetresAnswer (now (card .entry)) position)) ⌝ }
+    ensures left { λ _. ⌜ now (values .exit) ≡ leftFor numberCount (now (values .entry)) (numberLeft (millimetresAnswer (now (card .entry)) position) (now (values .entry))) ⌝ }
+    ensures unchanged { λ r. ⌜ UnchangedUnlessZero (now (values .entry)) r (now (values .exit)) ⌝ }
+{
+    if values.len() != 1 {
+        return WRONG_COUNT;
+    }
+    let answer = depot::millimetres(card, position);
+    match answer {
+        NumberAnswer::Refused(refusal) => refusal,
+        NumberAnswer::Number(number) => {
+            values[0] = number;
+            0
+        }
+    }
+}

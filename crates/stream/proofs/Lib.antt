@@ -1,0 +1,4 @@
+pub mod Moving
+pub mod NextWord
+pub mod Pieces
+pub mod Whole

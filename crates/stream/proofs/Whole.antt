@@ -1,0 +1,71 @@
+-- The whole report from what is printed on the way: after the card's line, the lines of each piece of whole words, and at the
+-- end the bytes short of a word and the last line. A refused card's line is all. Assumes nothing.
+use Prim.Native.Nat.{ℕ, _+_, _*_, _/_, _%_, _<_}
+use mathlib.Core.Path.{_≡_, refl, sym, _∙_}
+use mathlib.Core.List.{List, [], _++_, append-assoc, append-nil}
+use native.Mathlib.Nat.{add-mul, zero-add, add-zero, zero-mul, mul-add-div-right, mul-add-mod-self-right, div-eq-of-lt, mod-eq-of-lt}
+use native.Mathlib.Omega.{arith}
+use borrow.Author.Tests.{eq-eqb, ne-eqb}
+use lib.ListN.{length, length-append}
+use lib.Seq.{take-at, drop-at}
+use Rattle.bits.specs.Sums.{sum}
+use Rattle.model.specs.Card.{Code, cardRefusal, codeOf}
+use Rattle.model.specs.Answers.{wordLength, cardAnswer, readAnswer, readWord}
+use Rattle.report.specs.Lines.{cardLine, shortLine, lastLine}
+use Rattle.report.specs.Report.{cardPart, wordLines, wordsRead, wordsReport, reportOf}
+use Rattle.stream.proofs.Pieces.{lines-of-first, lines-in-pieces, read-of-first, read-in-pieces}
+
+-- `text` is what has been printed of the whole words `bytes`, which are `met` words, `read` of them read
+pub record Told (C : Code) (bytes text : List ℕ) (met read : ℕ) : Type 0 where
+  pub whole : length bytes ≡ met * wordLength C
+  pub lines : text ≡ wordLines C bytes 0 met
+  pub count : read ≡ wordsRead C bytes met
+
+-- before the first word
+pub told-nothing : (C : Code) → Told C [] [] 0 0
+unfolding wordLines wordsRead sum
+told-nothing C = record { whole = sym (zero-mul (wordLength C)); lines = refl; count = refl }
+
+module _ (C : Code) {bytes text : List ℕ} {met read : ℕ} (told : Told C bytes text met read) where
+  -- m words more
+  pub told-more : (piece : List ℕ) (m : ℕ) → length piece ≡ m * wordLength C
+      → Told C (bytes ++ piece) (text ++ wordLines C piece met m) (met + m) (read + wordsRead C piece m)
+  told-more piece m whole =
+      record {
+        whole = rw (length-append, told .whole, whole) (sym (add-mul met m (wordLength C)));
+        lines = rw (told .lines) (sym (rw zero-add at (lines-in-pieces C met bytes piece (told .whole) 0 m)));
+        count = rw (told .count) (sym (read-in-pieces C met bytes piece (told .whole) m));
+      }
+
+  -- at the end, with bytes short of a word
+  pub told-all : (tail : List ℕ) → length tail < wordLength C
+      → wordsReport C (bytes ++ tail) ≡ text ++ shortLine (length tail) ++ lastLine met read
+  unfolding wordsReport
+  told-all tail short =
+      let w : ℕ = wordLength C in
+      let words : length (bytes ++ tail) / w ≡ met =
+      rw (length-append, told .whole, mul-add-div-right {m = w} (omega arith) met (length tail), div-eq-of-lt short) (add-zero met) in
+      let rest : length (bytes ++ tail) % w ≡ length tail =
+      rw (length-append, told .whole, mul-add-mod-self-right met w (length tail)) (mod-eq-of-lt short) in
+      rw (words, rest, told .lines, told .count, lines-of-first C met bytes tail (told .whole) 0, read-of-first C met bytes tail (told .whole))
+
+-- a sound card, the words told, and the bytes short of a word
+pub report-of-sound : (card : List ℕ) → length card ≡ 512 → cardRefusal card ≡ 0
+    → {bytes text : List ℕ} {met read : ℕ} → Told (codeOf card) bytes text met read
+    → (tail : List ℕ) → length tail < wordLength (codeOf card)
+    → reportOf (card ++ (bytes ++ tail)) ≡ cardLine (cardAnswer card) ++ text ++ shortLine (length tail) ++ lastLine met read
+unfolding reportOf
+report-of-sound card size sound {bytes} told tail short =
+    rw (take-at card (bytes ++ tail) 512 size, drop-at card (bytes ++ tail) 512 size, eq-eqb (cardRefusal card) 0 sound)
+    (rw (told-all (codeOf card) told tail short) (simp append-assoc))
+
+-- of a refused card its line alone, whatever follows
+pub report-of-refused : (input : List ℕ) → (cardRefusal (cardPart input) ≡ 0 → ⊥)
+    → reportOf input ≡ cardLine (cardAnswer (cardPart input))
+unfolding reportOf
+report-of-refused input refused = rw (ne-eqb (cardRefusal (cardPart input)) 0 refused) (append-nil _)
+
+-- a word read with a sound card's code, decoded once, reads as with the card's bytes
+pub read-alike : (card received : List ℕ) → cardRefusal card ≡ 0 → readAnswer card received ≡ readWord (codeOf card) received
+unfolding readAnswer
+read-alike card received sound = rw (eq-eqb (cardRefusal card) 0 sound)

@@ -1,0 +1,31 @@
+-- `stream::card::card_answer` meets its contract: the laws of the card's public check say what each way out answers. Assumes nothing.
+use Rattle.model.specs.Decoded.{meaning}
+use Rattle.code_theory.specs.Promise.{Sound}
+use Rattle.code_theory.proofs.LeastDistance.{D-low}
+use Rattle.depot.proofs.Answers.{card-refused, card-sound}
+use Rattle.stream.proofs.card.card_answer.Statement.{statement}
+use Rattle.stream.proofs.card.card_answer.Tie as tie
+
+sound : (c : tie.Else1) → Sound (meaning (c .before .before .args .decoded .code))
+sound c = c .before .before .pre (c .if1 .left)
+
+returns : tie.Need-returns
+returns c card from = card-refused card _ from (c .if1 .taken)
+
+sub-t4 : tie.Need-sub-t4
+sub-t4 c = D-low _ (sound (c .before .before))
+
+layout-of-requires : tie.Need-layout-of-requires
+layout-of-requires c κs = sound (c .before .before)
+
+last-position-requires : tie.Need-last-position-requires
+last-position-requires c κs = sound (c .before .before .before)
+
+returns-2 : tie.Need-returns-2
+returns-2 c card from =
+    let decoded = c .before .before .before .before in
+    card-sound card _ from (decoded .if1 .left) _ _ (c .before .layout-of .ensures .bits-are) (c .last-position .ensures)
+
+pub card-answer-spec : {M : Type 1} → statement M
+card-answer-spec =
+    tie.close (tie.spec returns sub-t4 layout-of-requires last-position-requires returns-2)

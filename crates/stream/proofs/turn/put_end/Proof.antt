@@ -1,0 +1,25 @@
+-- `stream::turn::put_end` meets its contract: the last line is put behind the line of the bytes short of a word. Assumes nothing.
+use native.Mathlib.Omega.{arith}
+use borrow.Author.Needs.{needs}
+use Rattle.report.proofs.Puts.{puts-then}
+use Rattle.stream.proofs.turn.put_end.Statement.{statement}
+use Rattle.stream.proofs.turn.put_end.Tie as tie
+
+put-short-line-requires : tie.Need-put-short-line-requires
+put-short-line-requires c κs = search needs
+
+put-last-line-requires : tie.Need-put-last-line-requires
+put-last-line-requires c κs = search needs
+
+same-length : tie.Need-same-length
+same-length c = search needs
+
+returns : tie.Need-returns
+returns c =
+    let last = c .before .before in
+    let short = last .before .before .before .before in
+    (puts-then (omega arith) (short .put-short-line .ensures .0) (last .put-last-line .ensures .0), omega (arith, short .put-short-line .ensures .1))
+
+pub put-end-spec : {M : Type 1} → statement M
+put-end-spec =
+    tie.close (tie.spec put-short-line-requires put-last-line-requires same-length returns)

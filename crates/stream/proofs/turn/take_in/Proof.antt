@@ -1,0 +1,90 @@
+-- `stream::turn::take_in` meets its contract: n / w words of w bytes are whole, and n % w bytes are left. Assumes nothing.
+use Prim.Native.Nat.{_*_, _/_, _≤_}
+use mathlib.Core.Path.{_≡_, sym, _∙_}
+use native.Mathlib.Nat.{zero-add, div-mul-le-self, mod-eq-sub-div-mul}
+use native.Mathlib.Omega.{arith}
+use borrow.Author.Needs.{needs}
+use lib.ListN.{length, take}
+use lib.Seq.{length-take-le}
+use Rattle.model.specs.Decoded.{meaning}
+use Rattle.model.specs.Answers.{wordLength}
+use Rattle.stream.proofs.Moving.{tail-is}
+use Rattle.stream.proofs.turn.take_in.Statement.{statement}
+use Rattle.stream.proofs.turn.take_in.Tie as tie
+
+-- n bytes have come in
+arrived : (c : tie.After-word-length) → let args = c .before .before .before .args in length (take (args .n) (args .input .now)) ≡ args .n
+arrived c = length-take-le _ _ (c .before .before .before .pre .1 .0)
+
+word-length-requires : tie.Need-word-length-requires
+word-length-requires c κs = search needs
+
+div-m : tie.Need-div-m
+div-m c = search needs
+
+slice-reshare-prefix-put-words : tie.Need-slice-reshare-prefix-put-words
+slice-reshare-prefix-put-words c = search needs
+
+slice-aggregate-put-words : tie.Need-slice-aggregate-put-words
+slice-aggregate-put-words c = sym (arrived (c .before .before))
+
+put-words-requires : tie.Need-put-words-requires
+put-words-requires c κs =
+    let measured = c .before .before in
+    let start = measured .before .before .before in
+    let w = measured .word-length .result in
+    let whole : start .args .n / w * w ≤ start .args .n = div-mul-le-self (start .args .n) w in
+    let each : wordLength (meaning (start .args .code)) ≡ w = sym (measured .word-length .ensures .0) in (
+      start .pre .0,
+      (rw (each, arrived measured) whole, rw (zero-add, ← each) (start .pre .1 .1), rw each at (start .pre .1 .2)),
+    )
+
+mul-keep-tail : tie.Need-mul-keep-tail
+mul-keep-tail c =
+    let measured = c .before .before .before .before .before .before in
+    omega (arith, div-mul-le-self (measured .before .before .before .args .n) (measured .word-length .result))
+
+keep-tail-requires : tie.Need-keep-tail-requires
+keep-tail-requires c κs =
+    let measured = c .before .before .before .before .before .before in
+    (div-mul-le-self _ _, measured .before .before .before .pre .1 .0)
+
+same-length : tie.Need-same-length
+same-length c = search needs
+
+same-length-2 : tie.Need-same-length-2
+same-length-2 c = search needs
+
+returns : tie.Need-returns
+returns c =
+    let kept = c .before .before in
+    let told = kept .before .before .before .before in
+    let measured = told .before .before .before in
+    let start = measured .before .before .before in
+    let n = start .args .n in
+    let w = measured .word-length .result in
+    let is-length = measured .word-length .ensures .0 in
+    record {
+      words = rw (arrived measured, ← is-length);
+      held = rw (arrived measured, ← is-length) (kept .keep-tail .ensures .0 ∙ sym (mod-eq-sub-div-mul n w));
+      lines = told .put-words .ensures .0;
+      read = told .put-words .ensures .1 .1 .0;
+      kept = rw (← is-length) (kept .keep-tail .ensures .1 ∙ tail-is (start .args .input .now) n w (start .pre .1 .0));
+      few = told .put-words .ensures .1 .1 .1;
+      room = rw zero-add at (told .put-words .ensures .1 .0);
+    }
+
+pub take-in-spec : {M : Type 1} → statement M
+take-in-spec =
+    tie.close
+    (tie.spec
+    word-length-requires
+    div-m
+    slice-reshare-prefix-put-words
+    slice-aggregate-put-words
+    put-words-requires
+    mul-keep-tail
+    keep-tail-requires
+    same-length
+    same-length-2
+    returns)

@@ -1,0 +1,133 @@
+-- `stream::words::put_words` meets its contract. The loop's invariant: the lines of the first `i` words have been put, the words read
+-- among them counted, and `from` is where word `i` starts. The measure is the words that are left. Assumes nothing.
+use Prim.Native.Nat.{_+_, _-_, _*_, _≤_}
+use mathlib.Core.Path.{_≡_, refl, sym, _∙_}
+use native.Mathlib.Nat.{zero-mul, add-mul, one-mul}
+use lib.ListN.{length}
+use Rattle.bits.specs.Sums.{sum}
+use Rattle.model.specs.Decoded.{meaning}
+use Rattle.report.specs.Puts.{Puts}
+use Rattle.report.specs.Report.{answerAt, wordLines, wordsRead}
+use Rattle.report.proofs.Puts.{puts-then, puts-nothing}
+use borrow.Author.Needs.{needs}
+use native.Mathlib.Omega.{arith}
+use Rattle.stream.proofs.Pieces.{within}
+use Rattle.stream.proofs.NextWord.{lines-next, read-next, part-is-word}
+use Rattle.stream.proofs.words.put_words.Statement.{statement}
+use Rattle.stream.proofs.words.put_words.Tie as tie
+
+abbrev Inv-loop : tie.InvT-loop
+Inv-loop out₀ at code bytes met words w next₀ read₀ from₀ i₀ out next read from i =
+    (i ≤ words) × (from ≡ i * w) × Puts out₀ at (wordLines (meaning code) bytes met i) out next × (next ≤ at + i * 128)
+    × (read ≡ wordsRead (meaning code) bytes i) × (read ≤ i) × (length out ≡ length out₀)
+
+abbrev μ-loop : tie.MeasureT-loop
+μ-loop out₀ at code bytes met words w next₀ read₀ from₀ i₀ out next read from i = words - i
+
+word-length-requires : tie.Need-word-length-requires Inv-loop μ-loop
+word-length-requires c κs = search needs
+
+loop-holds : tie.Need-loop-holds Inv-loop μ-loop
+unfolding wordLines wordsRead sum
+loop-holds c =
+    let args = c .before .before .before .args in
+    (omega arith, sym (zero-mul (c .word-length .result)), puts-nothing (args .out .now) (args .at), omega arith, refl, omega arith, refl)
+
+-- the word that a turn reads lies within the lent bytes
+lent : (c : tie.In-loop Inv-loop μ-loop)
+    → c .before .loop .from + c .before .before .word-length .result ≤ length (c .before .before .before .before .before .args .bytes .now)
+lent c =
+    let w = c .before .before .word-length .result in
+    let args = c .before .before .before .before .before .args in
+    let i = c .before .loop .i in
+    let inside : i * w + w ≤ args .words * w = within w i (args .words) (c .loop-test .taken) in
+    let whole : args .words * w ≤ length (args .bytes .now) = rw (c .before .before .word-length .ensures .0) (c .before .before .before .before .before .pre .1 .0) in
+    omega (arith, c .before .loop .inv .1)
+
+add-to : tie.Need-add-to Inv-loop μ-loop
+add-to c = omega (arith, lent c)
+
+sub-read : tie.Need-sub-read Inv-loop μ-loop
+sub-read c = search needs
+
+part-read-start : tie.Need-part-read-start Inv-loop μ-loop
+part-read-start c = search needs
+
+part-read-end : tie.Need-part-read-end Inv-loop μ-loop
+part-read-end c = omega (arith, lent c)
+
+read-requires : tie.Need-read-requires Inv-loop μ-loop
+read-requires c κs = search needs
+
+add-i : tie.Need-add-i Inv-loop μ-loop
+add-i c = search needs
+
+add-put-word-line : tie.Need-add-put-word-line Inv-loop μ-loop
+add-put-word-line c = search needs
+
+put-word-line-requires : tie.Need-put-word-line-requires Inv-loop μ-loop
+put-word-line-requires c κs = search needs
+
+read-count-requires : tie.Need-read-count-requires Inv-loop μ-loop
+read-count-requires c κs = search needs
+
+add-read : tie.Need-add-read Inv-loop μ-loop
+add-read c = search needs
+
+loop-less : tie.Need-loop-less Inv-loop μ-loop
+loop-less c = search needs
+
+loop-again : tie.Need-loop-again Inv-loop μ-loop
+loop-again c =
+    let line = c .before .before .before in
+    let heard = line .before .before in
+    let turn = heard .before .before in
+    let loop = turn .before .loop in
+    let args = turn .before .before .before .before .before .args in
+    let length-of = turn .before .before .word-length in
+    let i = loop .i in
+    let C = meaning (args .code) in
+    let answer : heard .read .result ≡ answerAt C (args .bytes .now) i =
+    heard .read .ensures ∙ part-is-word C (args .bytes .now) i (loop .from) (length-of .result) (length-of .ensures .0) (loop .inv .1) in (
+      omega arith,
+      rw (add-mul, one-mul, loop .inv .1),
+      rw (lines-next C (args .bytes .now) i (args .met), ← answer)
+          (puts-then (omega arith) (loop .inv .2) (line .put-word-line .ensures .0)),
+      omega (arith, line .put-word-line .ensures .1),
+      rw (read-next C (args .bytes .now) i, ← answer, c .read-count .ensures .0, loop .inv .4),
+      omega (arith, c .read-count .ensures),
+      line .put-word-line .kept .0 ∙ loop .inv .6,
+    )
+
+same-length : tie.Need-same-length Inv-loop μ-loop
+same-length c = search needs
+
+returns : tie.Need-returns Inv-loop μ-loop
+returns c =
+    let loop = c .before .loop in
+    let args = c .before .before .before .before .before .args in
+    let all : loop .i ≡ args .words = omega arith in
+    rw (← all) (loop .inv .2, (loop .inv .3, (loop .inv .4, loop .inv .5)))
+
+pub put-words-spec : {M : Type 1} → statement M
+put-words-spec =
+    tie.close
+    (tie.spec
+    Inv-loop
+    μ-loop
+    word-length-requires
+    loop-holds
+    add-to
+    sub-read
+    part-read-start
+    part-read-end
+    read-requires
+    add-i
+    add-put-word-line
+    put-word-line-requires
+    read-count-requires
+    add-read
+    loop-less
+    loop-again
+    same-length
+    returns)

@@ -1,0 +1,33 @@
+// The answer of a card that has been decoded.
+ghost use mathlib.Core.Path.{_≡_};
+ghost use mathlib.Core.List.{List};
+ghost use Prim.Native.Nat.{ℕ};
+ghost use Rattle.model.specs.Answers.{cardAnswer};
+ghost use Rattle.model.specs.Decoded.{meaning};
+ghost use Rattle.code_theory.specs.Promise.{Sound};
+ghost use Rattle.chunk.specs.DecodedFrom.{DecodedFrom};
+use model::CardAnswer;
+use model::CardSummary;
+use model::Decoded;
+use position::blocks;
+use position::layout;
+
+// The answer to a check of the card that was decoded so. The card is not looked at again.
+pub fn card_answer(decoded: Decoded) -> CardAnswer
+    requires { ⌜ (decoded .refusal ≡ 0 → Sound (meaning (decoded .code))) ⌝ }
+    ensures { λ r. ⌜ ((card : List ℕ) → DecodedFrom card decoded → r ≡ cardAnswer card) ⌝ }
+{
+    if decoded.refusal != 0 {
+        return CardAnswer::Refused(decoded.refusal);
+    }
+    let code = decoded.code;
+    CardAnswer::Sound(CardSummary {
+        n: code.n,
+        k: code.k,
+        track: decoded.track,
+        distance: code.distance,
+        radius: (code.distance - 1) / 2,
+        bits: layout::layout_of(code).bits,
+        last: blocks::last_position(code),
+    })
+}

@@ -1,0 +1,5 @@
+// What tramread does with its input, part by part: the card, the whole words that have come in, and the bytes short of a word.
+pub mod card;
+pub mod tail;
+pub mod turn;
+pub mod words;

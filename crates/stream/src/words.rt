@@ -1,0 +1,76 @@
+// The whole words of the bytes that have come in, read one after the other, with a line for each.
+ghost use mathlib.Core.Path.{_≡_};
+ghost use Prim.Native.Nat.{_+_, _*_, _/_, _^_, _≤_, _<_};
+ghost use lib.ListN.{length};
+ghost use Rattle.model.specs.Answers.{wordLength};
+ghost use Rattle.model.specs.Decoded.{meaning};
+ghost use Rattle.code_theory.specs.Promise.{Sound};
+ghost use Rattle.report.specs.Lines.{lineRoom};
+ghost use Rattle.report.specs.Puts.{Puts};
+ghost use Rattle.report.specs.Report.{readCount, wordLines, wordsRead};
+use model::DecodedCode;
+use model::ReadAnswer;
+use position::layout;
+use position::reading;
+use report::lines;
+
+// The bytes of a word: 1 to 40.
+pub fn word_length(code: DecodedCode) -> usize
+    requires { ⌜ Sound (meaning code) ⌝ }
+    ensures { λ r. ⌜ (r ≡ wordLength (meaning code)) × (1 ≤ r) × (r ≤ 40) ⌝ }
+{
+    ((layout::layout_of(code).bits + 7) / 8) as usize
+}
+
+// 1 for a word that is read, 0 for one that is refused.
+fn read_count(answer: ReadAnswer) -> u64
+    ensures { λ r. ⌜ (r ≡ readCount answer) × (r ≤ 1) ⌝ }
+{
+    match answer {
+        ReadAnswer::At {
+            position: _,
+            residual: _,
+            rule: _,
+        } => 1,
+        ReadAnswer::Refused(_) => 0,
+    }
+}
+
+// What a run through some words gives: the place past their lines, and how many of them were read.
+pub struct Told {
+    pub next: usize,
+    pub read: u64,
+}
+
+// Puts the lines of the first `words` words of the lent bytes, numbered on from `met`, the number of words before them.
+// The form is that of a part from the middle: for each word `&bytes[from..to]` is lent, a part that starts in the middle of the
+// lent bytes, and the reader's promise names that part.
+pub fn put_words(
+    out: &mut [u8],
+    at: usize,
+    code: DecodedCode,
+    bytes: &[u8],
+    met: u64,
+    words: usize,
+) -> Told
+    requires { ⌜ Sound (meaning code) ⌝ }
+    requires { ⌜ (words * wordLength (meaning code) ≤ length (now bytes)) × (at + words * lineRoom ≤ length (now out)) × (met + words < 2 ^ 64) ⌝ }
+    ensures { λ r. ⌜ Puts (now (out .entry)) at (wordLines (meaning code) (now (bytes .entry)) met words) (now (out .exit)) (r .next) ⌝ }
+    ensures { λ r. ⌜ r .next ≤ at + words * lineRoom ⌝ }
+    ensures { λ r. ⌜ (r .read ≡ wordsRead (meaning code) (now (bytes .entry)) words) × (r .read ≤ words) ⌝ }
+{
+    let w = word_length(code);
+    let mut next = at;
+    let mut read: u64 = 0;
+    let mut from: usize = 0;
+    let mut i: usize = 0;
+    while i < words {
+        let to = from + w;
+        let answer = reading::read(code, &bytes[from..to]);
+        i += 1;
+        next = lines::put_word_line(out, next, met + i as u64, answer);
+        read += read_count(answer);
+        from = to;
+    }
+    Told { next, read }
+}

@@ -1,0 +1,109 @@
+/*
+ * Dunnavish: position words of trams on stabling tracks, for programs in C.
+ *
+ * Five calls: check a track card, write the word of a position, read a received word, the start of a block, and the distance of
+ * a position in millimetres. The archive is target/staticlib/libcapi.a, for x86-64 Linux; `rt staticlib capi` builds it. Link it
+ * as   cc program.c libcapi.a   (it needs memcpy and nothing else).
+ *
+ * A call answers with its status: 0 (DUNNAVISH_OK), or the number of the one reason why it could not be served, below. Whenever
+ * the status is not 0, no byte and no number that was lent has changed. Every call ends, whatever the bytes and numbers are.
+ *
+ * Arguments
+ *   Every array is a pointer and the count of its elements (bytes of a card or a word; numbers, not bytes, of `values`).
+ *   A card is the card's 512 bytes, checked anew by each call. A card of any other length is answered DUNNAVISH_CARD_LENGTH.
+ *   `values` is where the call puts its answer. Its count must be exactly the call's (DUNNAVISH_CARD_VALUES and so on), or the
+ *   call is answered DUNNAVISH_VALUE_COUNT before anything else is looked at.
+ *   No pointer may be NULL, not even with a count of 0: pass the address of any object then. An array that a call writes
+ *   (`values`, and the word of dunnavish_write_word) may not overlap another one of the same call. Pointers to numbers are
+ *   aligned as uint32_t is. These are the only things that a call cannot check.
+ *
+ * Who owns what
+ *   The caller owns every array, before, during and after the call. The library keeps no pointer, allocates nothing and frees
+ *   nothing.
+ *
+ * Threads
+ *   The library has no state at all: no globals, nothing kept between calls. Any number of threads may call at the same time,
+ *   as long as none writes an array that another one uses. Calls from signal handlers are safe too.
+ *
+ * Stack
+ *   A call takes less than 2,048 bytes of stack, the same for every card and word; tests/c/stack_use.c measures it. (If memcpy is
+ *   bound lazily, the first call adds what the dynamic linker takes.) There is no recursion, no heap and no system call.
+ */
+#ifndef DUNNAVISH_H
+#define DUNNAVISH_H
+
+#include <stddef.h>
+#include <stdint.h>
+
+#ifdef __cplusplus
+extern "C" {
+#endif
+
+/* The bytes of a card, and of the widest word. */
+#define DUNNAVISH_CARD_BYTES 512
+#define DUNNAVISH_WIDEST_WORD_BYTES 40
+
+/* The status of a call. They are seen in this order; the first that holds is the answer. */
+enum dunnavish_status {
+    DUNNAVISH_OK = 0,
+    DUNNAVISH_CARD_LENGTH = 1,      /* card: not 512 bytes */
+    DUNNAVISH_CARD_CHECK = 2,       /* card: the check in bytes 510 to 511 differs from the bytes before it */
+    DUNNAVISH_CARD_LIMITS = 3,      /* card: n outside 1 to 64, or k outside 1 to 12 or above n */
+    DUNNAVISH_CARD_STRAY_BITS = 4,  /* card: a row has a bit at n or above, or an unused row or byte 100 to 509 is not zero */
+    DUNNAVISH_CARD_DEPENDENT = 5,   /* card: some nonempty set of rows sums to zero */
+    DUNNAVISH_WORD_LENGTH = 6,      /* word: not exactly the bytes of this card's words, d / 8 rounded up */
+    DUNNAVISH_OFF_THE_TRACK = 7,    /* position above the last one, or block above 2^k - 1 */
+    DUNNAVISH_SPARE_BIT = 8,        /* received word: a bit past the d bits of a word is set */
+    DUNNAVISH_SEPARATORS = 9,       /* received word: its separators read 0 1 0 or 1 0 1 */
+    DUNNAVISH_CHUNK_UNREADABLE = 10, /* received word: a code chunk that the rule names has no codeword within the radius */
+    DUNNAVISH_CHUNKS_DIFFER = 11,   /* received word: rule 3, and the two code chunks read differently */
+    DUNNAVISH_NO_BLOCK = 12,        /* received word: rule 1 before the first block, or rule 2 after the last */
+    DUNNAVISH_VALUE_COUNT = 100     /* `values` has not exactly the count of the call; seen before all the others */
+};
+
+/* Check a card. Answers 0 to 5, or 100. On 0 the seven values are those of the indices below. */
+enum dunnavish_card_value {
+    DUNNAVISH_CARD_N = 0,        /* n, the code's length in bits */
+    DUNNAVISH_CARD_K = 1,        /* k, the number of rows: there are 2^k codewords */
+    DUNNAVISH_CARD_TRACK = 2,    /* the track number */
+    DUNNAVISH_CARD_DISTANCE = 3, /* D, the least Hamming distance of the code */
+    DUNNAVISH_CARD_RADIUS = 4,   /* t, the radius: (D - 1) / 2 rounded down */
+    DUNNAVISH_CARD_BITS = 5,     /* d, the bits of a word: it travels as (d + 7) / 8 bytes, at most 40 */
+    DUNNAVISH_CARD_LAST = 6,     /* the last position on the track */
+    DUNNAVISH_CARD_VALUES = 7    /* the count of `values` */
+};
+uint32_t dunnavish_check_card(const uint8_t *card, size_t card_bytes, uint32_t *values, size_t values_count);
+
+/*
+ * Write the word of a position into `word`, which has exactly the bytes of a word. Answers 0 to 7. Only on 0 is `word` written,
+ * all of it, spare bits zero; what it held before does not matter.
+ */
+uint32_t dunnavish_write_word(const uint8_t *card, size_t card_bytes, uint32_t position, uint8_t *word, size_t word_bytes);
+
+/*
+ * Read a received word. Answers 0 to 6, 8 to 12, or 100. On 0 the three values are those of the indices below. If each of the
+ * word's five chunks has at most t bits turned, the answer is 0 and the position is off by at most twice the bits turned in all.
+ */
+enum dunnavish_read_value {
+    DUNNAVISH_READ_POSITION = 0, /* the position, from 0 to the last */
+    DUNNAVISH_READ_RESIDUAL = 1, /* in how many bits the received word differs from that position's word */
+    DUNNAVISH_READ_RULE = 2,     /* the rule of the separators, 1 to 3 */
+    DUNNAVISH_READ_VALUES = 3    /* the count of `values` */
+};
+uint32_t dunnavish_read_word(const uint8_t *card, size_t card_bytes, const uint8_t *word, size_t word_bytes, uint32_t *values,
+                             size_t values_count);
+
+/* The count of `values` of the two calls below: one number. */
+#define DUNNAVISH_NUMBER_VALUES 1
+
+/* The position at which block `block` starts; blocks are 0 to 2^k - 1. Answers 0 to 5, 7, or 100. */
+uint32_t dunnavish_block_start(const uint8_t *card, size_t card_bytes, uint32_t block, uint32_t *values, size_t values_count);
+
+/* The distance of a position from the buffer face in millimetres: 50 for each step. Answers 0 to 5, 7, or 100. */
+uint32_t dunnavish_millimetres(const uint8_t *card, size_t card_bytes, uint32_t position, uint32_t *values, size_t values_count);
+
+#ifdef __cplusplus
+}
+#endif
+
+#endif

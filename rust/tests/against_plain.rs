@@ -1,0 +1,281 @@
+//! The library against the plain implementation of document 01 in `plain`, on cards of every shape and words of every kind.
+mod cards;
+mod plain;
+mod random;
+
+use cards::{card_of, seal};
+use dunnavish::{block_start, check_card, millimetres, read_word, write_word, Refusal};
+use plain::{unlike, Code};
+use random::Random;
+
+fn number<T>(answer: Result<T, Refusal>) -> Result<T, u32> {
+    answer.map_err(Refusal::number)
+}
+
+/// Both check this card; its code, if it is sound.
+fn both_check(card: &[u8]) -> Option<Code> {
+    let answer = number(check_card(card));
+    match plain::check_card(card) {
+        Ok(code) => {
+            let summary = answer.expect("a sound card");
+            assert_eq!(summary.length as usize, code.n);
+            assert_eq!(summary.rows as usize, code.k);
+            assert_eq!(summary.track, code.track);
+            assert_eq!(summary.distance as usize, code.distance);
+            assert_eq!(summary.radius as usize, code.radius);
+            assert_eq!(summary.word_bits as usize, code.word_bits());
+            assert_eq!(summary.word_bytes(), code.word_bytes());
+            assert_eq!(summary.last as usize, code.last());
+            Some(code)
+        }
+        Err(refusal) => {
+            assert_eq!(answer.err(), Some(refusal));
+            None
+        }
+    }
+}
+
+fn both_write(card: &[u8], code: &Code, position: usize, lent: usize) {
+    let mut word: Vec<u8> = (0..lent).map(|i| (i * 37 + position) as u8).collect();
+    let before = word.clone();
+    let answer = number(write_word(card, position as u32, &mut word));
+    let expected = code.write_word(position, lent);
+    assert_eq!(answer.err(), expected.as_ref().err().copied());
+    assert_eq!(word, expected.unwrap_or(before));
+}
+
+fn both_read(card: &[u8], code: &Code, received: &[u8]) -> Result<plain::Read, u32> {
+    let expected = code.read_word(received);
+    let answer = number(read_word(card, received)).map(|reading| plain::Read {
+        position: reading.position as usize,
+        residual: reading.residual as usize,
+        rule: reading.rule.number(),
+    });
+    assert_eq!(answer, expected, "n {} k {} word {received:02x?}", code.n, code.k);
+    expected
+}
+
+/// Reads the word of a position with `turned[i]` bits turned in chunk i.
+fn both_read_damaged(card: &[u8], code: &Code, random: &mut Random, position: usize, turned: [usize; 5]) {
+    let mut word = code.word(position);
+    for ((from, length), count) in code.chunks().into_iter().zip(turned) {
+        for place in random.some_below(count.min(length), length) {
+            word[from + place] ^= true;
+        }
+    }
+    let answer = both_read(card, code, &code.packed(&word));
+    if turned.iter().all(|&count| count <= code.radius) {
+        let all: usize = turned.iter().sum();
+        let read = answer.expect("at most t bits are turned in each chunk");
+        assert!(read.position.abs_diff(position) <= 2 * all);
+        assert!(read.position.abs_diff(position) <= all + read.residual);
+        assert_eq!(read.residual, unlike(&code.word(read.position), &word));
+    }
+}
+
+/// Everything that may be asked of one card.
+fn both_answer(card: &[u8], random: &mut Random, rounds: usize) {
+    let Some(code) = both_check(card) else {
+        // a refused card is refused alike by every call
+        let refusal = check_card(card).err();
+        assert_eq!(read_word(card, &[0, 0]).err(), refusal);
+        let mut word = [0xaa; 2];
+        assert_eq!(write_word(card, 0, &mut word).err(), refusal);
+        assert_eq!(word, [0xaa; 2]);
+        assert_eq!(block_start(card, 0).err(), refusal);
+        assert_eq!(millimetres(card, 0).err(), refusal);
+        return;
+    };
+    let (last, bytes) = (code.last(), code.word_bytes());
+    for block in [0, 1, code.last_codeword() / 2, code.last_codeword(), code.last_codeword() + 1, u32::MAX as usize] {
+        assert_eq!(number(block_start(card, block as u32)).map(|r| r as usize), code.block_start(block));
+    }
+    for position in [0, 1, last / 2, last, last + 1, u32::MAX as usize] {
+        assert_eq!(number(millimetres(card, position as u32)).map(|mm| mm as usize), code.millimetres(position));
+        both_write(card, &code, position, bytes);
+    }
+    for lent in [0, bytes - 1, bytes + 1, 41, 512] {
+        both_write(card, &code, 0, lent);
+        both_write(card, &code, last + 1, lent);
+        both_read(card, &code, &vec![0; lent]).unwrap_err();
+    }
+    let widest = [code.distance, code.n, code.distance, code.n, code.distance];
+    for round in 0..rounds {
+        let position = match round % 4 {
+            // near a block's start, where rule 3 looks to both sides
+            0 => (code.starts[random.below(code.starts.len())] + random.below(2 * code.distance + 1))
+                .saturating_sub(code.distance)
+                .min(last),
+            _ => random.below(last + 1),
+        };
+        both_write(card, &code, position, bytes);
+        assert_eq!(both_read(card, &code, &code.packed(&code.word(position))).unwrap().position, position);
+        let within = [0; 5].map(|_: usize| random.below(code.radius + 1));
+        both_read_damaged(card, &code, random, position, within);
+        both_read_damaged(card, &code, random, position, [code.radius; 5]);
+        // just past the radius in one chunk, then anything
+        let mut past = within;
+        past[random.below(5)] = code.radius + 1;
+        both_read_damaged(card, &code, random, position, past);
+        let anything = widest.map(|length| random.below(length + 1));
+        both_read_damaged(card, &code, random, position, anything);
+        // noise over all the bytes, spare bits too
+        let noise: Vec<u8> = (0..bytes).map(|_| random.next() as u8).collect();
+        let _ = both_read(card, &code, &noise);
+        // an undamaged word with a spare bit set
+        if code.word_bits() % 8 != 0 {
+            let mut spare = code.packed(&code.word(position));
+            let place = code.word_bits() + random.below(8 * bytes - code.word_bits());
+            spare[place / 8] |= 1 << (place % 8);
+            assert_eq!(both_read(card, &code, &spare), Err(8));
+        }
+    }
+}
+
+/// k rows below 2^n that have no pattern.
+fn any_rows(random: &mut Random, n: usize, k: usize) -> Vec<u64> {
+    (0..k).map(|_| random.next() >> (64 - n)).collect()
+}
+
+/// k independent rows below 2^n: the lowest k bits of row z are 2^z, before the rows are mixed.
+fn independent_rows(random: &mut Random, n: usize, k: usize) -> Vec<u64> {
+    let mut rows: Vec<u64> = any_rows(random, n, k).into_iter().enumerate().map(|(z, row)| row >> k << k | 1 << z).collect();
+    for _ in 0..2 * k {
+        let (to, from) = (random.below(k), random.below(k));
+        if to != from {
+            rows[to] ^= rows[from];
+        }
+    }
+    rows
+}
+
+#[test]
+fn every_shape() {
+    let mut random = Random(1);
+    for n in 1..=64 {
+        for k in 1..=n.min(12) {
+            let rows = independent_rows(&mut random, n, k);
+            let card = card_of(n as u8, k as u8, random.next() as u16, &rows);
+            assert!(check_card(&card).is_ok());
+            both_answer(&card, &mut random, if k < 8 { 30 } else { 3 });
+        }
+    }
+}
+
+#[test]
+fn small_codes_of_random_rows() {
+    let mut random = Random(2);
+    for _ in 0..2500 {
+        let n = 1 + random.below(16);
+        let k = 1 + random.below(n.min(5));
+        let rows = any_rows(&mut random, n, k);
+        both_answer(&card_of(n as u8, k as u8, random.next() as u16, &rows), &mut random, 8);
+    }
+}
+
+/// The Reed-Muller code of first order: the ones, and for each bit of a place the places that have it. D is half the length.
+fn reed_muller(m: usize) -> Vec<u64> {
+    let n = 1 << m;
+    let ones = u64::MAX >> (64 - n);
+    let halves = (0..m).map(|bit| (0..n).filter(|p| p >> bit & 1 == 1).fold(0, |row, p| row | 1u64 << p));
+    [ones].into_iter().chain(halves).collect()
+}
+
+/// The extended Golay code: n 24, k 12, D 8.
+fn golay() -> Vec<u64> {
+    (0..12)
+        .map(|z| {
+            let row = 0xc75u64 << z;
+            row | u64::from(row.count_ones() % 2) << 23
+        })
+        .collect()
+}
+
+#[test]
+fn codes_of_great_distance() {
+    let mut random = Random(3);
+    // repetition: D is n
+    for n in [1, 2, 3, 5, 8, 31, 32, 33, 63, 64] {
+        both_answer(&card_of(n, 1, 14, &[u64::MAX >> (64 - n)]), &mut random, 60);
+    }
+    for m in 2..=6 {
+        let rows = reed_muller(m);
+        let card = card_of(1 << m, rows.len() as u8, 7, &rows);
+        assert_eq!(check_card(&card).unwrap().distance, 1 << (m - 1));
+        both_answer(&card, &mut random, 40);
+    }
+    let card = card_of(24, 12, 3, &golay());
+    assert_eq!(check_card(&card).unwrap().distance, 8);
+    both_answer(&card, &mut random, 12);
+    // d a multiple of 8: no spare bit
+    let card = card_of(5, 4, 3, &[3, 6, 12, 24]);
+    assert_eq!(check_card(&card).unwrap().word_bits, 16);
+    both_answer(&card, &mut random, 40);
+}
+
+#[test]
+fn every_word_and_every_position_of_small_cards() {
+    for (n, rows) in [(1, &[1u64][..]), (2, &[3]), (2, &[1, 2]), (3, &[7]), (3, &[3, 6]), (3, &[7, 3]), (3, &[1, 2, 4]), (4, &[15])] {
+        let card = card_of(n, rows.len() as u8, 1, rows);
+        let code = both_check(&card).unwrap();
+        for position in 0..=code.last() + 1 {
+            both_write(&card, &code, position, code.word_bytes());
+        }
+        for bits in 0u32..1 << (8 * code.word_bytes()).min(16) {
+            let received = bits.to_le_bytes();
+            let mut received = received[..code.word_bytes().min(2)].to_vec();
+            received.resize(code.word_bytes(), 0);
+            let _ = both_read(&card, &code, &received);
+        }
+    }
+}
+
+#[test]
+fn cards_that_are_not_sound() {
+    let mut random = Random(5);
+    for round in 0..3000 {
+        let n = 1 + random.below(64);
+        let k = 1 + random.below(n.min(12)).min(6);
+        let rows = independent_rows(&mut random, n, k);
+        let mut card = card_of(n as u8, k as u8, random.next() as u16, &rows);
+        match round % 6 {
+            // any byte of any value, the check kept or made right again
+            0 => card[random.below(512)] = random.next() as u8,
+            1 => {
+                card[random.below(510)] = random.next() as u8;
+                seal(&mut card);
+            }
+            // n and k at and around their limits
+            2 => {
+                card[0] = [0, 1, 2, 12, 63, 64, 65, 255][random.below(8)];
+                card[1] = [0, 1, 2, 11, 12, 13, 255][random.below(7)];
+                seal(&mut card);
+            }
+            // one bit anywhere in the rows or behind them
+            3 => {
+                card[4 + random.below(506)] ^= 1 << random.below(8);
+                seal(&mut card);
+            }
+            // rows that depend on each other
+            4 => {
+                let mut rows = rows.clone();
+                let (to, from) = (random.below(k), random.below(k));
+                rows[to] = if to == from { 0 } else { rows[from] };
+                card = card_of(n as u8, k as u8, 9, &rows);
+            }
+            _ => card.truncate(random.below(512)),
+        }
+        both_answer(&card, &mut random, 1);
+    }
+}
+
+#[test]
+fn the_check_is_compared_as_a_number() {
+    // a card whose right check is below 15: the same number and 65,521 is another stored check
+    let mut card = vec![0; 512];
+    seal(&mut card);
+    assert_eq!(check_card(&card), Err(Refusal::CardLimits));
+    card[510..].copy_from_slice(&65_521u16.to_be_bytes());
+    assert_eq!(check_card(&card), Err(Refusal::CardCheck));
+    both_check(&card);
+}

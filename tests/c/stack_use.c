@@ -1,0 +1,142 @@
+/*
+ * Measures the stack that a call takes, and fails if it is not below what include/dunnavish.h promises. Each call runs on a thread
+ * whose stack is painted first; a thread that calls nothing is subtracted. Cards of every length n, and of the fewest and the most
+ * rows, and positions over the whole track. Linked with -Wl,-z,now, so that memcpy is bound before the calls.
+ */
+#include <pthread.h>
+#include <stdio.h>
+#include <stdlib.h>
+#include <string.h>
+
+#include "dunnavish.h"
+
+#define PROMISED 2048
+#define STACK_BYTES ((size_t)1 << 18)
+#define PAINT 0xA5
+
+enum { NOTHING, CHECK, WRITE, READ, START, MILLIMETRES, CALLS };
+static const char *const names[CALLS] = {"nothing", "check_card", "write_word", "read_word", "block_start", "millimetres"};
+
+static uint8_t card[DUNNAVISH_CARD_BYTES];
+static uint8_t word[DUNNAVISH_WIDEST_WORD_BYTES];
+static size_t word_bytes;
+static uint32_t values[DUNNAVISH_CARD_VALUES];
+static uint32_t position, status;
+static unsigned char *stack;
+static uint64_t random_state = 88172645463325252u;
+
+static uint64_t next_random(void)
+{
+    random_state ^= random_state << 13;
+    random_state ^= random_state >> 7;
+    random_state ^= random_state << 17;
+    return random_state;
+}
+
+static void *called(void *which)
+{
+    switch (*(int *)which) {
+    case CHECK:
+        status = dunnavish_check_card(card, sizeof card, values, DUNNAVISH_CARD_VALUES);
+        break;
+    case WRITE:
+        status = dunnavish_write_word(card, sizeof card, position, word, word_bytes);
+        break;
+    case READ:
+        status = dunnavish_read_word(card, sizeof card, word, word_bytes, values, DUNNAVISH_READ_VALUES);
+        break;
+    case START:
+        status = dunnavish_block_start(card, sizeof card, 1, values, DUNNAVISH_NUMBER_VALUES);
+        break;
+    case MILLIMETRES:
+        status = dunnavish_millimetres(card, sizeof card, position, values, DUNNAVISH_NUMBER_VALUES);
+        break;
+    default:
+        status = 0;
+    }
+    return NULL;
+}
+
+static size_t stack_of(int which)
+{
+    pthread_attr_t attributes;
+    pthread_t thread;
+    size_t untouched = 0;
+
+    memset(stack, PAINT, STACK_BYTES);
+    if (pthread_attr_init(&attributes) || pthread_attr_setstack(&attributes, stack, STACK_BYTES) ||
+        pthread_create(&thread, &attributes, called, &which) || pthread_join(thread, NULL)) {
+        fprintf(stderr, "stack_use: no thread\n");
+        exit(2);
+    }
+    if (status != DUNNAVISH_OK) {
+        fprintf(stderr, "stack_use: %s refused %u\n", names[which], (unsigned)status);
+        exit(1);
+    }
+    while (untouched < STACK_BYTES && stack[untouched] == PAINT)
+        untouched++;
+    return STACK_BYTES - untouched;
+}
+
+/* A card of independent rows: row z has bit z set, and of the bits below k no other. */
+static void make_card(int n, int k)
+{
+    unsigned sum = 0;
+    int z, i;
+
+    memset(card, 0, sizeof card);
+    card[0] = (uint8_t)n;
+    card[1] = (uint8_t)k;
+    for (z = 0; z < k; z++) {
+        uint64_t row = next_random();
+        if (n < 64)
+            row &= ((uint64_t)1 << n) - 1;
+        row = (row >> k << k) | (uint64_t)1 << z;
+        for (i = 0; i < 8; i++)
+            card[4 + 8 * z + i] = (uint8_t)(row >> (56 - 8 * i));
+    }
+    for (i = 0; i < 510; i++)
+        sum = (sum + (unsigned)(i + 1) * card[i]) % 65521;
+    card[510] = (uint8_t)(sum / 256);
+    card[511] = (uint8_t)(sum % 256);
+}
+
+int main(void)
+{
+    size_t most[CALLS] = {0};
+    int n, k, which, round, failed = 0;
+
+    stack = aligned_alloc(4096, STACK_BYTES);
+    if (stack == NULL)
+        return 2;
+    most[NOTHING] = stack_of(NOTHING);
+    for (n = 1; n <= 64; n++)
+        for (k = 1; k <= 12 && k <= n; k += 11) {
+            uint32_t last;
+
+            make_card(n, k);
+            for (which = CHECK; which < CALLS; which++)
+                for (round = 0; round < 4; round++) {
+                    size_t used;
+
+                    position = 0;
+                    stack_of(CHECK);
+                    last = values[DUNNAVISH_CARD_LAST];
+                    word_bytes = (values[DUNNAVISH_CARD_BITS] + 7) / 8;
+                    position = round == 0 ? 0 : round == 1 ? last : (uint32_t)(next_random() % (last + 1));
+                    if (which == READ)
+                        stack_of(WRITE);
+                    used = stack_of(which);
+                    if (used > most[which])
+                        most[which] = used;
+                }
+        }
+    for (which = CHECK; which < CALLS; which++) {
+        size_t used = most[which] - most[NOTHING];
+
+        printf("%s %zu bytes of stack\n", names[which], used);
+        failed |= used >= PROMISED;
+    }
+    free(stack);
+    return failed;
+}
