@@ -2,3 +2,4 @@ pub mod Moving
 pub mod NextWord
 pub mod Pieces
 pub mod Whole
+pub mod Streaming

@@ -1,7 +1,7 @@
 -- The whole report from what is printed on the way: after the card's line, the lines of each piece of whole words, and at the
 -- end the bytes short of a word and the last line. A refused card's line is all. Assumes nothing.
 use Prim.Native.Nat.{ℕ, _+_, _*_, _/_, _%_, _<_}
-use mathlib.Core.Path.{_≡_, refl, sym, _∙_}
+use mathlib.Core.Path.{_≡_, refl, sym}
 use mathlib.Core.List.{List, [], _++_, append-assoc, append-nil}
 use native.Mathlib.Nat.{add-mul, zero-add, add-zero, zero-mul, mul-add-div-right, mul-add-mod-self-right, div-eq-of-lt, mod-eq-of-lt}
 use native.Mathlib.Omega.{arith}
@@ -11,6 +11,7 @@ use lib.Seq.{take-at, drop-at}
 use Rattle.bits.specs.Sums.{sum}
 use Rattle.model.specs.Card.{Code, cardRefusal, codeOf}
 use Rattle.model.specs.Answers.{wordLength, cardAnswer, readAnswer, readWord}
+use Rattle.code_theory.proofs.SoundCard.{card-tests}
 use Rattle.report.specs.Lines.{cardLine, shortLine, lastLine}
 use Rattle.report.specs.Report.{cardPart, wordLines, wordsRead, wordsReport, reportOf}
 use Rattle.stream.proofs.Pieces.{lines-of-first, lines-in-pieces, read-of-first, read-in-pieces}
@@ -50,12 +51,13 @@ module _ (C : Code) {bytes text : List ℕ} {met read : ℕ} (told : Told C byte
       rw (words, rest, told .lines, told .count, lines-of-first C met bytes tail (told .whole) 0, read-of-first C met bytes tail (told .whole))
 
 -- a sound card, the words told, and the bytes short of a word
-pub report-of-sound : (card : List ℕ) → length card ≡ 512 → cardRefusal card ≡ 0
+pub report-of-sound : (card : List ℕ) → cardRefusal card ≡ 0
     → {bytes text : List ℕ} {met read : ℕ} → Told (codeOf card) bytes text met read
     → (tail : List ℕ) → length tail < wordLength (codeOf card)
     → reportOf (card ++ (bytes ++ tail)) ≡ cardLine (cardAnswer card) ++ text ++ shortLine (length tail) ++ lastLine met read
 unfolding reportOf
-report-of-sound card size sound {bytes} told tail short =
+report-of-sound card sound {bytes} told tail short =
+    let size = card-tests card sound .size in
     rw (take-at card (bytes ++ tail) 512 size, drop-at card (bytes ++ tail) 512 size, eq-eqb (cardRefusal card) 0 sound)
     (rw (told-all (codeOf card) told tail short) (simp append-assoc))
 

@@ -10,9 +10,9 @@ use Rattle.report.specs.Puts.{Puts}
 use Rattle.report.specs.Report.{wordLines, wordsRead}
 use Rattle.stream.specs.declared.turn.Taken.{Taken}
 
--- `input` and `out` are the buffers before the turn, `input′` and `out′` after it; `arrived` is what has come in, and `met` words
--- came before it. The whole words have their lines at the front of `out′` and are counted; the bytes short of a word are left
--- at the front of `input′`.
+-- `arrived` is what has come in, and `met` words came before it. `out` is the buffer of lines before the turn, `out′` after it, and
+-- `input′` the buffer of bytes after it. The whole words have their lines at the front of `out′` and are counted; the bytes
+-- short of a word are left at the front of `input′`.
 pub record TakenIn (C : Code) (arrived : List ℕ) (met : ℕ) (input′ out out′ : List ℕ) (r : Taken) : Type 0 where
   pub words : r .words ≡ length arrived / wordLength C
   pub held : r .held ≡ length arrived % wordLength C

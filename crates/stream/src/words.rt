@@ -1,6 +1,6 @@
 // The whole words of the bytes that have come in, read one after the other, with a line for each.
 ghost use mathlib.Core.Path.{_≡_};
-ghost use Prim.Native.Nat.{_+_, _*_, _/_, _^_, _≤_, _<_};
+ghost use Prim.Native.Nat.{_+_, _*_, _^_, _≤_, _<_};
 ghost use lib.ListN.{length};
 ghost use Rattle.model.specs.Answers.{wordLength};
 ghost use Rattle.model.specs.Decoded.{meaning};

@@ -1,8 +1,9 @@
 // tramread: standard input is a card and then words; standard output gets a line for the card, a line a word, and a last line.
 // All that is printed is `reportOf` of all that is read, a definition of crate report. No contract can say what a call of C's reads
-// or writes, so the work is done by proved functions on lent bytes, and the laws in stream's proofs/Whole.antt put their texts
-// together: `report-of-refused` for a refused card, and for a sound one `told-nothing` before the first word, `told-more` for each
-// turn of the loop, and `report-of-sound` at the end.
+// or writes, so the work is done by proved functions on lent bytes, and laws put their texts together: `report-of-refused` (stream's
+// proofs/Whole.antt) for a refused card, and for a sound one those of stream's proofs/Streaming.antt, `streamed-nothing` before the
+// loop, `streamed-turn` for each of its turns, and `streamed-report` at the end.
+// The stored stdin is document 01's card B with the words of its example, and stdout is the document's text.
 ghost use mathlib.Core.Path.{_≡_};
 ghost use Prim.Native.Nat.{_≤_};
 ghost use lib.ListN.{length, take};

@@ -3,7 +3,7 @@ use Prim.Native.Nat.{_-_, _≤_}
 use native.Mathlib.Omega.{arith}
 use borrow.Author.Needs.{needs}
 use borrow.Rule.Slice.PartMut.{take-put}
-use lib.ListN.{length, take, drop, length-take}
+use lib.ListN.{length-take}
 use Rattle.tramread.proofs.receive.Statement.{statement}
 use Rattle.tramread.proofs.receive.Tie as tie
 

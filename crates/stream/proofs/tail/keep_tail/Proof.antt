@@ -1,7 +1,7 @@
 -- `stream::tail::keep_tail` meets its contract. The loop's invariant: `kept` bytes have been moved to the front. The measure is the
 -- bytes that are left. Assumes nothing.
 use Prim.Native.Nat.{_+_, _-_, _≤_}
-use mathlib.Core.Path.{_≡_, refl}
+use mathlib.Core.Path.{_≡_}
 use native.Mathlib.Omega.{arith}
 use borrow.Author.Needs.{needs}
 use lib.ListN.{length, length-set}
