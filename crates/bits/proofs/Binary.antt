@@ -9,7 +9,7 @@ use native.Mathlib.Omega.{arith}
 use lib.Bits.{bitXor, differ, xor-step, xor-shr}
 use lib.Count.{ones, ones-cat}
 use lib.Pow.{pow-pos, pow-mono, mod-pow-add, shr-shr}
-use Rattle.bits.specs.Sums.{sum, unlike, distance}
+use Rattle.bits.specs.Sums.{sumBelow, unlike, distance}
 use Rattle.bits.specs.Places.{bit, weight}
 use Rattle.bits.proofs.Sums.{sum-ext, sum-zero, sum-of-bits, summand-le}
 
@@ -112,7 +112,7 @@ weight-le n x = sum-of-bits (bit x) n (bit-bit x)
 
 -- one place more
 pub weight-next : (n x : ℕ) → weight (n + 1) x ≡ weight n x + bit x n
-unfolding weight sum
+unfolding weight sumBelow
 weight-next n x = rw (add-one n)
 
 pub weight-zero : (n : ℕ) → weight n 0 ≡ 0
@@ -137,10 +137,10 @@ ones-of-bit (suc zero) h = refl
 ones-of-bit (suc (suc b)) h = omega arith
 
 ones-below : (n x : ℕ) → weight n x ≡ ones (x % 2 ^ n)
-unfolding weight sum
+unfolding weight sumBelow
 ones-below zero x = sym (ap ones (mod-one x) ∙ ones-of-bit 0 (omega arith))
 ones-below (suc n) x =
-    let ih : sum (bit x) n ≡ ones (x % 2 ^ n) = ones-below n x in
+    let ih : sumBelow (bit x) n ≡ ones (x % 2 ^ n) = ones-below n x in
     let next : x % 2 ^ suc n ≡ bit x n * 2 ^ n + x % 2 ^ n = ap (λ (e : ℕ). x % 2 ^ e) (sym (one-add n)) ∙ mod-pow-add x 1 n in
     let cat : ones (x % 2 ^ suc n) ≡ ones (bit x n) + ones (x % 2 ^ n) =
     ap ones next ∙ ones-cat n (bit x n) (x % 2 ^ n) (mod-lt x (pow-pos n)) in

@@ -8,7 +8,7 @@ use native.Mathlib.Omega.{arith}
 use mathlib.Core.Bool.{true, false, cond}
 use lib.Dec.{ltb}
 use borrow.Author.Tests.{lt-ltb, le-ltb}
-use Rattle.bits.specs.Sums.{sum, distance, unlike, from, join}
+use Rattle.bits.specs.Sums.{sumBelow, distance, unlike, from, joinAt}
 use Rattle.bits.proofs.Sums.{sum-ext, sum-mono, sum-add, sum-split, sum-zero, sum-longer}
 
 -- the distance goes by the bits below d
@@ -32,7 +32,7 @@ distance-triangle d u v w =
 
 -- one place more
 pub distance-suc : (d : ℕ) (u v : ℕ → ℕ) → distance (suc d) u v ≡ distance d u v + unlike (u d) (v d)
-unfolding distance sum
+unfolding distance sumBelow
 distance-suc d u v = refl
 
 -- more places, at least as far apart
@@ -46,7 +46,7 @@ distance-split a b u v = sum-split (λ p. unlike (u p) (v p)) a b
 
 -- words that differ in each of d places are d apart
 pub distance-everywhere : (u v : ℕ → ℕ) (d : ℕ) → ((p : ℕ) → p < d → unlike (u p) (v p) ≡ 1) → distance d u v ≡ d
-unfolding distance sum
+unfolding distance sumBelow
 distance-everywhere u v zero h = refl
 distance-everywhere u v (suc d) h = omega (arith, distance-everywhere u v d (λ p b. h p (omega arith)), h d (omega arith))
 
@@ -65,23 +65,23 @@ distance-through {u} {c} {v} d h =
     (sum-ext d (λ p b. ⊎-elim (λ e. omega arith) (λ e. omega arith) (h p b)))
 
 -- joined words: below a the first, from a on the second
-pub join-left : (a : ℕ) (u v : ℕ → ℕ) (p : ℕ) → p < a → join a u v p ≡ u p
-unfolding join
+pub join-left : (a : ℕ) (u v : ℕ → ℕ) (p : ℕ) → p < a → joinAt a u v p ≡ u p
+unfolding joinAt
 join-left a u v p b = simp (lt-ltb p a b)
 
-pub join-right : (a : ℕ) (u v : ℕ → ℕ) (p : ℕ) → join a u v (a + p) ≡ v p
-unfolding join
+pub join-right : (a : ℕ) (u v : ℕ → ℕ) (p : ℕ) → joinAt a u v (a + p) ≡ v p
+unfolding joinAt
 join-right a u v p = simp (le-ltb (a + p) a (omega arith), add-sub-cancel-left)
 
-pub join-bits : (a : ℕ) {u v : ℕ → ℕ} → ((p : ℕ) → u p < 2) → ((p : ℕ) → v p < 2) → (p : ℕ) → join a u v p < 2
-unfolding join
+pub join-bits : (a : ℕ) {u v : ℕ → ℕ} → ((p : ℕ) → u p < 2) → ((p : ℕ) → v p < 2) → (p : ℕ) → joinAt a u v p < 2
+unfolding joinAt
 join-bits a {u} {v} hu hv p = elim (ltb p a) as (λ t. cond t (u p) (v (p - a)) < 2) [ true ↦ hu p | false ↦ hv (p - a) ]
 
 pub distance-join : (a b : ℕ) (u v u′ v′ : ℕ → ℕ)
-    → distance (a + b) (join a u v) (join a u′ v′) ≡ distance a u u′ + distance b v v′
+    → distance (a + b) (joinAt a u v) (joinAt a u′ v′) ≡ distance a u u′ + distance b v v′
 distance-join a b u v u′ v′ =
     rw (
-      distance-split a b (join a u v) (join a u′ v′),
+      distance-split a b (joinAt a u v) (joinAt a u′ v′),
       distance-ext a (join-left a u v) (join-left a u′ v′),
       distance-ext b (λ p _. join-right a u v p) (λ p _. join-right a u′ v′ p),
     )
@@ -102,6 +102,6 @@ distance-one-place f g x (suc d) q h same =
 
 -- no two words differ in more places than there are
 pub distance-le : (d : ℕ) (u v : ℕ → ℕ) → distance d u v ≤ d
-unfolding distance sum
+unfolding distance sumBelow
 distance-le zero u v = omega arith
 distance-le (suc d) u v = omega (arith, distance-le d u v)

@@ -12,7 +12,7 @@ use lib.Pow.{pow-pos, mod-pow-add, pow-add}
 use lib.Seq.{ext-getD, getD-at}
 use borrow.Author.Tests.{lt-ltb, le-ltb}
 use Rattle.bits.proofs.Numbers.{lt-or-le}
-use Rattle.bits.specs.Sums.{sum}
+use Rattle.bits.specs.Sums.{sumBelow}
 use Rattle.bits.specs.Places.{bit, place, cut, bytesFor, byteOf, listOf, pack}
 
 -- lists by index
@@ -36,15 +36,15 @@ getD-listOf (suc m) f i h =
 
 -- the number whose bits are w(0), …, w(m - 1)
 abbrev number : (ℕ → ℕ) → ℕ → ℕ
-number w m = sum (λ q. w q * 2 ^ q) m
+number w m = sumBelow (λ q. w q * 2 ^ q) m
 
 number-ext : (w v : ℕ → ℕ) (m : ℕ) → ((q : ℕ) → q < m → w q ≡ v q) → number w m ≡ number v m
-unfolding sum
+unfolding sumBelow
 number-ext w v zero same = refl
 number-ext w v (suc m) same = rw (number-ext w v m (λ q l. same q (le-step l)), same m (lt-suc-self m))
 
 number-below : (w : ℕ → ℕ) → ((q : ℕ) → w q < 2) → (m : ℕ) → number w m < 2 ^ m
-unfolding sum
+unfolding sumBelow
 number-below w bits zero = omega arith
 number-below w bits (suc m) =
     omega (arith, number-below w bits m, mul-le-mul-right (2 ^ m) (le-of-suc-le-suc (bits m)))
@@ -53,7 +53,7 @@ higher-power : (x q k : ℕ) → x * 2 ^ (suc q + k) ≡ x * 2 ^ k * 2 * 2 ^ q
 higher-power x q k = rw (pow-add 2 (suc q) k, pow-succ' 2 q) (omega arith)
 
 bit-of-number : (w : ℕ → ℕ) → ((q : ℕ) → w q < 2) → (m q : ℕ) → q < m → bit (number w m) q ≡ w q
-unfolding sum
+unfolding sumBelow
 bit-of-number w bits zero q l = absurd (omega arith)
 bit-of-number w bits (suc m) q l =
     let top : bit (number w (suc m)) m ≡ w m =
@@ -67,7 +67,7 @@ bit-of-number w bits (suc m) q l =
     (eq-or-lt-of-le (le-of-suc-le-suc l))
 
 number-of-bits : (x m : ℕ) → number (bit x) m ≡ x % 2 ^ m
-unfolding sum
+unfolding sumBelow
 number-of-bits x zero = omega arith
 number-of-bits x (suc m) =
     let one-more : 1 + m ≡ suc m = omega arith in

@@ -9,7 +9,7 @@ use native.Mathlib.Omega.{arith}
 use lib.Dec.{ltb}
 use borrow.Author.Tests.{ltb-true, ltb-false}
 use Rattle.bits.proofs.Numbers.{true-or-false, or-false-left, or-false-right}
-use Rattle.bits.specs.Searches.{any, firstFrom, first, leastAt, greatest}
+use Rattle.bits.specs.Searches.{anyBelow, firstFrom, first, leastAt, greatest}
 
 -- a test that is true is not false
 never : {b : Bool} → b ≡ true → b ≡ false → ⊥
@@ -29,27 +29,27 @@ or-true-right : (a b : Bool) → b ≡ true → (a || b) ≡ true
 or-true-right true b h = refl
 or-true-right false b h = h
 
-pub any-none : (f : ℕ → Bool) (m : ℕ) → ((i : ℕ) → i < m → f i ≡ false) → any f m ≡ false
-unfolding any
+pub any-none : (f : ℕ → Bool) (m : ℕ) → ((i : ℕ) → i < m → f i ≡ false) → anyBelow f m ≡ false
+unfolding anyBelow
 any-none f zero h = refl
 any-none f (suc m) h = rw (any-none f m (λ i l. h i (le-step l))) (h m (lt-suc-self m))
 
-pub none-of-any : (f : ℕ → Bool) (m : ℕ) → any f m ≡ false → (i : ℕ) → i < m → f i ≡ false
-unfolding any
+pub none-of-any : (f : ℕ → Bool) (m : ℕ) → anyBelow f m ≡ false → (i : ℕ) → i < m → f i ≡ false
+unfolding anyBelow
 none-of-any f zero h i l = absurd (omega arith)
 none-of-any f (suc m) h i l =
-    ⊎-elim (λ e. rw e (or-false-right (any f m) (f m) h))
-    (none-of-any f m (or-false-left (any f m) (f m) h) i)
+    ⊎-elim (λ e. rw e (or-false-right (anyBelow f m) (f m) h))
+    (none-of-any f m (or-false-left (anyBelow f m) (f m) h) i)
     (last-or-below l)
 
-pub any-some : (f : ℕ → Bool) (m i : ℕ) → i < m → f i ≡ true → any f m ≡ true
-unfolding any
+pub any-some : (f : ℕ → Bool) (m i : ℕ) → i < m → f i ≡ true → anyBelow f m ≡ true
+unfolding anyBelow
 any-some f zero i l t = absurd (omega arith)
 any-some f (suc m) i l t =
-    ⊎-elim (λ e. or-true-right (any f m) (f m) (rw e at t)) (λ k. rw (any-some f m i k t)) (last-or-below l)
+    ⊎-elim (λ e. or-true-right (anyBelow f m) (f m) (rw e at t)) (λ k. rw (any-some f m i k t)) (last-or-below l)
 
-pub any-ext : (f g : ℕ → Bool) (m : ℕ) → ((i : ℕ) → i < m → f i ≡ g i) → any f m ≡ any g m
-unfolding any
+pub any-ext : (f g : ℕ → Bool) (m : ℕ) → ((i : ℕ) → i < m → f i ≡ g i) → anyBelow f m ≡ anyBelow g m
+unfolding anyBelow
 any-ext f g zero h = refl
 any-ext f g (suc m) h = rw (any-ext f g m (λ i l. h i (le-step l)), h m (lt-suc-self m))
 

@@ -5,54 +5,54 @@ use Prim.Native.Nat.{ℕ, zero, suc, _+_, _≤_, _<_}
 use native.Mathlib.Nat.{add-zero, add-suc, le-dest}
 use native.Mathlib.Numerals.{add-one}
 use native.Mathlib.Omega.{arith}
-use Rattle.bits.specs.Sums.{sum, from}
+use Rattle.bits.specs.Sums.{sumBelow, from}
 
 -- two functions that agree below d have the same sum
-pub sum-ext : {f g : ℕ → ℕ} (d : ℕ) → ((p : ℕ) → p < d → f p ≡ g p) → sum f d ≡ sum g d
-unfolding sum
+pub sum-ext : {f g : ℕ → ℕ} (d : ℕ) → ((p : ℕ) → p < d → f p ≡ g p) → sumBelow f d ≡ sumBelow g d
+unfolding sumBelow
 sum-ext zero h = refl
 sum-ext (suc d) h = rw (sum-ext d (λ p b. h p (omega arith)), h d (omega arith))
 
 -- a sum goes up with its values
-pub sum-mono : {f g : ℕ → ℕ} (d : ℕ) → ((p : ℕ) → p < d → f p ≤ g p) → sum f d ≤ sum g d
-unfolding sum
+pub sum-mono : {f g : ℕ → ℕ} (d : ℕ) → ((p : ℕ) → p < d → f p ≤ g p) → sumBelow f d ≤ sumBelow g d
+unfolding sumBelow
 sum-mono zero h = omega arith
 sum-mono (suc d) h = omega (arith, sum-mono d (λ p b. h p (omega arith)), h d (omega arith))
 
 -- the sum of the sums is the sum of the values' sums
-pub sum-add : (f g : ℕ → ℕ) (d : ℕ) → sum (λ p. f p + g p) d ≡ sum f d + sum g d
-unfolding sum
+pub sum-add : (f g : ℕ → ℕ) (d : ℕ) → sumBelow (λ p. f p + g p) d ≡ sumBelow f d + sumBelow g d
+unfolding sumBelow
 sum-add f g zero = refl
 sum-add f g (suc d) = omega (arith, sum-add f g d)
 
 -- a sum over a + b places is the sum over the first a and the sum over the b places from there on
-pub sum-split : (f : ℕ → ℕ) (a b : ℕ) → sum f (a + b) ≡ sum f a + sum (from a f) b
-unfolding sum
+pub sum-split : (f : ℕ → ℕ) (a b : ℕ) → sumBelow f (a + b) ≡ sumBelow f a + sumBelow (from a f) b
+unfolding sumBelow
 sum-split f a zero = rw (add-zero a) (omega arith)
 sum-split f a (suc b) = rw (add-suc a b) (omega (arith, sum-split f a b))
 
 -- a sum of zeros is zero
-pub sum-zero : {f : ℕ → ℕ} (d : ℕ) → ((p : ℕ) → p < d → f p ≡ 0) → sum f d ≡ 0
-unfolding sum
+pub sum-zero : {f : ℕ → ℕ} (d : ℕ) → ((p : ℕ) → p < d → f p ≡ 0) → sumBelow f d ≡ 0
+unfolding sumBelow
 sum-zero zero h = refl
 sum-zero (suc d) h = omega (arith, sum-zero d (λ p b. h p (omega arith)), h d (omega arith))
 
 -- a sum over more places is at least as great
-pub sum-longer : (f : ℕ → ℕ) {a d : ℕ} → a ≤ d → sum f a ≤ sum f d
+pub sum-longer : (f : ℕ → ℕ) {a d : ℕ} → a ≤ d → sumBelow f a ≤ sumBelow f d
 sum-longer f {a} h = let more = le-dest h in rw (← more .1) (omega (arith, sum-split f a (more .0)))
 
 -- one place more, counted as a program counts
-pub sum-more : (f : ℕ → ℕ) (z : ℕ) → sum f (z + 1) ≡ sum f z + f z
-unfolding sum
+pub sum-more : (f : ℕ → ℕ) (z : ℕ) → sumBelow f (z + 1) ≡ sumBelow f z + f z
+unfolding sumBelow
 sum-more f z = rw (add-one z)
 
 -- a summand is at most the sum
-pub summand-le : (f : ℕ → ℕ) (m q : ℕ) → q < m → f q ≤ sum f m
-unfolding sum
+pub summand-le : (f : ℕ → ℕ) (m q : ℕ) → q < m → f q ≤ sumBelow f m
+unfolding sumBelow
 summand-le f m q h = omega (arith, sum-longer f {a = suc q} {d = m} h)
 
 -- a sum of bits is at most their number
-pub sum-of-bits : (f : ℕ → ℕ) (d : ℕ) → ((p : ℕ) → f p < 2) → sum f d ≤ d
-unfolding sum
+pub sum-of-bits : (f : ℕ → ℕ) (d : ℕ) → ((p : ℕ) → f p < 2) → sumBelow f d ≤ d
+unfolding sumBelow
 sum-of-bits f zero h = omega arith
 sum-of-bits f (suc d) h = omega (arith, sum-of-bits f d h, h d)

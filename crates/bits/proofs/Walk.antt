@@ -8,7 +8,7 @@ use Prim.Native.Nat.{ℕ, zero, suc, _+_, _≤_, _<_, min}
 use native.Mathlib.Omega.{arith}
 use lib.Dec.{eqb}
 use borrow.Author.Tests.{lt-ltb, le-ltb, eqb-false}
-use Rattle.bits.specs.Sums.{sum, distance, unlike}
+use Rattle.bits.specs.Sums.{sumBelow, distance, unlike}
 use Rattle.bits.specs.Walk.{walk}
 use Rattle.bits.proofs.Numbers.{lt-or-le}
 use Rattle.bits.proofs.Distance.{distance-suc, distance-longer, distance-one-place}
@@ -51,7 +51,7 @@ module _ {u v : ℕ → ℕ} (hu : (p : ℕ) → u p < 2) (hv : (p : ℕ) → v 
   -- below place d, walks of m and m′ steps are as many bits apart as they are steps, as far as there are steps to make
   walk-apart : (d m m′ : ℕ) → m ≤ m′
       → distance d (walk u v m) (walk u v m′) + min m (distance d u v) ≡ min m′ (distance d u v)
-  unfolding distance sum
+  unfolding distance sumBelow
   walk-apart zero m m′ h = omega arith
   walk-apart (suc d) m m′ h =
       ⊎-elim

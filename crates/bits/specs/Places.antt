@@ -4,7 +4,7 @@ use mathlib.Core.Bool.{cond}
 use mathlib.Core.List.{List, [], _∷_, _++_}
 use lib.Dec.{ltb}
 use lib.ListN.{length, getD}
-use Rattle.bits.specs.Sums.{sum, distance}
+use Rattle.bits.specs.Sums.{sumBelow, distance}
 
 -- place p of a number is the bit worth 2^p
 abbrev pub bit : ℕ → ℕ → ℕ
@@ -12,7 +12,7 @@ bit x p = x / 2 ^ p % 2
 
 -- the weight of a number: how many of its first n places are 1
 unfoldable pub weight : ℕ → ℕ → ℕ
-weight n x = sum (bit x) n
+weight n x = sumBelow (bit x) n
 
 -- place p of a byte list is bit p mod 8, lowest first, of byte p / 8
 unfoldable pub place : List ℕ → ℕ → ℕ
@@ -28,7 +28,7 @@ bytesFor d = (d + 7) / 8
 
 -- the byte whose bits are places 8j to 8j + 7
 unfoldable pub byteOf : (ℕ → ℕ) → ℕ → ℕ
-byteOf u j = sum (λ q. u (8 * j + q) * 2 ^ q) 8
+byteOf u j = sumBelow (λ q. u (8 * j + q) * 2 ^ q) 8
 
 -- f(0), …, f(m - 1)
 unfoldable pub listOf : ℕ → (ℕ → ℕ) → List ℕ

@@ -5,9 +5,9 @@ use mathlib.Core.Bool.{Bool, false, cond, _||_}
 use lib.Dec.{ltb}
 
 -- does the test hold of some number below m?
-unfoldable pub any : (ℕ → Bool) → ℕ → Bool
-any f zero = false
-any f (suc m) = any f m || f m
+unfoldable pub anyBelow : (ℕ → Bool) → ℕ → Bool
+anyBelow f zero = false
+anyBelow f (suc m) = anyBelow f m || f m
 
 -- the first of the numbers from, …, from + m - 1 of which the test holds, or from + m
 unfoldable pub firstFrom : (ℕ → Bool) → ℕ → ℕ → ℕ

@@ -5,9 +5,9 @@ use mathlib.Core.Bool.{cond}
 use lib.Dec.{ltb}
 
 -- f(0) + … + f(d - 1)
-unfoldable pub sum : (ℕ → ℕ) → ℕ → ℕ
-sum f zero = 0
-sum f (suc d) = sum f d + f d
+unfoldable pub sumBelow : (ℕ → ℕ) → ℕ → ℕ
+sumBelow f zero = 0
+sumBelow f (suc d) = sumBelow f d + f d
 
 -- of two bits, each 0 or 1: 1 where they differ, 0 where they are alike
 abbrev pub unlike : ℕ → ℕ → ℕ
@@ -15,12 +15,12 @@ unlike a b = (a + b) % 2
 
 -- Hamming distance: in how many of the places 0 to d - 1 two bit functions differ
 unfoldable pub distance : ℕ → (ℕ → ℕ) → (ℕ → ℕ) → ℕ
-distance d u v = sum (λ p. unlike (u p) (v p)) d
+distance d u v = sumBelow (λ p. unlike (u p) (v p)) d
 
 -- the part of a bit function that starts at a
 abbrev pub from : ℕ → (ℕ → ℕ) → ℕ → ℕ
 from a x p = x (a + p)
 
 -- a places of u, then v
-unfoldable pub join : ℕ → (ℕ → ℕ) → (ℕ → ℕ) → ℕ → ℕ
-join a u v p = cond (ltb p a) (u p) (v (p - a))
+unfoldable pub joinAt : ℕ → (ℕ → ℕ) → (ℕ → ℕ) → ℕ → ℕ
+joinAt a u v p = cond (ltb p a) (u p) (v (p - a))

@@ -9,7 +9,7 @@ use native.Mathlib.Numerals.{add-one}
 use native.Mathlib.Omega.{arith}
 use lib.Count.{trailingZeros}
 use lib.Pow.{pow-mono, pow-lt}
-use Rattle.bits.specs.Sums.{sum}
+use Rattle.bits.specs.Sums.{sumBelow}
 use Rattle.bits.specs.Places.{weight}
 use Rattle.bits.proofs.Binary.{weight-le}
 use Rattle.bits.proofs.Sums.{sum-ext, sum-zero}
@@ -58,14 +58,14 @@ times-kept = trailing-zeros-ind (λ y i. (z : ℕ) → (z ≡ y → ⊥) → tim
     even y i half ih (suc z) ne = rw (times-half z (i + 1), times-half z i, half) (ih z (λ e. ne (ap suc e)))
 
 -- two sums that differ in one value
-sum-changed : (f g : ℕ → ℕ) (d y c : ℕ) → y < d → f y ≡ g y + c → ((z : ℕ) → (z ≡ y → ⊥) → f z ≡ g z) → sum f d ≡ sum g d + c
-unfolding sum
+sum-changed : (f g : ℕ → ℕ) (d y c : ℕ) → y < d → f y ≡ g y + c → ((z : ℕ) → (z ≡ y → ⊥) → f z ≡ g z) → sumBelow f d ≡ sumBelow g d + c
+unfolding sumBelow
 sum-changed f g zero y c l e same = omega arith
 sum-changed f g (suc d) y c l e same =
     ⊎-elim
     (λ (last : y ≡ d).
     let top : f d ≡ g d + c = rw (← last) e in
-    let before : sum f d ≡ sum g d = sum-ext d (λ p b. same p (omega arith)) in omega arith)
+    let before : sumBelow f d ≡ sumBelow g d = sum-ext d (λ p b. same p (omega arith)) in omega arith)
     (λ (ne : y ≡ d → ⊥).
     omega (arith, sum-changed f g d y c (omega arith) e same, same d (λ e′. ne (sym e′))))
     (eq-or-ne y d)
@@ -85,7 +85,7 @@ start-next C i within =
     let fits : i + 1 < 2 ^ C .k = omega arith in
     let is-y : y ≡ trailingZeros (C .k) (i + 1) = changed-row C i within (C .k) fits in
     let once : times y (i + 1) ≡ times y i + 1 = rw is-y (times-next (C .k) i fits) in
-    let more : sum (λ z. W z * times z (i + 1)) (C .k) ≡ sum (λ z. W z * times z i) (C .k) + W y =
+    let more : sumBelow (λ z. W z * times z (i + 1)) (C .k) ≡ sumBelow (λ z. W z * times z i) (C .k) + W y =
     sum-changed (λ z. W z * times z (i + 1)) (λ z. W z * times z i) (C .k) y (W y) (changed-row-below C i within)
     (rw once (omega arith))
     (λ z ne. ap (λ (t : ℕ). W z * t) (times-kept (C .k) i fits z (λ e. ne (e ∙ sym is-y)))) in

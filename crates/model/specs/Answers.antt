@@ -6,7 +6,7 @@ use mathlib.Core.List.{List}
 use lib.Dec.{ltb, eqb}
 use lib.ListN.{length}
 use Rattle.bits.specs.Places.{bytesFor, place}
-use Rattle.bits.specs.Searches.{any}
+use Rattle.bits.specs.Searches.{anyBelow}
 use Rattle.model.specs.Card.{Code, cardRefusal, codeOf, radius, trackOf}
 use Rattle.model.specs.Order.{lastCodeword, lastPosition, start}
 use Rattle.model.specs.Words.{wordBits, wordBytes, millimetresOf}
@@ -63,7 +63,7 @@ lentAfterWrite card position lent =
 
 -- some bit past the d bits of a word is set
 unfoldable pub spareSet : Code → List ℕ → Bool
-spareSet C received = any (λ q. eqb (place received (wordBits C + q)) 1) (8 * wordLength C - wordBits C)
+spareSet C received = anyBelow (λ q. eqb (place received (wordBits C + q)) 1) (8 * wordLength C - wordBits C)
 
 -- read, for a code that is sound: refusals 6 and 8, then the reading
 unfoldable pub readWord : Code → (received : List ℕ) → ReadAnswer

@@ -7,9 +7,9 @@ use mathlib.Core.List.{List}
 use lib.Bits.{bitXor}
 use lib.Dec.{leb, ltb, eqb}
 use lib.ListN.{length, getD}
-use Rattle.bits.specs.Sums.{sum}
+use Rattle.bits.specs.Sums.{sumBelow}
 use Rattle.bits.specs.Places.{bit, weight}
-use Rattle.bits.specs.Searches.{any}
+use Rattle.bits.specs.Searches.{anyBelow}
 
 -- byte i of the card
 abbrev pub byte : List ℕ → ℕ → ℕ
@@ -42,7 +42,7 @@ storedCheck b = highFirst b 510 2
 
 -- the check that the card should carry: the sum over places 0 to 509 of (place + 1) × byte, modulo 65,521
 unfoldable pub computedCheck : List ℕ → ℕ
-computedCheck b = sum (λ p. (p + 1) * byte b p) 510 % 65521
+computedCheck b = sumBelow (λ p. (p + 1) * byte b p) 510 % 65521
 
 -- the sum, modulo 2, of those of the rows 0 to k - 1 whose bit 2^z is set in g
 unfoldable pub sumOfRows : (ℕ → ℕ) → ℕ → ℕ → ℕ
@@ -84,19 +84,19 @@ withinLimits n k = leb 1 n && leb n 64 && leb 1 k && leb k 12 && leb k n
 
 -- some row has a bit at n or above
 unfoldable pub rowTooWide : ℕ → (ℕ → ℕ) → Bool
-rowTooWide n row = any (λ z. leb (2 ^ n) (row z)) 12
+rowTooWide n row = anyBelow (λ z. leb (2 ^ n) (row z)) 12
 
 -- some unused row, one of the rows k to 11, is not zero
 unfoldable pub unusedRowSet : ℕ → (ℕ → ℕ) → Bool
-unusedRowSet k row = any (λ z. leb k z && not (eqb (row z) 0)) 12
+unusedRowSet k row = anyBelow (λ z. leb k z && not (eqb (row z) 0)) 12
 
 -- some byte from 100 to 509 is not zero
 unfoldable pub unusedByteSet : List ℕ → Bool
-unusedByteSet b = any (λ i. not (eqb (byte b (100 + i)) 0)) 410
+unusedByteSet b = anyBelow (λ i. not (eqb (byte b (100 + i)) 0)) 410
 
 -- some nonempty set of the rows 0 to k - 1 sums to zero; set g + 1 holds the rows whose bit is set in g + 1
 unfoldable pub dependent : ℕ → (ℕ → ℕ) → Bool
-dependent k row = any (λ g. eqb (sumOfRows row k (g + 1)) 0) (2 ^ k - 1)
+dependent k row = anyBelow (λ g. eqb (sumOfRows row k (g + 1)) 0) (2 ^ k - 1)
 
 -- the number of the refusal of a list of bytes as a card, the first in the table's order that holds; 0 for a sound card
 unfoldable pub cardRefusal : List ℕ → ℕ

@@ -3,7 +3,7 @@
 use Prim.Native.Nat.{ℕ, zero, suc, _-_, _*_, _/_, _%_}
 use mathlib.Core.List.{List, [], _∷_, _++_}
 use lib.ListN.{length, replicate}
-use Rattle.bits.specs.Sums.{sum}
+use Rattle.bits.specs.Sums.{sumBelow}
 use Rattle.bits.specs.Places.{bit, place, listOf, differingBits}
 use Rattle.model.specs.Card.{Code, computedCheck, storedCheck, codeOf}
 use Rattle.model.specs.Order.{codeword, lastPosition, start}
@@ -77,7 +77,7 @@ answerTo (bitsUnlike card position received) = differingBits (wordBytes (codeOf 
 answerTo (onesOfSeparators card received) =
     let C : Code = codeOf card in
     let x : ℕ → ℕ = place received in
-    sum x (C .D) ∷ sum (separator₂ C x) (C .D) ∷ sum (separator₃ C x) (C .D) ∷ []
+    sumBelow x (C .D) ∷ sumBelow (separator₂ C x) (C .D) ∷ sumBelow (separator₃ C x) (C .D) ∷ []
 
 -- a question and what document 01 says
 pub record Case : Type 0 where

@@ -3,7 +3,7 @@
 use Prim.Native.Nat.{ℕ, _+_, _-_, _*_, _/_, _^_}
 use lib.Bits.{bitXor}
 use lib.Dec.{eqb}
-use Rattle.bits.specs.Sums.{sum, unlike}
+use Rattle.bits.specs.Sums.{sumBelow, unlike}
 use Rattle.bits.specs.Places.{bit, weight}
 use Rattle.bits.specs.Searches.{first}
 use Rattle.model.specs.Card.{Code, sumOfRows}
@@ -35,7 +35,7 @@ blockLength C i = 3 * C .D + 2 * changedWeight C i
 
 -- r(i), the start of block i: 3D × i + 2 × the sum over z of weight(row z) × ((i + 2^z) / 2^(z+1), rounded down)
 unfoldable pub start : Code → ℕ → ℕ
-start C i = 3 * C .D * i + 2 * sum (λ z. weight (C .n) (C .row z) * ((i + 2 ^ z) / 2 ^ (z + 1))) (C .k)
+start C i = 3 * C .D * i + 2 * sumBelow (λ z. weight (C .n) (C .row z) * ((i + 2 ^ z) / 2 ^ (z + 1))) (C .k)
 
 -- the last position: r(2^k - 1)
 unfoldable pub lastPosition : Code → ℕ

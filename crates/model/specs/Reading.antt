@@ -3,7 +3,7 @@
 use Prim.Native.Nat.{ℕ, _+_, _-_, _*_, _^_, min}
 use mathlib.Core.Bool.{cond}
 use lib.Dec.{leb, ltb, eqb}
-use Rattle.bits.specs.Sums.{sum, distance, from}
+use Rattle.bits.specs.Sums.{sumBelow, distance, from}
 use Rattle.bits.specs.Places.{bit}
 use Rattle.bits.specs.Searches.{first, leastAt}
 use Rattle.model.specs.Card.{Code, radius}
@@ -16,7 +16,7 @@ use Rattle.model.specs.declared.ReadAnswer.the-variants.{At, Refused}
 
 -- a separator of D bits reads 1 if more than half its bits are 1, else 0; a tie reads 0
 unfoldable pub majority : ℕ → (ℕ → ℕ) → ℕ
-majority D x = cond (ltb D (2 * sum x D)) 1 0
+majority D x = cond (ltb D (2 * sumBelow x D)) 1 0
 
 -- in how many places a chunk and c(p) differ
 unfoldable pub chunkDistance : Code → (ℕ → ℕ) → ℕ → ℕ
@@ -47,28 +47,28 @@ ruleOf s₁ s₂ s₃ = cond (eqb s₁ s₂) (cond (eqb s₂ s₃) 3 1) (cond (e
 
 -- the positions that a word may be read as: from low to high by a rule, ends included, or none, by a refusal's number
 pub data Allowed : Type 0 where
-  range : (rule low high : ℕ) → Allowed
-  none : (refusal : ℕ) → Allowed
+  fromTo : (rule low high : ℕ) → Allowed
+  refusedBy : (refusal : ℕ) → Allowed
 
 -- rule 1: chunk 1 reads p; block p - 1; allowed are r(p-1) + D + A(p-1) to r(p)
 unfoldable pub rule₁ : Code → Chunk → Allowed
 rule₁ C (Codeword p e) =
-    cond (eqb p 0) (none 12) (range 1 (start C (p - 1) + C .D + changedWeight C (p - 1)) (start C p))
-rule₁ C Unreadable = none 10
+    cond (eqb p 0) (refusedBy 12) (fromTo 1 (start C (p - 1) + C .D + changedWeight C (p - 1)) (start C p))
+rule₁ C Unreadable = refusedBy 10
 
 -- rule 2: chunk 2 reads p; allowed are r(p) to r(p) + 2D + A(p)
 unfoldable pub rule₂ : Code → Chunk → Allowed
 rule₂ C (Codeword p e) =
-    cond (eqb p (lastCodeword C)) (none 12) (range 2 (start C p) (start C p + 2 * C .D + changedWeight C p))
-rule₂ C Unreadable = none 10
+    cond (eqb p (lastCodeword C)) (refusedBy 12) (fromTo 2 (start C p) (start C p + 2 * C .D + changedWeight C p))
+rule₂ C Unreadable = refusedBy 10
 
 -- rule 3: both chunks read the same p; allowed are r(p) - D to r(p) + D, cut to 0 and the last position
 unfoldable pub rule₃ : Code → Chunk → Chunk → Allowed
 rule₃ C (Codeword p e) (Codeword q f) =
-    cond (eqb p q) (range 3 (start C p - C .D) (min (start C p + C .D) (lastPosition C))) (none 11)
-rule₃ C (Codeword p e) Unreadable = none 10
-rule₃ C Unreadable (Codeword q f) = none 10
-rule₃ C Unreadable Unreadable = none 10
+    cond (eqb p q) (fromTo 3 (start C p - C .D) (min (start C p + C .D) (lastPosition C))) (refusedBy 11)
+rule₃ C (Codeword p e) Unreadable = refusedBy 10
+rule₃ C Unreadable (Codeword q f) = refusedBy 10
+rule₃ C Unreadable Unreadable = refusedBy 10
 
 -- what the rule with this number allows, or refusal 9 if the separators name none; only the chunks that it names are read
 unfoldable pub allowedBy : Code → (ℕ → ℕ) → ℕ → Allowed
@@ -76,7 +76,7 @@ allowedBy C x rule =
     cond (eqb rule 1) (rule₁ C (chunkReading C (chunk₁ C x)))
     (cond (eqb rule 2) (rule₂ C (chunkReading C (chunk₂ C x)))
     (cond (eqb rule 3) (rule₃ C (chunkReading C (chunk₁ C x)) (chunkReading C (chunk₂ C x)))
-    (none 9)))
+    (refusedBy 9)))
 
 -- what the word's separators and chunks allow
 unfoldable pub allowed : Code → (ℕ → ℕ) → Allowed
@@ -89,9 +89,9 @@ residual C x position = distance (wordBits C) (wordAt C position) x
 
 -- the allowed position whose word has fewest bits unlike the received word, the smallest on a tie; that count; and the rule
 unfoldable pub nearest : Code → (ℕ → ℕ) → Allowed → ReadAnswer
-nearest C x (range rule low high) =
+nearest C x (fromTo rule low high) =
     let position : ℕ = leastAt (residual C x) low (high - low) in At position (residual C x position) rule
-nearest C x (none refusal) = Refused refusal
+nearest C x (refusedBy refusal) = Refused refusal
 
 -- the reading of a received word, given as a bit function
 unfoldable pub reading : Code → (ℕ → ℕ) → ReadAnswer

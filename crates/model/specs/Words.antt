@@ -2,7 +2,7 @@
 use Prim.Native.Nat.{ℕ, _+_, _-_, _*_, _%_}
 use mathlib.Core.List.{List}
 use lib.Dec.{leb}
-use Rattle.bits.specs.Sums.{join}
+use Rattle.bits.specs.Sums.{joinAt}
 use Rattle.bits.specs.Walk.{walk}
 use Rattle.bits.specs.Places.{bit, pack}
 use Rattle.bits.specs.Searches.{greatest}
@@ -15,7 +15,7 @@ wordBits C = 2 * C .n + 3 * C .D
 
 -- a word of five chunks: separator 1 (D bits), code chunk 1 (n), separator 2 (D), code chunk 2 (n), separator 3 (D)
 unfoldable pub fiveChunks : Code → (s₁ c₁ s₂ c₂ s₃ : ℕ → ℕ) → ℕ → ℕ
-fiveChunks C s₁ c₁ s₂ c₂ s₃ = join (C .D) s₁ (join (C .n) c₁ (join (C .D) s₂ (join (C .n) c₂ s₃)))
+fiveChunks C s₁ c₁ s₂ c₂ s₃ = joinAt (C .D) s₁ (joinAt (C .n) c₁ (joinAt (C .D) s₂ (joinAt (C .n) c₂ s₃)))
 
 -- w(i): c(i) in both code chunks and the parity of i in every separator bit
 unfoldable pub word : Code → ℕ → ℕ → ℕ

@@ -6,7 +6,7 @@ use Prim.Native.Nat.{ℕ, zero, suc, _+_, _-_, _/_, _^_, _≤_, _<_}
 use native.Mathlib.Nat.{le-dest}
 use native.Mathlib.Omega.{arith}
 use lib.Pow.{pow-pos}
-use Rattle.bits.specs.Sums.{unlike, join}
+use Rattle.bits.specs.Sums.{unlike, joinAt}
 use Rattle.bits.specs.Places.{bit, cut}
 use Rattle.bits.proofs.Binary.{bit-lowest, bit-suc}
 use Rattle.bits.proofs.Distance.{join-left, join-right}
@@ -24,21 +24,21 @@ cut-more v p k other =
 module _ (at : ℕ) (u v : ℕ → ℕ) where
   -- a joined word is what it is before `at` and from there on
   by-parts : {w : ℕ → ℕ} (v′ : ℕ → ℕ) → ((s : ℕ) → s < at → w s ≡ u s) → ((k : ℕ) → w (at + k) ≡ v′ k)
-      → (s : ℕ) → w s ≡ join at u v′ s
+      → (s : ℕ) → w s ≡ joinAt at u v′ s
   by-parts v′ before after s =
       ⊎-elim (λ (l : s < at). before s l ∙ sym (join-left at u v′ s l))
       (λ (l : at ≤ s). let k = le-dest l in rw (← (k .1)) (after (k .0) ∙ sym (join-right at u v′ (k .0))))
       (lt-or-le s at)
 
   -- no bit put down yet
-  pub chunk-none : ((p : ℕ) → at ≤ p → u p ≡ 0) → (s : ℕ) → u s ≡ join at u (cut 0 v) s
+  pub chunk-none : ((p : ℕ) → at ≤ p → u p ≡ 0) → (s : ℕ) → u s ≡ joinAt at u (cut 0 v) s
   chunk-none zeros =
       by-parts (cut 0 v) (λ s l. omega arith) (λ k. zeros (at + k) (omega arith) ∙ sym (cut-above 0 v k (omega arith)))
 
   -- bit p is put down by turning a 0 where it is 1
-  pub chunk-more : (p : ℕ) {w w′ : ℕ → ℕ} → ((s : ℕ) → w s ≡ join at u (cut p v) s) → v p < 2
+  pub chunk-more : (p : ℕ) {w w′ : ℕ → ℕ} → ((s : ℕ) → w s ≡ joinAt at u (cut p v) s) → v p < 2
       → w′ (at + p) ≡ unlike (w (at + p)) (v p) → ((s : ℕ) → (s ≡ at + p → ⊥) → w′ s ≡ w s)
-      → (s : ℕ) → w′ s ≡ join at u (cut (p + 1) v) s
+      → (s : ℕ) → w′ s ≡ joinAt at u (cut (p + 1) v) s
   chunk-more p {w} {w′} so-far one here elsewhere =
       by-parts (cut (p + 1) v)
       (λ s l. elsewhere s (omega arith) ∙ so-far s ∙ join-left at u (cut p v) s l)
@@ -55,7 +55,7 @@ module _ (at : ℕ) (u v : ℕ → ℕ) where
 
 -- the first `at` bits of u, and the next `len` of them put down behind
 pub chunk-appended : (at len : ℕ) (u : ℕ → ℕ) {w v r : ℕ → ℕ} → ((p : ℕ) → w p ≡ cut at u p)
-    → ((p : ℕ) → p < len → v p ≡ u (at + p)) → ((p : ℕ) → r p ≡ join at w (cut len v) p)
+    → ((p : ℕ) → p < len → v p ≡ u (at + p)) → ((p : ℕ) → r p ≡ joinAt at w (cut len v) p)
     → (p : ℕ) → r p ≡ cut (at + len) u p
 chunk-appended at len u {w} {v} {r} so-far chunk put p =
     ⊎-elim

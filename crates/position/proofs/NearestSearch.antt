@@ -6,7 +6,7 @@ use mathlib.Core.List.{List}
 use Prim.Native.Nat.{ℕ, _+_, _<_}
 use native.Mathlib.Nat.{le-dest, sub-self}
 use native.Mathlib.Omega.{arith}
-use Rattle.bits.specs.Sums.{sum, distance, from}
+use Rattle.bits.specs.Sums.{sumBelow, distance, from}
 use Rattle.bits.specs.Places.{place, cut}
 use Rattle.bits.specs.Searches.{leastAt}
 use Rattle.bits.proofs.Distance.{distance-ext, distance-self, distance-split}
@@ -14,7 +14,7 @@ use Rattle.bits.proofs.Places.{cut-below, cut-above, cut-ext}
 use Rattle.model.specs.Card.{Code}
 use Rattle.model.specs.Order.{lastCodeword, start}
 use Rattle.model.specs.Words.{wordBits, word, wordAt}
-use Rattle.model.specs.Reading.{range, residual, nearest}
+use Rattle.model.specs.Reading.{fromTo, residual, nearest}
 use Rattle.model.specs.declared.ReadAnswer.the-variants.{At}
 use Rattle.code_theory.specs.Promise.{Sound}
 use Rattle.code_theory.proofs.Promise.{promise}
@@ -67,12 +67,12 @@ block-words C i u v sound inside hu hv =
 -- a search that stands at the start of a block has passed none of its places
 pub passed-none : (C : Code) (i : ℕ) (x : List ℕ) (s : Scan) → s .position ≡ start C i → Scanned (residual C (place x)) s
     → PassedPlaces C i x 0 s
-unfolding distance sum
+unfolding distance sumBelow
 passed-none C i x s e scanned = record { within = omega arith; position-is = e ∙ omega arith; scanned = scanned }
 
 -- the answer of a search that has come from low to high
 pub answer-of-search : (C : Code) (x : ℕ → ℕ) (rule low high : ℕ) (s : Scan) → Scanned (residual C x) s → s .low ≡ low
-    → s .position ≡ high → At (s .best) (s .least) rule ≡ nearest C x (range rule low high)
+    → s .position ≡ high → At (s .best) (s .least) rule ≡ nearest C x (fromTo rule low high)
 unfolding nearest
 answer-of-search C x rule low high s scanned l h = rw (← l, ← h, ← (scanned .nearest), scanned .least)
 

@@ -5,12 +5,12 @@ use mathlib.Core.Path.{_≡_, _∙_}
 use mathlib.Core.List.{List}
 use Prim.Native.Nat.{ℕ, _+_, _-_, _*_, _<_, min}
 use native.Mathlib.Omega.{arith}
-use Rattle.bits.specs.Sums.{sum, distance}
+use Rattle.bits.specs.Sums.{sumBelow, distance}
 use Rattle.bits.specs.Places.{place}
 use Rattle.model.specs.Card.{Code}
 use Rattle.model.specs.Order.{lastCodeword, changedWeight, start, lastPosition}
 use Rattle.model.specs.Words.{wordBits, word}
-use Rattle.model.specs.Reading.{range, residual, nearest}
+use Rattle.model.specs.Reading.{fromTo, residual, nearest}
 use Rattle.model.specs.declared.ReadAnswer.the-variants.{At}
 use Rattle.code_theory.specs.Promise.{Sound}
 use Rattle.code_theory.proofs.Promise.{promise}
@@ -32,13 +32,13 @@ module _ (C : Code) (sound : Sound C) (i : ℕ) (inside : i < lastCodeword C) (x
   past-separator₁ passed = passed .position-is ∙ omega (arith, apart-separator₁ C (promise C sound) i inside)
 
   pub rule₁-answer : s .low ≡ start C i + distance (C .D + C .n) (word C i) (word C (i + 1)) → PassedPlaces C i x (wordBits C) s
-      → At (s .best) (s .least) 1 ≡ nearest C (place x) (range 1 (start C i + C .D + changedWeight C i) (start C (i + 1)))
+      → At (s .best) (s .least) 1 ≡ nearest C (place x) (fromTo 1 (start C i + C .D + changedWeight C i) (start C (i + 1)))
   rule₁-answer low passed =
       answer-of-search C (place x) 1 _ _ s (passed .scanned) (low ∙ omega (arith, apart-chunk₁ C (promise C sound) i inside)) (at-next-start passed)
 
   pub rule₂-answer : s .low ≡ start C i + distance 0 (word C i) (word C (i + 1)) → PassedPlaces C i x (C .D + C .n + C .D) s
-      → At (s .best) (s .least) 2 ≡ nearest C (place x) (range 2 (start C i) (start C i + 2 * C .D + changedWeight C i))
-  unfolding distance sum
+      → At (s .best) (s .least) 2 ≡ nearest C (place x) (fromTo 2 (start C i) (start C i + 2 * C .D + changedWeight C i))
+  unfolding distance sumBelow
   rule₂-answer low passed =
       answer-of-search C (place x) 2 _ _ s (passed .scanned) (low ∙ omega arith)
       (passed .position-is ∙ omega (arith, apart-separator₂ C (promise C sound) i inside))
@@ -52,7 +52,7 @@ module _ (C : Code) (sound : Sound C) (i : ℕ) (inside : i < lastCodeword C) (x
 -- rule 3 around a start: at the last one the track ends there, and at any other it goes on for D steps at least
 pub rule₃-answer : (C : Code) → Sound C → (p : ℕ) (x : List ℕ) (s : Scan) → Scanned (residual C (place x)) s → s .low ≡ start C p - C .D
     → s .position ≡ min (start C p + C .D) (lastPosition C)
-    → At (s .best) (s .least) 3 ≡ nearest C (place x) (range 3 (start C p - C .D) (min (start C p + C .D) (lastPosition C)))
+    → At (s .best) (s .least) 3 ≡ nearest C (place x) (fromTo 3 (start C p - C .D) (min (start C p + C .D) (lastPosition C)))
 rule₃-answer C sound p x s scanned low high = answer-of-search C (place x) 3 _ _ s scanned low high
 
 pub track-ends : (C : Code) (p : ℕ) → p ≡ lastCodeword C → start C p ≡ min (start C p + C .D) (lastPosition C)

@@ -9,7 +9,7 @@ use native.Mathlib.Omega.{arith}
 use lib.Dec.{eqb}
 use lib.ListN.{length, List·getD-eq-default}
 use borrow.Author.Tests.{eqb-false, ne-eqb}
-use Rattle.bits.specs.Sums.{sum, from}
+use Rattle.bits.specs.Sums.{sumBelow, from}
 use Rattle.bits.specs.Places.{place}
 use Rattle.bits.proofs.Numbers.{lt-or-le}
 use Rattle.bits.proofs.Sums.{summand-le, sum-zero}
@@ -27,13 +27,13 @@ past-end l p h =
     let past : length l ≤ p / 8 = omega arith in rw (List·getD-eq-default l 0 past, zero-div) refl
 
 module _ (C : Code) (received x : List ℕ) (same : (p : ℕ) → place x p ≡ place received p) where
-  pub spare-none : sum (from (wordBits C) (place x)) (8 * wordLength C - wordBits C) ≡ 0 → spareSet C received ≡ false
+  pub spare-none : sumBelow (from (wordBits C) (place x)) (8 * wordLength C - wordBits C) ≡ 0 → spareSet C received ≡ false
   unfolding spareSet
   spare-none e =
       any-none _ _ (λ q b. ne-eqb (place received (wordBits C + q)) 1 (λ (one : place received (wordBits C + q) ≡ 1).
       omega (arith, summand-le (from (wordBits C) (place x)) (8 * wordLength C - wordBits C) q b, same (wordBits C + q))))
 
-  pub spare-some : (sum (from (wordBits C) (place x)) (8 * wordLength C - wordBits C) ≡ 0 → ⊥) → spareSet C received ≡ true
+  pub spare-some : (sumBelow (from (wordBits C) (place x)) (8 * wordLength C - wordBits C) ≡ 0 → ⊥) → spareSet C received ≡ true
   unfolding spareSet
   spare-some ne = by-test (spareSet C received) refl
     where
@@ -46,7 +46,7 @@ module _ (C : Code) (received x : List ℕ) (same : (p : ℕ) → place x p ≡ 
       by-test true e = e
       by-test false e = absurd (ne (sum-zero _ (none-set e)))
 
-  pub nothing-spare : length received ≡ wordLength C → sum (from (wordBits C) (place x)) (8 * wordLength C - wordBits C) ≡ 0
+  pub nothing-spare : length received ≡ wordLength C → sumBelow (from (wordBits C) (place x)) (8 * wordLength C - wordBits C) ≡ 0
       → NothingSpare C x
   unfolding NothingSpare
   nothing-spare h e p l =

@@ -3,7 +3,7 @@
 use mathlib.Core.Path.{_≡_, refl}
 use Prim.Native.Nat.{ℕ, _+_, _*_, _/_, _^_, _≤_}
 use native.Mathlib.Omega.{arith}
-use Rattle.bits.specs.Sums.{sum}
+use Rattle.bits.specs.Sums.{sumBelow}
 use Rattle.bits.specs.Places.{weight}
 use Rattle.bits.proofs.Sums.{sum-longer, sum-more}
 use Rattle.model.specs.Card.{Code}
@@ -17,15 +17,15 @@ rowPart C i z = weight (C .n) (C .row z) * ((i + 2 ^ z) / 2 ^ (z + 1))
 
 -- the start of block i as far as the rows below z go
 unfoldable pub startUpTo : Code → ℕ → ℕ → ℕ
-startUpTo C i z = 3 * C .D * i + 2 * sum (rowPart C i) z
+startUpTo C i z = 3 * C .D * i + 2 * sumBelow (rowPart C i) z
 
 module _ (C : Code) (i : ℕ) where
   pub up-to-none : startUpTo C i 0 ≡ 3 * C .D * i
-  unfolding startUpTo sum
+  unfolding startUpTo sumBelow
   up-to-none = omega arith
 
   pub up-to-more : (z : ℕ) → startUpTo C i (z + 1) ≡ startUpTo C i z + 2 * rowPart C i z
-  unfolding startUpTo sum
+  unfolding startUpTo sumBelow
   up-to-more z = omega (arith, sum-more (rowPart C i) z)
 
   pub up-to-all : startUpTo C i (C .k) ≡ start C i

@@ -8,7 +8,7 @@ use native.Mathlib.Nat.{eq-or-lt-of-le}
 use native.Mathlib.Numerals.{add-one}
 use native.Mathlib.Omega.{arith}
 use lib.Dec.{ltb, eqb}
-use Rattle.bits.specs.Sums.{sum, distance, unlike}
+use Rattle.bits.specs.Sums.{sumBelow, distance, unlike}
 use Rattle.bits.specs.Walk.{walk}
 use Rattle.bits.specs.Places.{cut}
 use Rattle.bits.proofs.Distance.{distance-ext, distance-suc, distance-longer}
@@ -25,7 +25,7 @@ pub record Walked (u v : ℕ → ℕ) (m q passed : ℕ) (w : ℕ → ℕ) : Typ
 
 module _ {u v : ℕ → ℕ} (hu : (p : ℕ) → u p < 2) (hv : (p : ℕ) → v p < 2) (m : ℕ) where
   pub walk-begins : Walked u v m 0 0 u
-  unfolding distance sum
+  unfolding distance sumBelow
   walk-begins = record { counted = refl; within = omega arith; behind = λ p h. absurd (omega arith); ahead = λ p _. refl }
 
   -- while steps are left to make, the end is not reached

@@ -4,7 +4,7 @@ use mathlib.Core.Path.{_≡_, sym, ap, _∙_}
 use Prim.Native.Nat.{ℕ, _+_, _%_, _≤_, _<_}
 use native.Mathlib.Nat.{zero-add}
 use native.Mathlib.Omega.{arith}
-use Rattle.bits.specs.Sums.{join}
+use Rattle.bits.specs.Sums.{joinAt}
 use Rattle.bits.specs.Places.{bit, cut}
 use Rattle.bits.proofs.Places.{cut-above}
 use Rattle.model.specs.Card.{Code}
@@ -15,7 +15,7 @@ use Rattle.position.proofs.ChunkByChunk.{chunk-appended}
 
 -- `len` bits of a value put down behind the first `at` places of w
 abbrev pub Put : (at len value : ℕ) (w r : ℕ → ℕ) → Type 0
-Put at len value w r = (p : ℕ) → r p ≡ join at w (cut len (bit value)) p
+Put at len value w r = (p : ℕ) → r p ≡ joinAt at w (cut len (bit value)) p
 
 -- the first `at` bits of w(i), and zeros
 abbrev pub UpTo : Code → (i at : ℕ) → (ℕ → ℕ) → Type 0

@@ -1,7 +1,7 @@
 // Places of a word that is held as [u8; 40]: one bit, a count of ones, the reading of a separator, a code chunk as a number.
 ghost use mathlib.Core.Path.{_≡_};
 ghost use Prim.Native.Nat.{ℕ, _+_, _^_, _≤_, _<_};
-ghost use Rattle.bits.specs.Sums.{sum, from};
+ghost use Rattle.bits.specs.Sums.{sumBelow, from};
 ghost use Rattle.bits.specs.Places.{bit, place};
 ghost use Rattle.model.specs.Reading.{majority};
 
@@ -17,7 +17,7 @@ pub fn bit_at(w: &[u8; 40], p: u32) -> u32
 // How many of the `len` bits from place `at` on are 1.
 pub fn ones_between(w: &[u8; 40], at: u32, len: u32) -> u32
     requires { ⌜ at + len ≤ 320 ⌝ }
-    ensures { λ r. ⌜ (r ≡ sum (from at (place (now (w .entry)))) len) × (r ≤ len) ⌝ }
+    ensures { λ r. ⌜ (r ≡ sumBelow (from at (place (now (w .entry)))) len) × (r ≤ len) ⌝ }
 {
     let mut ones: u32 = 0;
     let mut p: u32 = 0;

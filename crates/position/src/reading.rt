@@ -7,7 +7,7 @@ ghost use Rattle.model.specs.Answers.{readWord};
 ghost use Rattle.model.specs.Decoded.{meaning};
 ghost use Rattle.model.specs.Order.{lastCodeword, changedWeight, start, lastPosition};
 ghost use Rattle.model.specs.Words.{wordBits, word};
-ghost use Rattle.model.specs.Reading.{chunkReading, chunk₁, chunk₂, range, rule₁, rule₂, rule₃, residual, nearest, reading};
+ghost use Rattle.model.specs.Reading.{chunkReading, chunk₁, chunk₂, fromTo, rule₁, rule₂, rule₃, residual, nearest, reading};
 ghost use Rattle.code_theory.specs.Promise.{Sound};
 ghost use Rattle.position.specs.Received.{NothingSpare, Begun};
 ghost use Rattle.position.specs.Scanned.{Scanned};
@@ -69,7 +69,7 @@ fn found(s: Scan, rule: u32) -> ReadAnswer
 // Rule 1, chunk 1 reading p: the nearest from r(p-1) + D + A(p-1), where separator 2 begins to change, to r(p).
 fn nearest_before(code: DecodedCode, x: [u8; 40], p: u32) -> ReadAnswer
     requires { ⌜ Sound (meaning code) × NothingSpare (meaning code) x × (1 ≤ p) × (p ≤ lastCodeword (meaning code)) ⌝ }
-    ensures { λ r. ⌜ r ≡ nearest (meaning code) (place x) (range 1 (start (meaning code) (p - 1) + code .distance + changedWeight (meaning code) (p - 1)) (start (meaning code) p)) ⌝ }
+    ensures { λ r. ⌜ r ≡ nearest (meaning code) (place x) (fromTo 1 (start (meaning code) (p - 1) + code .distance + changedWeight (meaning code) (p - 1)) (start (meaning code) p)) ⌝ }
 {
     let at = layout::layout_of(code);
     found(search_block(code, x, p - 1, at.separator2, at.bits), 1)
@@ -78,7 +78,7 @@ fn nearest_before(code: DecodedCode, x: [u8; 40], p: u32) -> ReadAnswer
 // Rule 2, chunk 2 reading p: the nearest from r(p) to r(p) + 2D + A(p), where separator 2 has changed.
 fn nearest_after(code: DecodedCode, x: [u8; 40], p: u32) -> ReadAnswer
     requires { ⌜ Sound (meaning code) × NothingSpare (meaning code) x × (p < lastCodeword (meaning code)) ⌝ }
-    ensures { λ r. ⌜ r ≡ nearest (meaning code) (place x) (range 2 (start (meaning code) p) (start (meaning code) p + 2 * code .distance + changedWeight (meaning code) p)) ⌝ }
+    ensures { λ r. ⌜ r ≡ nearest (meaning code) (place x) (fromTo 2 (start (meaning code) p) (start (meaning code) p + 2 * code .distance + changedWeight (meaning code) p)) ⌝ }
 {
     let at = layout::layout_of(code);
     found(search_block(code, x, p, 0, at.chunk2), 2)
@@ -109,7 +109,7 @@ fn go_on(code: DecodedCode, x: [u8; 40], p: u32, s: Scan) -> Scan
 // Rule 3, both chunks reading p: the nearest from r(p) - D to r(p) + D, cut to the track.
 fn nearest_around(code: DecodedCode, x: [u8; 40], p: u32) -> ReadAnswer
     requires { ⌜ Sound (meaning code) × NothingSpare (meaning code) x × (p ≤ lastCodeword (meaning code)) ⌝ }
-    ensures { λ r. ⌜ r ≡ nearest (meaning code) (place x) (range 3 (start (meaning code) p - code .distance) (min (start (meaning code) p + code .distance) (lastPosition (meaning code)))) ⌝ }
+    ensures { λ r. ⌜ r ≡ nearest (meaning code) (place x) (fromTo 3 (start (meaning code) p - code .distance) (min (start (meaning code) p + code .distance) (lastPosition (meaning code)))) ⌝ }
 {
     let before = approach(code, x, p);
     if p == blocks::last_codeword(code) {

@@ -5,7 +5,7 @@ ghost use mathlib.Core.Path.{_≡_};
 ghost use Prim.Native.Nat.{ℕ, _+_, _*_, _%_, _^_, _≤_, _<_};
 ghost use lib.Bits.{bitXor};
 ghost use lib.ListN.{length};
-ghost use Rattle.bits.specs.Sums.{unlike, distance, join};
+ghost use Rattle.bits.specs.Sums.{unlike, distance, joinAt};
 ghost use Rattle.bits.specs.Walk.{walk};
 ghost use Rattle.bits.specs.Places.{bit, place, cut};
 ghost use Rattle.model.specs.Answers.{wordLength};
@@ -36,7 +36,7 @@ fn bit_of(value: u64, q: u32) -> u8
 // The word with one more chunk: the first `len` bits of `value` from place `at` on.
 fn put_chunk(before: [u8; 40], at: u32, len: u32, value: u64) -> [u8; 40]
     requires { ⌜ (at + len ≤ 320) × (len ≤ 64) × ((p : ℕ) → at ≤ p → place before p ≡ 0) ⌝ }
-    ensures { λ r. ⌜ ((p : ℕ) → place r p ≡ join at (place before) (cut len (bit value)) p) ⌝ }
+    ensures { λ r. ⌜ ((p : ℕ) → place r p ≡ joinAt at (place before) (cut len (bit value)) p) ⌝ }
 {
     let mut word = before;
     let mut p: u32 = 0;

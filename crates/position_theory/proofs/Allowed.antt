@@ -10,7 +10,7 @@ use lib.Dec.{eqb}
 use borrow.Author.Tests.{eqb-false}
 use Rattle.model.specs.Card.{Code}
 use Rattle.model.specs.Order.{lastCodeword, changedWeight, start, lastPosition}
-use Rattle.model.specs.Reading.{majority, ruleOf, chunkReading, chunk₁, separator₂, chunk₂, separator₃, Allowed, range, none, rule₁, rule₂, rule₃, allowedBy, allowed}
+use Rattle.model.specs.Reading.{majority, ruleOf, chunkReading, chunk₁, separator₂, chunk₂, separator₃, Allowed, fromTo, refusedBy, rule₁, rule₂, rule₃, allowedBy, allowed}
 use Rattle.model.specs.declared.Chunk.{Chunk}
 use Rattle.model.specs.declared.Chunk.the-variants.{Codeword, Unreadable}
 use Rattle.code_theory.specs.Promise.{ChunkPromise}
@@ -28,7 +28,7 @@ module _ (C : Code) (promise : ChunkPromise C) where
       (λ (l : i < lastCodeword C). omega (arith, starts-rise C promise i (lastCodeword C) l (omega arith)))
       (eq-or-lt-of-le h)
 
-  good-none : (refusal : ℕ) → GoodRange C (none refusal)
+  good-none : (refusal : ℕ) → GoodRange C (refusedBy refusal)
   unfolding GoodRange
   good-none refusal = tt
 
@@ -37,7 +37,7 @@ module _ (C : Code) (promise : ChunkPromise C) where
   good-cond false a b ha hb = hb refl
 
   -- the part of block i that rule 1 allows, and the part that rule 2 allows
-  good-end-of-block : (i : ℕ) → i + 1 ≤ lastCodeword C → GoodRange C (range 1 (start C i + C .D + changedWeight C i) (start C (i + 1)))
+  good-end-of-block : (i : ℕ) → i + 1 ≤ lastCodeword C → GoodRange C (fromTo 1 (start C i + C .D + changedWeight C i) (start C (i + 1)))
   unfolding GoodRange
   good-end-of-block i inside = (
     omega (arith, promise .start-next i (omega arith)),
@@ -92,7 +92,7 @@ module _ (C : Code) (promise : ChunkPromise C) where
       by-rule : (first second third : Bool)
           → GoodRange C (cond first (rule₁ C (chunkReading C (chunk₁ C x)))
           (cond second (rule₂ C (chunkReading C (chunk₂ C x)))
-          (cond third (rule₃ C (chunkReading C (chunk₁ C x)) (chunkReading C (chunk₂ C x))) (none 9))))
+          (cond third (rule₃ C (chunkReading C (chunk₁ C x)) (chunkReading C (chunk₂ C x))) (refusedBy 9))))
       by-rule true second third = good-rule₁ _ (codeword-of (chunk₁ C x))
       by-rule false true third = good-rule₂ _ (codeword-of (chunk₂ C x))
       by-rule false false true = good-rule₃ _ _ (codeword-of (chunk₁ C x))

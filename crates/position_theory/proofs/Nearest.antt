@@ -13,7 +13,7 @@ use Rattle.bits.proofs.Searches.{leastAt-low, leastAt-high, leastAt-least, leas
 use Rattle.model.specs.Card.{Code}
 use Rattle.model.specs.Order.{lastPosition}
 use Rattle.model.specs.Words.{wordBits, wordAt}
-use Rattle.model.specs.Reading.{Allowed, range, none, allowed, residual, nearest, reading}
+use Rattle.model.specs.Reading.{Allowed, fromTo, refusedBy, allowed, residual, nearest, reading}
 use Rattle.code_theory.specs.Promise.{ChunkPromise}
 use Rattle.position_theory.specs.Ranges.{Isometric, GoodRange, Allows}
 use Rattle.position_theory.specs.Nearest.{NearestAllowed, IsReading}
@@ -21,10 +21,10 @@ use Rattle.position_theory.specs.Damage.{Near, residualOf}
 use Rattle.position_theory.proofs.Allowed.{allowed-good}
 
 module _ (C : Code) (promise : ChunkPromise C) (x : ℕ → ℕ) where
-  good : (rule low high : ℕ) → allowed C x ≡ range rule low high → GoodRange C (range rule low high)
+  good : (rule low high : ℕ) → allowed C x ≡ fromTo rule low high → GoodRange C (fromTo rule low high)
   good rule low high is = rw is at (allowed-good C promise x)
 
-  nearest-is : (rule low high : ℕ) → allowed C x ≡ range rule low high → low ≤ high → high ≤ lastPosition C
+  nearest-is : (rule low high : ℕ) → allowed C x ≡ fromTo rule low high → low ≤ high → high ≤ lastPosition C
       → NearestAllowed C x (leastAt (residual C x) low (high - low)) (residual C x (leastAt (residual C x) low (high - low))) rule
   nearest-is rule low high is h top =
       let all : low + (high - low) ≡ high = add-sub-of-le h in
@@ -42,8 +42,8 @@ module _ (C : Code) (promise : ChunkPromise C) (x : ℕ → ℕ) where
 
   reading-of : (a : Allowed) → allowed C x ≡ a → IsReading C x (nearest C x a)
   unfolding nearest IsReading GoodRange
-  reading-of (range rule low high) is = nearest-is rule low high is (good rule low high is .0) (good rule low high is .1)
-  reading-of (none refusal) is = is
+  reading-of (fromTo rule low high) is = nearest-is rule low high is (good rule low high is .0) (good rule low high is .1)
+  reading-of (refusedBy refusal) is = is
 
   -- demand 2, reading: for every word
   pub reading-is-nearest : IsReading C x (reading C x)

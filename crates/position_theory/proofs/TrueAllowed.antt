@@ -9,11 +9,11 @@ use native.Mathlib.Nat.{add-sub-cancel}
 use native.Mathlib.Omega.{arith}
 use lib.Dec.{ltb}
 use borrow.Author.Tests.{eq-eqb, ne-eqb}
-use Rattle.bits.specs.Sums.{sum}
+use Rattle.bits.specs.Sums.{sumBelow}
 use Rattle.bits.proofs.Numbers.{lt-or-le, eq-or-ne}
 use Rattle.model.specs.Card.{Code}
 use Rattle.model.specs.Order.{lastCodeword, changedWeight, blockLength, start, lastPosition}
-use Rattle.model.specs.Reading.{majority, ruleOf, chunk₁, separator₂, chunk₂, separator₃, range, rule₁, rule₂, rule₃, allowedBy, allowed}
+use Rattle.model.specs.Reading.{majority, ruleOf, chunk₁, separator₂, chunk₂, separator₃, fromTo, rule₁, rule₂, rule₃, allowedBy, allowed}
 use Rattle.code_theory.specs.Promise.{ChunkPromise}
 use Rattle.position_theory.specs.Ranges.{Allows}
 use Rattle.position_theory.specs.WholeChunks.{ReadsAs, WholeChunksRead}
@@ -22,7 +22,7 @@ use Rattle.position_theory.proofs.Allowed.{start-on-track}
 -- a separator reads 0 or 1
 majority-bit : (D : ℕ) (y : ℕ → ℕ) → majority D y < 2
 unfolding majority
-majority-bit D y = by-test (ltb D (2 * sum y D))
+majority-bit D y = by-test (ltb D (2 * sumBelow y D))
   where
     by-test : (t : Bool) → cond t 1 0 < 2
     by-test true = omega arith
@@ -31,21 +31,21 @@ majority-bit D y = by-test (ltb D (2 * sum y D))
 module _ (C : Code) (x : ℕ → ℕ) (b c : ℕ) where
   allowed₁ : (p : ℕ) → majority (C .D) x ≡ b → majority (C .D) (separator₂ C x) ≡ b → majority (C .D) (separator₃ C x) ≡ c
       → (b ≡ c → ⊥) → ReadsAs C (chunk₁ C x) (p + 1)
-      → allowed C x ≡ range 1 (start C p + C .D + changedWeight C p) (start C (p + 1))
+      → allowed C x ≡ fromTo 1 (start C p + C .D + changedWeight C p) (start C (p + 1))
   unfolding allowed ruleOf allowedBy rule₁ ReadsAs
   allowed₁ p h₁ h₂ h₃ ne r =
       simp (h₁, h₂, h₃, eq-eqb b b refl, ne-eqb b c ne, r .1, ne-eqb (p + 1) 0 (omega arith), add-sub-cancel)
 
   allowed₂ : (p : ℕ) → majority (C .D) x ≡ b → majority (C .D) (separator₂ C x) ≡ c → majority (C .D) (separator₃ C x) ≡ c
       → (b ≡ c → ⊥) → ReadsAs C (chunk₂ C x) p → p < lastCodeword C
-      → allowed C x ≡ range 2 (start C p) (start C p + 2 * C .D + changedWeight C p)
+      → allowed C x ≡ fromTo 2 (start C p) (start C p + 2 * C .D + changedWeight C p)
   unfolding allowed ruleOf allowedBy rule₂ ReadsAs
   allowed₂ p h₁ h₂ h₃ ne r l =
       simp (h₁, h₂, h₃, eq-eqb c c refl, ne-eqb b c ne, r .1, ne-eqb p (lastCodeword C) (omega arith))
 
   allowed₃ : (p : ℕ) → majority (C .D) x ≡ b → majority (C .D) (separator₂ C x) ≡ b → majority (C .D) (separator₃ C x) ≡ b
       → ReadsAs C (chunk₁ C x) p → ReadsAs C (chunk₂ C x) p
-      → allowed C x ≡ range 3 (start C p - C .D) (min (start C p + C .D) (lastPosition C))
+      → allowed C x ≡ fromTo 3 (start C p - C .D) (min (start C p + C .D) (lastPosition C))
   unfolding allowed ruleOf allowedBy rule₃ ReadsAs
   allowed₃ p h₁ h₂ h₃ r r′ = simp (h₁, h₂, h₃, eq-eqb b b refl, r .1, r′ .1, eq-eqb p p refl)
 

@@ -7,7 +7,7 @@ use Prim.Native.Nat.{ℕ, zero, suc, _+_, _-_, _*_, _/_, _%_, _≤_, _<_}
 use native.Mathlib.Nat.{eq-zero-or-pos}
 use native.Mathlib.Omega.{arith}
 use borrow.Author.Tests.{lt-ltb, le-ltb}
-use Rattle.bits.specs.Sums.{sum, distance}
+use Rattle.bits.specs.Sums.{sumBelow, distance}
 use Rattle.bits.specs.Places.{bit}
 use Rattle.bits.proofs.Sums.{sum-ext}
 use Rattle.bits.proofs.Distance.{distance-ext}
@@ -23,12 +23,12 @@ use Rattle.position_theory.proofs.Words.{word-bits, word-separator₁, 
 use Rattle.position_theory.proofs.Blocks.{word-in-block, word-at-start}
 
 -- the ones of a chunk, counted as places unlike 0 or unlike 1
-unlike-zeros : (D : ℕ) (y : ℕ → ℕ) → ((p : ℕ) → y p < 2) → distance D (λ p. 0) y ≡ sum y D
+unlike-zeros : (D : ℕ) (y : ℕ → ℕ) → ((p : ℕ) → y p < 2) → distance D (λ p. 0) y ≡ sumBelow y D
 unfolding distance
 unlike-zeros D y hy = sum-ext D (λ p b. omega (arith, hy p))
 
-unlike-ones : (D : ℕ) (y : ℕ → ℕ) → ((p : ℕ) → y p < 2) → distance D (λ p. 1) y + sum y D ≡ D
-unfolding distance sum
+unlike-ones : (D : ℕ) (y : ℕ → ℕ) → ((p : ℕ) → y p < 2) → distance D (λ p. 1) y + sumBelow y D ≡ D
+unfolding distance sumBelow
 unlike-ones zero y hy = refl
 unlike-ones (suc D) y hy = omega (arith, hy D, unlike-ones D y hy)
 
@@ -42,10 +42,10 @@ separator-reads D b u y pos hb hu hy h =
     in
     ⊎-elim
     (λ (e : b ≡ 0).
-    rw (e, le-ltb D (2 * sum y D) (omega (arith, unlike-zeros D y hy, rw e at few))))
+    rw (e, le-ltb D (2 * sumBelow y D) (omega (arith, unlike-zeros D y hy, rw e at few))))
     (λ (l : 0 < b).
     let one : b ≡ 1 = omega arith in
-    rw (one, lt-ltb D (2 * sum y D) (omega (arith, unlike-ones D y hy, rw one at few))))
+    rw (one, lt-ltb D (2 * sumBelow y D) (omega (arith, unlike-ones D y hy, rw one at few))))
     (eq-zero-or-pos b)
 
 -- a code chunk that holds c(j) reads j if at most t of its bits are turned

@@ -4,7 +4,7 @@ use mathlib.Core.Path.{_≡_}
 use Prim.Native.Nat.{ℕ, _≤_, _<_}
 use Rattle.model.specs.Card.{Code}
 use Rattle.model.specs.Order.{lastPosition}
-use Rattle.model.specs.Reading.{range, none, allowed, residual}
+use Rattle.model.specs.Reading.{fromTo, refusedBy, allowed, residual}
 use Rattle.model.specs.declared.ReadAnswer.{ReadAnswer}
 use Rattle.model.specs.declared.ReadAnswer.the-variants.{At, Refused}
 
@@ -12,7 +12,7 @@ use Rattle.model.specs.declared.ReadAnswer.the-variants.{At, Refused}
 pub record NearestAllowed (C : Code) (x : ℕ → ℕ) (q e rule : ℕ) : Type 0 where
   pub low : ℕ
   pub high : ℕ
-  pub is : allowed C x ≡ range rule low high
+  pub is : allowed C x ≡ fromTo rule low high
   pub from-low : low ≤ q
   pub to-high : q ≤ high
   pub on-track : q ≤ lastPosition C
@@ -23,4 +23,4 @@ pub record NearestAllowed (C : Code) (x : ℕ → ℕ) (q e rule : ℕ) : Type 0
 -- an answer that is the nearest allowed position, or the refusal of a word that allows none
 unfoldable pub IsReading : Code → (ℕ → ℕ) → ReadAnswer → Type 0
 IsReading C x (At q e rule) = NearestAllowed C x q e rule
-IsReading C x (Refused refusal) = allowed C x ≡ none refusal
+IsReading C x (Refused refusal) = allowed C x ≡ refusedBy refusal

@@ -4,7 +4,7 @@ use mathlib.Core.Bool.{cond}
 use mathlib.Core.List.{List, [], _++_}
 use lib.Dec.{eqb}
 use lib.ListN.{length, take, drop}
-use Rattle.bits.specs.Sums.{sum}
+use Rattle.bits.specs.Sums.{sumBelow}
 use Rattle.model.specs.Card.{Code, cardRefusal, codeOf}
 use Rattle.model.specs.Answers.{wordLength, cardAnswer, readWord}
 use Rattle.model.specs.declared.ReadAnswer.{ReadAnswer}
@@ -39,7 +39,7 @@ readCount (Refused refusal) = 0
 
 -- how many of the first m words of some bytes are read
 unfoldable pub wordsRead : Code → (bytes : List ℕ) (m : ℕ) → ℕ
-wordsRead C bytes m = sum (λ i. readCount (answerAt C bytes i)) m
+wordsRead C bytes m = sumBelow (λ i. readCount (answerAt C bytes i)) m
 
 -- what is printed after the card's line: a line for each whole word, the bytes short of a word, and the last line
 unfoldable pub wordsReport : Code → List ℕ → List ℕ

@@ -6,7 +6,7 @@ use mathlib.Core.List.{List, _++_}
 use native.Mathlib.Nat.{add-assoc, add-sub-cancel-left}
 use native.Mathlib.Numerals.{add-one}
 use lib.ListN.{take, drop}
-use Rattle.bits.specs.Sums.{sum}
+use Rattle.bits.specs.Sums.{sumBelow}
 use Rattle.model.specs.Card.{Code}
 use Rattle.model.specs.Answers.{wordLength, readWord}
 use Rattle.report.specs.Lines.{wordLine}
@@ -18,7 +18,7 @@ module _ (C : Code) (bytes : List ℕ) (i : ℕ) where
   lines-next met = rw (← add-assoc, add-one i)
 
   pub read-next : wordsRead C bytes (i + 1) ≡ wordsRead C bytes i + readCount (answerAt C bytes i)
-  unfolding wordsRead sum
+  unfolding wordsRead sumBelow
   read-next = rw (add-one i)
 
   pub part-is-word : (from w : ℕ) → w ≡ wordLength C → from ≡ i * w

@@ -8,9 +8,9 @@ use native.Mathlib.Omega.{arith}
 use borrow.Author.Tests.{eq-eqb, ne-eqb}
 use lib.ListN.{length, length-append}
 use lib.Seq.{take-at, drop-at}
-use Rattle.bits.specs.Sums.{sum}
+use Rattle.bits.specs.Sums.{sumBelow}
 use Rattle.model.specs.Card.{Code, cardRefusal, codeOf}
-use Rattle.model.specs.Answers.{wordLength, cardAnswer, readAnswer, readWord}
+use Rattle.model.specs.Answers.{wordLength, cardAnswer}
 use Rattle.code_theory.proofs.SoundCard.{card-tests}
 use Rattle.report.specs.Lines.{cardLine, shortLine, lastLine}
 use Rattle.report.specs.Report.{cardPart, wordLines, wordsRead, wordsReport, reportOf}
@@ -24,7 +24,7 @@ pub record Told (C : Code) (bytes text : List ℕ) (met read : ℕ) : Type 0 whe
 
 -- before the first word
 pub told-nothing : (C : Code) → Told C [] [] 0 0
-unfolding wordLines wordsRead sum
+unfolding wordLines wordsRead sumBelow
 told-nothing C = record { whole = sym (zero-mul (wordLength C)); lines = refl; count = refl }
 
 module _ (C : Code) {bytes text : List ℕ} {met read : ℕ} (told : Told C bytes text met read) where
@@ -66,8 +66,3 @@ pub report-of-refused : (input : List ℕ) → (cardRefusal (cardPart input) ≡
     → reportOf input ≡ cardLine (cardAnswer (cardPart input))
 unfolding reportOf
 report-of-refused input refused = rw (ne-eqb (cardRefusal (cardPart input)) 0 refused) (append-nil _)
-
--- a word read with a sound card's code, decoded once, reads as with the card's bytes
-pub read-alike : (card received : List ℕ) → cardRefusal card ≡ 0 → readAnswer card received ≡ readWord (codeOf card) received
-unfolding readAnswer
-read-alike card received sound = rw (eq-eqb (cardRefusal card) 0 sound)

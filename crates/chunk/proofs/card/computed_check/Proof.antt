@@ -5,14 +5,14 @@ use mathlib.Core.Path.{_≡_}
 use borrow.Author.Needs.{needs}
 use native.Mathlib.Nat.{mul-le-mul, le-of-suc-le-suc}
 use native.Mathlib.Omega.{arith}
-use Rattle.bits.specs.Sums.{sum}
+use Rattle.bits.specs.Sums.{sumBelow}
 use Rattle.bits.proofs.Sums.{sum-more}
 use Rattle.model.specs.Card.{byte, computedCheck}
 use Rattle.chunk.proofs.card.computed_check.Statement.{statement}
 use Rattle.chunk.proofs.card.computed_check.Tie as tie
 
 abbrev Inv-loop : tie.InvT-loop
-Inv-loop card total₀ p₀ total p = (p ≤ 510) × (total ≡ sum (λ q. (q + 1) * byte card q) p) × (total ≤ 130050 * p)
+Inv-loop card total₀ p₀ total p = (p ≤ 510) × (total ≡ sumBelow (λ q. (q + 1) * byte card q) p) × (total ≤ 130050 * p)
 
 abbrev μ-loop : tie.MeasureT-loop
 μ-loop card total₀ p₀ total p = 510 - p
@@ -22,7 +22,7 @@ term : (p d : ℕ) → p < 510 → d < 256 → (p + 1) * d ≤ 130050
 term p d h k = mul-le-mul {n₁ = p + 1} {n₂ = 510} {m₂ = 255} (omega arith) (le-of-suc-le-suc k)
 
 loop-holds : tie.Need-loop-holds Inv-loop μ-loop
-unfolding sum
+unfolding sumBelow
 loop-holds c = search needs
 
 add-total : tie.Need-add-total Inv-loop μ-loop

@@ -10,7 +10,7 @@ use lib.Bits.{bitXor}
 use lib.Count.{trailingZeros}
 use lib.ListN.{getD}
 use lib.Pow.{pow-pos}
-use Rattle.bits.specs.Sums.{sum}
+use Rattle.bits.specs.Sums.{sumBelow}
 use Rattle.bits.specs.Places.{weight}
 use Rattle.bits.proofs.Binary.{weight-le, weight-next}
 use Rattle.model.specs.Card.{radius}
@@ -46,7 +46,7 @@ loop-holds : tie.Need-loop-holds Inv-bits μ-bits Inv-loop μ-loop
 loop-holds c = search-starts _ _ _ _ _ _ (c .two-to .ensures)
 
 bits-holds : tie.Need-bits-holds Inv-bits μ-bits Inv-loop μ-loop
-unfolding weight sum
+unfolding weight sumBelow
 bits-holds c = (omega arith, refl)
 
 cast-unlike : tie.Need-cast-unlike Inv-bits μ-bits Inv-loop μ-loop

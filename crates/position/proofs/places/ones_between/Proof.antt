@@ -1,7 +1,7 @@
 use mathlib.Core.Path.{_≡_, refl}
 use Prim.Native.Nat.{_-_, _≤_}
 use native.Mathlib.Numerals.{add-one}
-use Rattle.bits.specs.Sums.{sum, from}
+use Rattle.bits.specs.Sums.{sumBelow, from}
 use Rattle.bits.specs.Places.{place}
 use borrow.Author.Needs.{needs}
 use native.Mathlib.Omega.{arith}
@@ -9,13 +9,13 @@ use Rattle.position.proofs.places.ones_between.Statement.{statement}
 use Rattle.position.proofs.places.ones_between.Tie as tie
 
 abbrev Inv-loop : tie.InvT-loop
-Inv-loop w at len ones₀ p₀ ones p = (p ≤ len) × (ones ≡ sum (from at (place w)) p) × (ones ≤ p)
+Inv-loop w at len ones₀ p₀ ones p = (p ≤ len) × (ones ≡ sumBelow (from at (place w)) p) × (ones ≤ p)
 
 abbrev μ-loop : tie.MeasureT-loop
 μ-loop w at len ones₀ p₀ ones p = len - p
 
 loop-holds : tie.Need-loop-holds Inv-loop μ-loop
-unfolding sum
+unfolding sumBelow
 loop-holds c = (omega arith, refl, omega arith)
 
 add-bit-at : tie.Need-add-bit-at Inv-loop μ-loop
@@ -34,7 +34,7 @@ loop-less : tie.Need-loop-less Inv-loop μ-loop
 loop-less c = search needs
 
 loop-again : tie.Need-loop-again Inv-loop μ-loop
-unfolding sum
+unfolding sumBelow
 loop-again c =
     let loop = c .before .before .loop in
     let bit = c .bit-at .ensures in

@@ -4,7 +4,7 @@ use mathlib.Core.Path.{_≡_, _∙_, sym, ap, fun-ext}
 use Prim.Native.Nat.{ℕ, _+_, _-_, _*_, _/_}
 use lib.ListN.{length}
 use borrow.Author.Tests.{eq-eqb, ne-eqb}
-use Rattle.bits.specs.Sums.{sum, from}
+use Rattle.bits.specs.Sums.{sumBelow, from}
 use Rattle.bits.specs.Places.{place}
 use Rattle.model.specs.Answers.{wordLength, readWord}
 use Rattle.model.specs.Decoded.{meaning}
@@ -27,7 +27,7 @@ right-length c = c .if1 .left ∙ word-takes (c .before)
 spare-ones : (c : tie.After-ones-between)
     → let first = c .before .before .before .before .before .before in
     let C = meaning (first .args .code) in
-    c .ones-between .result ≡ sum (from (wordBits C) (place (c .before .before .received .result))) (8 * wordLength C - wordBits C)
+    c .ones-between .result ≡ sumBelow (from (wordBits C) (place (c .before .before .received .result))) (8 * wordLength C - wordBits C)
 spare-ones c =
     let at = c .before .before .before .before .layout-of .ensures in rw (at .bits-are) at (c .ones-between .ensures .0)
 

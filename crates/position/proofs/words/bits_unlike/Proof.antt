@@ -4,7 +4,7 @@ use Prim.Native.Nat.{_-_, _*_, _≤_}
 use mathlib.Core.Path.{_≡_, refl}
 use borrow.Author.Needs.{needs}
 use native.Mathlib.Omega.{arith}
-use Rattle.bits.specs.Sums.{sum, distance}
+use Rattle.bits.specs.Sums.{sumBelow, distance}
 use Rattle.bits.specs.Places.{place}
 use Rattle.position.proofs.ByteDistance.{distance-byte}
 use Rattle.position.proofs.words.bits_unlike.Statement.{statement}
@@ -17,7 +17,7 @@ abbrev μ-loop : tie.MeasureT-loop
 μ-loop a b unlike₀ j₀ unlike j = 40 - j
 
 loop-holds : tie.Need-loop-holds Inv-loop μ-loop
-unfolding distance sum
+unfolding distance sumBelow
 loop-holds c = (omega arith, refl, omega arith)
 
 array-read-byte-unlike : tie.Need-array-read-byte-unlike Inv-loop μ-loop

@@ -6,7 +6,7 @@ use borrow.Author.Needs.{needs}
 use native.Mathlib.Omega.{arith}
 use lib.Bits.{bitXor}
 use lib.ListN.{length, getD, length-set}
-use Rattle.bits.specs.Sums.{join}
+use Rattle.bits.specs.Sums.{joinAt}
 use Rattle.bits.specs.Places.{bit, place, cut}
 use Rattle.position.proofs.TurnedPlaces.{turned-here, turned-elsewhere}
 use Rattle.position.proofs.ChunkByChunk.{chunk-none, chunk-more}
@@ -15,7 +15,7 @@ use Rattle.position.proofs.words.put_chunk.Tie as tie
 
 abbrev Inv-loop : tie.InvT-loop
 Inv-loop at len value word₀ p₀ word p =
-    (p ≤ len) × (length word ≡ 40) × ((s : ℕ) → place word s ≡ join at (place word₀) (cut p (bit value)) s)
+    (p ≤ len) × (length word ≡ 40) × ((s : ℕ) → place word s ≡ joinAt at (place word₀) (cut p (bit value)) s)
 
 abbrev μ-loop : tie.MeasureT-loop
 μ-loop at len value word₀ p₀ word p = len - p

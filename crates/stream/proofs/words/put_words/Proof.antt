@@ -4,7 +4,7 @@ use Prim.Native.Nat.{_+_, _-_, _*_, _≤_}
 use mathlib.Core.Path.{_≡_, refl, sym, _∙_}
 use native.Mathlib.Nat.{zero-mul, add-mul, one-mul}
 use lib.ListN.{length}
-use Rattle.bits.specs.Sums.{sum}
+use Rattle.bits.specs.Sums.{sumBelow}
 use Rattle.model.specs.Decoded.{meaning}
 use Rattle.report.specs.Puts.{Puts}
 use Rattle.report.specs.Report.{answerAt, wordLines, wordsRead}
@@ -28,7 +28,7 @@ word-length-requires : tie.Need-word-length-requires Inv-loop μ-loop
 word-length-requires c κs = search needs
 
 loop-holds : tie.Need-loop-holds Inv-loop μ-loop
-unfolding wordLines wordsRead sum
+unfolding wordLines wordsRead sumBelow
 loop-holds c =
     let args = c .before .before .before .args in
     (omega arith, sym (zero-mul (c .word-length .result)), puts-nothing (args .out .now) (args .at), omega arith, refl, omega arith, refl)
