@@ -1,0 +1,365 @@
+//! The baseline: document 01's rules in straightforward Rust, with words as five 64-bit numbers and counts by `count_ones`. A code
+//! is used in one of two ways: `Kept` holds every codeword and start of a card that was decoded once; `Stepped` holds the rows alone
+//! and is decoded anew for each word, which is what a public call has to do with its card.
+
+/// A word: place p is bit p % 64 of number p / 64.
+pub type Word = [u64; 5];
+
+/// A sound card's code.
+#[derive(Clone, Copy)]
+pub struct Code {
+    pub n: usize,
+    pub k: usize,
+    pub track: u32,
+    pub distance: usize,
+    pub radius: usize,
+    pub rows: [u64; 12],
+}
+
+#[derive(Clone, Copy, Debug, PartialEq, Eq)]
+pub struct Read {
+    pub position: u32,
+    pub residual: u32,
+    pub rule: u32,
+}
+
+pub fn decode(card: &[u8]) -> Result<Code, u32> {
+    if card.len() != 512 {
+        return Err(1);
+    }
+    let sum: u32 = card[..510].iter().zip(1..).map(|(&byte, place)| byte as u32 * place).sum();
+    if u32::from(u16::from_be_bytes([card[510], card[511]])) != sum % 65_521 {
+        return Err(2);
+    }
+    let (n, k) = (card[0] as usize, card[1] as usize);
+    if !(1..=64).contains(&n) || !(1..=12).contains(&k) || k > n {
+        return Err(3);
+    }
+    let mut rows = [0; 12];
+    for (z, row) in rows.iter_mut().enumerate() {
+        *row = u64::from_be_bytes(card[4 + 8 * z..12 + 8 * z].try_into().unwrap());
+    }
+    let outside = if n == 64 { 0 } else { u64::MAX << n };
+    if rows.iter().any(|row| row & outside != 0)
+        || rows[k..].iter().any(|&row| row != 0)
+        || card[100..510].iter().any(|&byte| byte != 0)
+    {
+        return Err(4);
+    }
+    let mut distance = u32::MAX;
+    let mut word = 0u64;
+    for i in 1u32..1 << k {
+        word ^= rows[i.trailing_zeros() as usize];
+        distance = distance.min(word.count_ones());
+    }
+    if distance == 0 {
+        return Err(5);
+    }
+    let distance = distance as usize;
+    let track = u32::from(card[2]) * 256 + u32::from(card[3]);
+    Ok(Code { n, k, track, distance, radius: (distance - 1) / 2, rows })
+}
+
+impl Code {
+    pub fn bits(&self) -> usize {
+        2 * self.n + 3 * self.distance
+    }
+
+    pub fn bytes(&self) -> usize {
+        self.bits().div_ceil(8)
+    }
+
+    fn last_block(&self) -> usize {
+        (1 << self.k) - 1
+    }
+
+    /// A(i)
+    fn changed(&self, i: usize) -> usize {
+        self.rows[(i + 1).trailing_zeros() as usize].count_ones() as usize
+    }
+
+    fn codeword(&self, i: usize) -> u64 {
+        let gray = i ^ (i / 2);
+        (0..self.k).filter(|z| gray >> z & 1 == 1).fold(0, |sum, z| sum ^ self.rows[z])
+    }
+
+    fn start(&self, i: usize) -> usize {
+        let turns: usize =
+            (0..self.k).map(|z| self.rows[z].count_ones() as usize * ((i + (1 << z)) >> (z + 1))).sum();
+        3 * self.distance * i + 2 * turns
+    }
+
+    /// w(i)
+    fn word(&self, codeword: u64, parity: bool) -> Word {
+        let mut word = [0; 5];
+        let separator = if parity { u64::MAX } else { 0 };
+        let (n, d) = (self.n, self.distance);
+        put(&mut word, 0, d, separator);
+        put(&mut word, d, n, codeword);
+        put(&mut word, d + n, d, separator);
+        put(&mut word, 2 * d + n, n, codeword);
+        put(&mut word, 2 * d + 2 * n, d, separator);
+        word
+    }
+}
+
+fn low(length: usize) -> u64 {
+    u64::MAX >> (64 - length)
+}
+
+/// Puts the `length` lowest bits of `bits`, 1 to 64, into a word from place `at` on, where it is zero.
+fn put(word: &mut Word, at: usize, length: usize, bits: u64) {
+    let bits = bits & low(length);
+    word[at / 64] |= bits << (at % 64);
+    if at % 64 + length > 64 {
+        word[at / 64 + 1] |= bits >> (64 - at % 64);
+    }
+}
+
+/// The `length` bits, 1 to 64, of a word from place `at` on.
+fn get(word: &Word, at: usize, length: usize) -> u64 {
+    let mut bits = word[at / 64] >> (at % 64);
+    if at % 64 + length > 64 {
+        bits |= word[at / 64 + 1] << (64 - at % 64);
+    }
+    bits & low(length)
+}
+
+/// The order of a code: its codewords, its starts and its chunk search.
+pub trait Order {
+    fn code(&self) -> &Code;
+    fn codeword(&self, i: usize) -> u64;
+    fn start(&self, i: usize) -> usize;
+    /// The greatest block whose start is at most the position.
+    fn block_of(&self, position: usize) -> usize;
+    /// The number of the codeword within the radius of a chunk.
+    fn find(&self, chunk: u64) -> Option<usize>;
+}
+
+/// Every codeword and start, made once.
+pub struct Kept {
+    code: Code,
+    codewords: Vec<u64>,
+    starts: Vec<u32>,
+}
+
+impl Kept {
+    pub fn new(code: Code) -> Kept {
+        let all = 0..1usize << code.k;
+        let codewords = all.clone().map(|i| code.codeword(i)).collect();
+        let starts = all.map(|i| code.start(i) as u32).collect();
+        Kept { code, codewords, starts }
+    }
+}
+
+impl Order for Kept {
+    fn code(&self) -> &Code {
+        &self.code
+    }
+    fn codeword(&self, i: usize) -> u64 {
+        self.codewords[i]
+    }
+    fn start(&self, i: usize) -> usize {
+        self.starts[i] as usize
+    }
+    fn block_of(&self, position: usize) -> usize {
+        self.starts.partition_point(|&start| start as usize <= position) - 1
+    }
+    fn find(&self, chunk: u64) -> Option<usize> {
+        let radius = self.code.radius as u32;
+        self.codewords.iter().position(|codeword| (codeword ^ chunk).count_ones() <= radius)
+    }
+}
+
+/// As `Kept`, with the chunk search in C, in its nested form.
+pub struct KeptNested(pub Kept);
+
+/// The rows alone, and the chunk search in C, in its nested form.
+pub struct Stepped(pub Code);
+
+extern "C" {
+    fn nested_search(rows: *const u64, n: u32, k: u32, t: u32, x: u64) -> i32;
+}
+
+fn find_nested(code: &Code, chunk: u64) -> Option<usize> {
+    let found =
+        unsafe { nested_search(code.rows.as_ptr(), code.n as u32, code.k as u32, code.radius as u32, chunk) };
+    usize::try_from(found).ok()
+}
+
+impl Order for KeptNested {
+    fn code(&self) -> &Code {
+        &self.0.code
+    }
+    fn codeword(&self, i: usize) -> u64 {
+        self.0.codeword(i)
+    }
+    fn start(&self, i: usize) -> usize {
+        self.0.start(i)
+    }
+    fn block_of(&self, position: usize) -> usize {
+        self.0.block_of(position)
+    }
+    fn find(&self, chunk: u64) -> Option<usize> {
+        find_nested(&self.0.code, chunk)
+    }
+}
+
+impl Order for Stepped {
+    fn code(&self) -> &Code {
+        &self.0
+    }
+    fn codeword(&self, i: usize) -> u64 {
+        self.0.codeword(i)
+    }
+    fn start(&self, i: usize) -> usize {
+        self.0.start(i)
+    }
+    fn block_of(&self, position: usize) -> usize {
+        let (mut below, mut above) = (0, 1 << self.0.k);
+        while above - below > 1 {
+            let middle = (below + above) / 2;
+            if self.0.start(middle) <= position {
+                below = middle;
+            } else {
+                above = middle;
+            }
+        }
+        below
+    }
+    fn find(&self, chunk: u64) -> Option<usize> {
+        find_nested(&self.0, chunk)
+    }
+}
+
+/// Writes the word of a position into the lent bytes.
+pub fn write(order: &impl Order, position: u32, lent: &mut [u8]) -> Result<(), u32> {
+    let code = order.code();
+    if lent.len() != code.bytes() {
+        return Err(6);
+    }
+    let position = position as usize;
+    let last = code.last_block();
+    if position > order.start(last) {
+        return Err(7);
+    }
+    let block = order.block_of(position);
+    let mut steps = (position - order.start(block)) as u32;
+    let mut word = code.word(order.codeword(block), block % 2 == 1);
+    if steps > 0 {
+        let next = code.word(order.codeword(block + 1), block % 2 == 0);
+        for (bits, next) in word.iter_mut().zip(next) {
+            let differing = *bits ^ next;
+            let count = differing.count_ones();
+            if count <= steps {
+                *bits = next;
+                steps -= count;
+            } else {
+                let mut left = differing;
+                for _ in 0..steps {
+                    left &= left - 1;
+                }
+                *bits ^= differing ^ left;
+                break;
+            }
+        }
+    }
+    for (bytes, bits) in lent.chunks_mut(8).zip(word) {
+        let length = bytes.len();
+        bytes.copy_from_slice(&bits.to_le_bytes()[..length]);
+    }
+    Ok(())
+}
+
+/// The positions from `low` to `high`, which stand in this block or at its end: the one nearest to the received word, the
+/// smallest on a tie, and its residual.
+fn nearest_in_block(order: &impl Order, block: usize, low: usize, high: usize, received: &Word) -> (u32, usize) {
+    let code = order.code();
+    let from = code.word(order.codeword(block), block % 2 == 1);
+    let mut residual: u32 = from.iter().zip(received).map(|(a, b)| (a ^ b).count_ones()).sum();
+    let mut position = order.start(block);
+    let mut best = (u32::MAX, low);
+    if position >= low {
+        best = (residual, position);
+    }
+    if position == high {
+        return best;
+    }
+    let to = code.word(order.codeword(block + 1), block % 2 == 0);
+    for part in 0..5 {
+        let mut differing = from[part] ^ to[part];
+        let unlike = from[part] ^ received[part];
+        while differing != 0 {
+            let place = differing & differing.wrapping_neg();
+            differing ^= place;
+            residual = if unlike & place != 0 { residual - 1 } else { residual + 1 };
+            position += 1;
+            if position >= low && residual < best.0 {
+                best = (residual, position);
+            }
+            if position == high {
+                return best;
+            }
+        }
+    }
+    best
+}
+
+/// Reads a received word.
+pub fn read(order: &impl Order, bytes: &[u8]) -> Result<Read, u32> {
+    let code = order.code();
+    if bytes.len() != code.bytes() {
+        return Err(6);
+    }
+    let bits = code.bits();
+    if bits % 8 != 0 && bytes[bytes.len() - 1] >> (bits % 8) != 0 {
+        return Err(8);
+    }
+    let mut received: Word = [0; 5];
+    for (bits, part) in received.iter_mut().zip(bytes.chunks(8)) {
+        let mut whole = [0; 8];
+        whole[..part.len()].copy_from_slice(part);
+        *bits = u64::from_le_bytes(whole);
+    }
+    let (n, d) = (code.n, code.distance);
+    let separator = |at| 2 * get(&received, at, d).count_ones() as usize > d;
+    let (s1, s2, s3) = (separator(0), separator(d + n), separator(2 * d + 2 * n));
+    let first = || order.find(get(&received, d, n)).ok_or(10u32);
+    let second = || order.find(get(&received, 2 * d + n, n)).ok_or(10u32);
+    let (rule, (residual, position)) = if s1 == s2 && s2 == s3 {
+        let p = first()?;
+        if p != second()? {
+            return Err(11);
+        }
+        let start = order.start(p);
+        let last = code.last_block();
+        let mut best = (u32::MAX, 0);
+        if p > 0 {
+            best = nearest_in_block(order, p - 1, start - d, start, &received);
+        }
+        if p < last {
+            let after = nearest_in_block(order, p, start, start + d, &received);
+            if after.0 < best.0 {
+                best = after;
+            }
+        }
+        (3, best)
+    } else if s1 == s2 {
+        let p = first()?;
+        if p == 0 {
+            return Err(12);
+        }
+        let low = order.start(p - 1) + d + code.changed(p - 1);
+        (1, nearest_in_block(order, p - 1, low, order.start(p), &received))
+    } else if s2 == s3 {
+        let p = second()?;
+        if p == code.last_block() {
+            return Err(12);
+        }
+        let start = order.start(p);
+        (2, nearest_in_block(order, p, start, start + 2 * d + code.changed(p), &received))
+    } else {
+        return Err(9);
+    };
+    Ok(Read { position: position as u32, residual, rule })
+}
