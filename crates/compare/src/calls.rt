@@ -1,0 +1,96 @@
+// One call of the library against the same call of the second reader. Answers are counted by the second reader's.
+use crate::library;
+use crate::tally;
+
+// A check of a card.
+pub fn check(t: &mut [u64; 38], card: &[u8], plain: second::CardFacts) {
+    tally::one_of(t, tally::CARDS, plain.refusal);
+    compared(
+        t,
+        tally::CARDS_UNLIKE,
+        facts_unlike(library::check(card), plain),
+    );
+}
+
+// An answer that was compared with the second reader's, and whether the two differ.
+fn compared(t: &mut [u64; 38], place: usize, unlike: bool) {
+    tally::one_more(t, tally::COMPARED);
+    tally::one_more_if(t, place, unlike);
+}
+
+fn facts_unlike(a: library::Facts, b: second::CardFacts) -> bool {
+    if a.refusal != b.refusal as u32 || a.n != b.n as u32 || a.k != b.k as u32 {
+        return true;
+    }
+    if a.track != b.track as u32 || a.distance != b.distance {
+        return true;
+    }
+    a.radius != b.radius || a.bits != b.bits || a.last != b.last
+}
+
+// A block start or a distance.
+pub fn number(t: &mut [u64; 38], answer: library::Number, plain: second::Number) {
+    tally::one_of(t, tally::NUMBERS, tally::kind(plain.refusal));
+    let unlike = answer.refusal != plain.refusal as u32 || answer.value != plain.value;
+    compared(t, tally::NUMBERS_UNLIKE, unlike);
+}
+
+// A number as a block, whose start is asked for, and as a position, whose distance is.
+pub fn numbers(t: &mut [u64; 38], card: &[u8], x: u32) {
+    number(
+        t,
+        library::block_start(card, x),
+        second::block_start(card, x as u64),
+    );
+    number(
+        t,
+        library::millimetres(card, x),
+        second::millimetres(card, x as u64),
+    );
+}
+
+// A write into `len` bytes.
+pub fn write(t: &mut [u64; 38], card: &[u8], position: u32, len: usize) {
+    written(
+        t,
+        library::write(card, position, len),
+        second::write(card, position as u64, len),
+    );
+}
+
+// What both wrote.
+pub fn written(t: &mut [u64; 38], answer: library::Wrote, plain: second::Word) {
+    let wrote = answer.lent;
+    let bytes = plain.bytes;
+    let right = left(bytes, plain.len);
+    tally::one_of(t, tally::WRITES, tally::kind(plain.refusal));
+    let unlike = answer.refusal != plain.refusal as u32 || !check::same(&wrote, &right);
+    compared(t, tally::WRITES_UNLIKE, unlike);
+}
+
+// What a write leaves in 48 lent bytes that held 170: a word of `len` bytes, or none, and 170 after it.
+fn left(word: [u8; 40], len: usize) -> [u8; 48] {
+    let mut lent = [170u8; 48];
+    let mut j: usize = 0;
+    while j < 40 {
+        lent[j] = if j < len { word[j] } else { 170 };
+        j += 1;
+    }
+    lent
+}
+
+// What both read.
+pub fn read(t: &mut [u64; 38], answer: library::Reading, plain: second::Reading) {
+    tally::one_of(t, tally::WORDS, tally::kind(plain.refusal));
+    if plain.refusal == 0 {
+        tally::one_of(t, tally::RULES, std::num::wrapping_sub_u8(plain.rule, 1));
+    }
+    compared(t, tally::WORDS_UNLIKE, reading_unlike(answer, plain));
+}
+
+fn reading_unlike(a: library::Reading, b: second::Reading) -> bool {
+    if a.refusal != b.refusal as u32 || a.rule != b.rule as u32 {
+        return true;
+    }
+    a.position != b.position || a.residual != b.residual
+}

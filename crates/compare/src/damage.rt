@@ -1,0 +1,113 @@
+// Bits of a word turned, and bits turned counted.
+use crate::cards;
+use second::code;
+
+// Which of a chunk's places are turned: the first ones, the last ones, ones that follow each other, or scattered ones, of
+// which some may meet.
+pub const FIRST: u64 = 0;
+
+pub const LAST: u64 = 1;
+
+pub const RUN: u64 = 2;
+
+pub const SCATTERED: u64 = 3;
+
+// The word with the bit at a place turned.
+pub fn turned(word: [u8; 40], place: usize) -> [u8; 40] {
+    let mut next = word;
+    if place < 320 {
+        let j = place / 8;
+        next[j] = next[j] ^ (1u8 << (place % 8));
+    }
+    next
+}
+
+// The word with the bit at a place turned if `by` is 1.
+pub fn turned_if(word: [u8; 40], place: usize, by: u64) -> [u8; 40] {
+    if by == 1 { turned(word, place) } else { word }
+}
+
+// The place of turn i among `size`.
+fn place_of(i: usize, size: usize, which: u64, seed: u64) -> usize {
+    if size == 0 {
+        return 0;
+    }
+    if which == FIRST {
+        return i % size;
+    }
+    if which == LAST {
+        return std::num::wrapping_sub_usize(size - 1, i % size);
+    }
+    if which == RUN {
+        return std::num::wrapping_add_usize(i, (seed % 64) as usize) % size;
+    }
+    (cards::random(seed, i as u64) % (size as u64)) as usize
+}
+
+// The word with so many of the `size` bits from place `low` on turned.
+pub fn damaged(
+    word: [u8; 40],
+    low: usize,
+    size: usize,
+    count: usize,
+    which: u64,
+    seed: u64,
+) -> [u8; 40] {
+    let mut next = word;
+    let mut i: usize = 0;
+    while i < count {
+        let one = turned(
+            next,
+            std::num::wrapping_add_usize(low, place_of(i, size, which, seed)),
+        );
+        next = one;
+        i += 1;
+    }
+    next
+}
+
+// Whether two words differ at a place, as a number.
+fn unlike_at(a: [u8; 40], b: [u8; 40], place: usize) -> u64 {
+    if place < 320 {
+        let j = place / 8;
+        return code::bit(code::wide(a[j] ^ b[j]), place % 8);
+    }
+    0
+}
+
+// In how many of the `size` places from `low` on two words differ.
+pub fn unlike(a: [u8; 40], b: [u8; 40], low: usize, size: usize) -> u64 {
+    let mut count: u64 = 0;
+    let mut i: usize = 0;
+    while i < size {
+        let next = std::num::wrapping_add_u64(
+            count,
+            unlike_at(a, b, std::num::wrapping_add_usize(low, i)),
+        );
+        count = next;
+        i += 1;
+    }
+    count
+}
+
+// The sum, modulo 2, of three words.
+pub fn sum_of_three(a: [u8; 40], b: [u8; 40], c: [u8; 40]) -> [u8; 40] {
+    let mut sum = [0u8; 40];
+    let mut j: usize = 0;
+    while j < 40 {
+        sum[j] = a[j] ^ b[j] ^ c[j];
+        j += 1;
+    }
+    sum
+}
+
+// The first 40 of 48 bytes.
+pub fn front(bytes: [u8; 48]) -> [u8; 40] {
+    let mut word = [0u8; 40];
+    let mut j: usize = 0;
+    while j < 40 {
+        word[j] = bytes[j];
+        j += 1;
+    }
+    word
+}
