@@ -6,3 +6,4 @@ pub mod Binary
 pub mod Searches
 pub mod Places
 pub mod PackedDistance
+pub mod LowestOne

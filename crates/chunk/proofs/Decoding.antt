@@ -1,52 +1,81 @@
--- What decoding a card shows once refusals 1 to 4 are past: the least weight of the rows in Gray order is 0 where they are
--- dependent, refusal 5, and the code's least distance where they are not. Assumes nothing.
+-- What decoding a card shows once refusals 1 to 3 are past: the least weight of the rows in Gray order, where no row is too wide,
+-- is 0 where the rows are dependent, refusal 5, and the code's least distance where they are not. Assumes nothing.
 use mathlib.Core.Path.{_≡_, refl, sym, _∙_}
-use mathlib.Core.Bool.{false}
+use mathlib.Core.Bool.{Bool, true, false, cond}
 use mathlib.Core.List.{List}
+use mathlib.Core.Logic.{⊎-elim}
 use Prim.Native.Nat.{ℕ, _-_, _^_, _≤_, _<_}
 use native.Mathlib.Omega.{arith}
-use lib.ListN.{getD}
-use Rattle.bits.proofs.Numbers.{or-false-left}
-use Rattle.model.specs.Card.{lengthOf, rowsOf, rowOf, codeOf, trackOf, cardRefusal, dependent}
+use borrow.Author.Tests.{eq-eqb, ne-eqb}
+use lib.Dec.{eqb}
+use lib.ListN.{length, getD}
+use Rattle.bits.proofs.Numbers.{eq-or-ne, or-false-left}
+use Rattle.model.specs.Card.{lengthOf, rowsOf, rowOf, codeOf, trackOf, storedCheck, computedCheck, withinLimits, misplaced, cardRefusal, dependent}
 use Rattle.model.specs.Decoded.{meaning}
 use Rattle.model.specs.declared.Decoded.{Decoded}
 use Rattle.code_theory.specs.LeastDistance.{leastInOrder}
 use Rattle.code_theory.proofs.LeastWeight.{least-of-order, independent-of-order, dependent-of-order}
-use Rattle.code_theory.proofs.SoundCard.{limits-of-test, narrow-of-test, sound-card}
+use Rattle.code_theory.proofs.SoundCard.{limits-of-test, narrow-of-test, card-tests, sound-card}
 use Rattle.chunk.specs.DecodedFrom.{DecodedFrom}
-use Rattle.chunk.specs.WellShaped.{WellShaped, misplaced}
-use Rattle.chunk.proofs.Refusals.{refusal-5-or-0}
+use Rattle.chunk.proofs.LeastWeightLoop.{Narrow}
+use Rattle.chunk.proofs.Refusals.{refusal-4-5-or-0}
 
-module _ (b : List ℕ) (shaped : WellShaped b) where
-  pub card-limits : (1 ≤ lengthOf b) × (lengthOf b ≤ 64) × (1 ≤ rowsOf b) × (rowsOf b ≤ 12) × (rowsOf b ≤ lengthOf b)
-  card-limits = limits-of-test (lengthOf b) (rowsOf b) (shaped .limits)
+-- the least weight of a card's rows, as it is met in Gray order
+abbrev pub least : List ℕ → ℕ
+least b = leastInOrder (lengthOf b) (rowsOf b) (rowOf b) (2 ^ rowsOf b - 1)
 
-  pub rows-narrow : (row : ℕ → ℕ) → row ≡ rowOf b → (z : ℕ) → z < rowsOf b → row z < 2 ^ lengthOf b
+-- a least weight of the rows that the card has, said of the card
+pub least-of-card : (b : List ℕ) (n k distance : ℕ) (row : ℕ → ℕ) → n ≡ lengthOf b → k ≡ rowsOf b → row ≡ rowOf b
+    → (Narrow n k row → distance ≡ leastInOrder n k row (2 ^ k - 1)) → Narrow (lengthOf b) (rowsOf b) (rowOf b) → distance ≡ least b
+least-of-card b n k distance row is-n is-k is-row is-least = rw (← is-n, ← is-k, ← is-row) is-least
+
+-- the first of two refusals, and a refusal by its test, as the code puts them together
+abbrev firstOf : (upper lower : ℕ) → ℕ
+firstOf upper lower = cond (eqb upper 0) lower upper
+
+abbrev refusalIf : Bool → ℕ → ℕ
+refusalIf holds number = cond holds number 0
+
+module _ (b : List ℕ) (limits : withinLimits (lengthOf b) (rowsOf b) ≡ true) where
+  narrow : misplaced b ≡ false → Narrow (lengthOf b) (rowsOf b) (rowOf b)
   unfolding misplaced
-  rows-narrow row same z h =
-      rw same
-      (narrow-of-test (lengthOf b) (rowOf b) (or-false-left _ _ (or-false-left _ _ (shaped .placed))) z
-      (omega (arith, card-limits .3)))
+  narrow placed z h =
+      narrow-of-test (lengthOf b) (rowOf b) (or-false-left _ _ (or-false-left _ _ placed)) z
+      (omega (arith, limits-of-test (lengthOf b) (rowsOf b) limits .3))
 
-  -- the least weight of the card's rows, as it is met in Gray order
-  abbrev least : ℕ
-  least = leastInOrder (lengthOf b) (rowsOf b) (rowOf b) (2 ^ rowsOf b - 1)
+  -- the rows are dependent where their least weight is 0
+  dependent-if-zero : misplaced b ≡ false → dependent (rowsOf b) (rowOf b) ≡ eqb (least b) 0
+  dependent-if-zero placed =
+      ⊎-elim
+      (λ (zero : least b ≡ 0).
+      rw (eq-eqb (least b) 0 zero)
+      (dependent-of-order (lengthOf b) (rowsOf b) (rowOf b) (limits-of-test (lengthOf b) (rowsOf b) limits .0) (narrow placed) zero))
+      (λ (ne : least b ≡ 0 → ⊥).
+      rw (ne-eqb (least b) 0 ne) (independent-of-order (lengthOf b) (rowsOf b) (rowOf b) (omega arith)))
+      (eq-or-ne (least b) 0)
 
-  pub dependent-refused : least ≡ 0 → cardRefusal b ≡ 5
-  dependent-refused e =
-      rw (refusal-5-or-0 b shaped, dependent-of-order (lengthOf b) (rowsOf b) (rowOf b) (card-limits .0) (rows-narrow (rowOf b) refl) e)
+  -- refusal 4 first, then refusal 5 by a number that is the least weight of rows that are narrow
+  pub rows-refusal : length b ≡ 512 → storedCheck b ≡ computedCheck b → (distance : ℕ)
+      → (Narrow (lengthOf b) (rowsOf b) (rowOf b) → distance ≡ least b)
+      → firstOf (refusalIf (misplaced b) 4) (refusalIf (eqb distance 0) 5) ≡ cardRefusal b
+  rows-refusal whole checked distance is-least = rw (refusal-4-5-or-0 b whole checked limits) (by-test (misplaced b) refl)
+    where
+      by-test : (t : Bool) → misplaced b ≡ t
+          → firstOf (refusalIf t 4) (refusalIf (eqb distance 0) 5) ≡ cond t 4 (refusalIf (dependent (rowsOf b) (rowOf b)) 5)
+      by-test true e = refl
+      by-test false e = rw (dependent-if-zero e, is-least (narrow e))
 
-  independent : (least ≡ 0 → ⊥) → dependent (rowsOf b) (rowOf b) ≡ false
-  independent ne = independent-of-order (lengthOf b) (rowsOf b) (rowOf b) (omega arith)
-
-  pub independent-sound : (least ≡ 0 → ⊥) → cardRefusal b ≡ 0
-  independent-sound ne = rw (refusal-5-or-0 b shaped, independent ne)
-
-  pub code-of-least : (n k distance : ℕ) (rows : List ℕ) → n ≡ lengthOf b → k ≡ rowsOf b → (λ z. getD rows z 0) ≡ rowOf b
-      → distance ≡ least → (least ≡ 0 → ⊥) → meaning (record { n = n; k = k; distance = distance; rows = rows }) ≡ codeOf b
-  unfolding codeOf
-  code-of-least n k distance rows is-n is-k is-rows is-least ne =
-      rw (is-n, is-k, is-rows, is-least, least-of-order (lengthOf b) (rowsOf b) (rowOf b) (independent ne))
+-- the code of a sound card
+pub code-of-least : (b : List ℕ) → cardRefusal b ≡ 0 → (n k distance : ℕ) (rows : List ℕ) → n ≡ lengthOf b → k ≡ rowsOf b
+    → (λ z. getD rows z 0) ≡ rowOf b → (Narrow (lengthOf b) (rowsOf b) (rowOf b) → distance ≡ least b)
+    → meaning (record { n = n; k = k; distance = distance; rows = rows }) ≡ codeOf b
+unfolding codeOf
+code-of-least b sound n k distance rows is-n is-k is-rows is-least =
+    let tests = card-tests b sound in
+    let fit : Narrow (lengthOf b) (rowsOf b) (rowOf b) =
+    λ z h. narrow-of-test (lengthOf b) (rowOf b) (tests .rows-narrow) z
+    (omega (arith, limits-of-test (lengthOf b) (rowsOf b) (tests .limits) .3)) in
+    rw (is-n, is-k, is-rows, is-least fit, least-of-order (lengthOf b) (rowsOf b) (rowOf b) (tests .rows-independent))
 
 -- a refusal handed back alone
 pub refused-from : (b : List ℕ) (r : Decoded) (refusal : ℕ) → r .refusal ≡ refusal → cardRefusal b ≡ refusal
@@ -55,8 +84,13 @@ refused-from b r refusal e is ne =
     let never : r .refusal ≡ 0 → ⊥ = λ z. ne (sym e ∙ z) in
     record { refusal = e ∙ sym is; track = λ z. absurd (never z); code = λ z. absurd (never z); sound = λ z. absurd (never z) }
 
--- a sound card with its track and its code
-pub sound-from : (b : List ℕ) (r : Decoded) → r .refusal ≡ 0 → cardRefusal b ≡ 0 → r .track ≡ trackOf b
-    → meaning (r .code) ≡ codeOf b → DecodedFrom b r
-sound-from b r e is track code =
-    record { refusal = e ∙ sym is; track = λ z. track; code = λ z. code; sound = λ z. rw code (sound-card b is) }
+-- a refusal, or 0 with the track and the code
+pub decoded-from : (b : List ℕ) (r : Decoded) → r .refusal ≡ cardRefusal b → r .track ≡ trackOf b
+    → (cardRefusal b ≡ 0 → meaning (r .code) ≡ codeOf b) → DecodedFrom b r
+decoded-from b r e track code =
+    record {
+      refusal = e;
+      track = λ z. track;
+      code = λ z. code (sym e ∙ z);
+      sound = λ z. rw (code (sym e ∙ z)) (sound-card b (sym e ∙ z));
+    }

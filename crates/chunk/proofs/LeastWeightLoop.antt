@@ -15,12 +15,16 @@ use Rattle.code_theory.proofs.Codewords.{rows-start, rows-below}
 use Rattle.code_theory.proofs.LeastWeight.{order-next}
 use Rattle.chunk.proofs.GrayStep.{word-next}
 
+-- no row has a bit at n or above
+abbrev pub Narrow : (n k : ℕ) → (ℕ → ℕ) → Type 0
+Narrow n k row = (z : ℕ) → z < k → row z < 2 ^ n
+
 -- the loop stands at codeword i of last, which is in word, and least is the least weight of the codewords 1 to i
 pub record AtCodeword (n k : ℕ) (row : ℕ → ℕ) (last word least i : ℕ) : Type 0 where
   pub end : last + 1 ≡ 2 ^ k
   pub within : i ≤ last
   pub current : word ≡ sumOfRows row k (gray i)
-  pub so-far : least ≡ leastInOrder n k row i
+  pub so-far : Narrow n k row → least ≡ leastInOrder n k row i
 
 module _ (n k : ℕ) (row : ℕ → ℕ) where
   pub at-start : (two : ℕ) → two ≡ 2 ^ k → AtCodeword n k row (two - 1) 0 n 0
@@ -30,25 +34,25 @@ module _ (n k : ℕ) (row : ℕ → ℕ) where
         end = omega (arith, pow-pos k);
         within = omega arith;
         current = sym (rows-start row k);
-        so-far = refl;
+        so-far = λ narrow. refl;
       }
 
-  pub at-next : k ≤ 12 → ((z : ℕ) → z < k → row z < 2 ^ n) → (last word least i least′ : ℕ) → AtCodeword n k row last word least i
+  pub at-next : k ≤ 12 → (last word least i least′ : ℕ) → AtCodeword n k row last word least i
       → i < last → least′ ≡ min least (ones (bitXor word (row (trailingZeros 32 (i + 1)))))
       → AtCodeword n k row last (bitXor word (row (trailingZeros 32 (i + 1)))) least′ (i + 1)
-  at-next twelve narrow last word least i least′ at more is-least =
+  at-next twelve last word least i least′ at more is-least =
       let next : ℕ = bitXor word (row (trailingZeros 32 (i + 1))) in
       let current : next ≡ sumOfRows row k (gray (i + 1)) =
       word-next k i twelve (omega (arith, at .end)) row word (at .current) in
-      let light : weight n (sumOfRows row k (gray (i + 1))) ≡ ones next =
-      weight-ones n (sumOfRows row k (gray (i + 1))) (rows-below n row k (gray (i + 1)) narrow) ∙ ap ones (sym current) in
+      let light : Narrow n k row → weight n (sumOfRows row k (gray (i + 1))) ≡ ones next =
+      λ narrow. weight-ones n (sumOfRows row k (gray (i + 1))) (rows-below n row k (gray (i + 1)) narrow) ∙ ap ones (sym current) in
       record {
         end = at .end;
         within = omega arith;
         current = current;
-        so-far = omega (arith, at .so-far, order-next n k row i);
+        so-far = λ narrow. omega (arith, light narrow, at .so-far narrow, order-next n k row i);
       }
 
   pub at-end : (last word least i : ℕ) → AtCodeword n k row last word least i → last ≤ i
-      → least ≡ leastInOrder n k row (2 ^ k - 1)
-  at-end last word least i at done = at .so-far ∙ ap (leastInOrder n k row) (omega (arith, at .end, at .within))
+      → Narrow n k row → least ≡ leastInOrder n k row (2 ^ k - 1)
+  at-end last word least i at done narrow = at .so-far narrow ∙ ap (leastInOrder n k row) (omega (arith, at .end, at .within))

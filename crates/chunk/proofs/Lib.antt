@@ -1,4 +1,6 @@
 pub mod Bytes
+pub mod JoinedBytes
+pub mod CheckSum
 pub mod Refusals
 pub mod Rows
 pub mod Decoding

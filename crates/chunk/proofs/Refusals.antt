@@ -5,8 +5,7 @@ use mathlib.Core.List.{List}
 use Prim.Native.Nat.{ℕ}
 use borrow.Author.Tests.{eq-eqb, ne-eqb}
 use lib.ListN.{length}
-use Rattle.model.specs.Card.{lengthOf, rowsOf, rowOf, storedCheck, computedCheck, withinLimits, dependent, cardRefusal}
-use Rattle.chunk.specs.WellShaped.{WellShaped, misplaced}
+use Rattle.model.specs.Card.{lengthOf, rowsOf, rowOf, storedCheck, computedCheck, withinLimits, misplaced, dependent, cardRefusal}
 
 module _ (b : List ℕ) where
   pub refusal-1 : (length b ≡ 512 → ⊥) → cardRefusal b ≡ 1
@@ -23,13 +22,9 @@ module _ (b : List ℕ) where
   refusal-3 whole checked outside =
       rw (eq-eqb (length b) 512 whole, eq-eqb (storedCheck b) (computedCheck b) checked, outside)
 
-  pub refusal-4 : length b ≡ 512 → storedCheck b ≡ computedCheck b → withinLimits (lengthOf b) (rowsOf b) ≡ true
-      → misplaced b ≡ true → cardRefusal b ≡ 4
-  unfolding cardRefusal misplaced
-  refusal-4 whole checked limits wrong =
-      rw (eq-eqb (length b) 512 whole, eq-eqb (storedCheck b) (computedCheck b) checked, limits, wrong)
-
-  pub refusal-5-or-0 : WellShaped b → cardRefusal b ≡ cond (dependent (rowsOf b) (rowOf b)) 5 0
-  unfolding cardRefusal misplaced
-  refusal-5-or-0 w =
-      rw (eq-eqb (length b) 512 (w .whole), eq-eqb (storedCheck b) (computedCheck b) (w .checked), w .limits, w .placed)
+  -- past the third, a card is refused for what is misplaced, then for its rows
+  pub refusal-4-5-or-0 : length b ≡ 512 → storedCheck b ≡ computedCheck b → withinLimits (lengthOf b) (rowsOf b) ≡ true
+      → cardRefusal b ≡ cond (misplaced b) 4 (cond (dependent (rowsOf b) (rowOf b)) 5 0)
+  unfolding cardRefusal
+  refusal-4-5-or-0 whole checked limits =
+      rw (eq-eqb (length b) 512 whole, eq-eqb (storedCheck b) (computedCheck b) checked, limits)

@@ -1,2 +1,1 @@
-pub mod WellShaped
 pub mod DecodedFrom

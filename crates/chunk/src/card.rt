@@ -1,10 +1,10 @@
-// The card's bytes: numbers read high byte first, the check, the limits, the rows, and refusals 1 to 4.
+// The fields of a card, and what refusals 2, 3 and 4 test of them.
 ghost use mathlib.Core.Path.{_≡_};
+ghost use mathlib.Core.Bool.{_||_};
 ghost use Prim.Native.Nat.{_+_, _^_, _≤_, _<_};
 ghost use lib.Dec.{leb};
 ghost use lib.ListN.{length, getD};
-ghost use Rattle.model.specs.Card.{byte, highFirst, rowOf, trackOf, storedCheck, computedCheck, withinLimits, rowTooWide, unusedRowSet, unusedByteSet, cardRefusal};
-ghost use Rattle.chunk.specs.WellShaped.{WellShaped, misplaced};
+ghost use Rattle.model.specs.Card.{byte, highFirst, rowOf, trackOf, storedCheck, computedCheck, withinLimits, rowTooWide, unusedRowSet, unusedByteSet};
 
 // A byte as a number of 64 bits.
 fn wide(b: u8) -> u64
@@ -44,29 +44,30 @@ pub fn track_of(card: &[u8]) -> u32
 }
 
 // The check that the card carries.
-fn stored_check(card: &[u8]) -> u64
+pub fn stored_check(card: &[u8]) -> u32
     requires { ⌜ length (now card) ≡ 512 ⌝ }
     ensures { λ r. ⌜ r ≡ storedCheck (now (card .entry)) ⌝ }
 {
-    high_first(card, 510, 2)
+    high_first(card, 510, 2) as u32
 }
 
-// The check that the card should carry.
-fn computed_check(card: &[u8]) -> u64
-    requires { ⌜ length (now card) ≡ 512 ⌝ }
+// The check that the card should carry. Where no unused byte is set, the bytes from 100 on add nothing.
+pub fn computed_check(card: &[u8], unused: bool) -> u32
+    requires { ⌜ (length (now card) ≡ 512) × (unused ≡ unusedByteSet (now card)) ⌝ }
     ensures { λ r. ⌜ r ≡ computedCheck (now (card .entry)) ⌝ }
 {
-    let mut total: u64 = 0;
+    let end: usize = if unused { 510 } else { 100 };
+    let mut total: u32 = 0;
     let mut p: usize = 0;
-    while p < 510 {
-        total += (p as u64 + 1) * wide(card[p]);
+    while p < end {
+        total += (p as u32 + 1) * byte_at(card, p);
         p += 1;
     }
     total % 65521
 }
 
 // Are n and k within the card's limits?
-fn within_limits(n: u32, k: u32) -> bool
+pub fn within_limits(n: u32, k: u32) -> bool
     ensures { λ r. ⌜ r ≡ withinLimits n k ⌝ }
 {
     if n < 1 {
@@ -136,51 +137,29 @@ fn unused_row_set(k: u32, rows: [u64; 12]) -> bool
     false
 }
 
-// Is some byte from 100 to 509 not zero?
-fn unused_byte_set(card: &[u8]) -> bool
+// Is some byte from 100 to 509 not zero? The bytes are joined and tested once, so that many are taken in one step.
+pub fn unused_byte_set(card: &[u8]) -> bool
     requires { ⌜ length (now card) ≡ 512 ⌝ }
     ensures { λ r. ⌜ r ≡ unusedByteSet (now (card .entry)) ⌝ }
 {
+    let mut joined: u8 = 0;
     let mut i: usize = 0;
     while i < 410 {
-        if card[100 + i] != 0 {
-            return true;
-        }
+        joined |= card[100 + i];
         i += 1;
     }
-    false
+    joined != 0
 }
 
 // Is something set that a card leaves zero: a bit at n or above in a row, an unused row, or an unused byte?
-fn has_misplaced(card: &[u8]) -> bool
-    requires { ⌜ length (now card) ≡ 512 ⌝ }
-    ensures { λ r. ⌜ r ≡ misplaced (now (card .entry)) ⌝ }
+pub fn has_misplaced(n: u32, k: u32, rows: [u64; 12], unused: bool) -> bool
+    ensures { λ r. ⌜ r ≡ (rowTooWide n (λ z. getD rows z 0) || unusedRowSet k (λ z. getD rows z 0) || unused) ⌝ }
 {
-    let rows = rows_of(card);
-    if row_too_wide(byte_at(card, 0), rows) {
+    if row_too_wide(n, rows) {
         return true;
     }
-    if unused_row_set(byte_at(card, 1), rows) {
+    if unused_row_set(k, rows) {
         return true;
     }
-    unused_byte_set(card)
-}
-
-// Refusals 1 to 4 of any bytes as a card, or 0 where the card passes them.
-pub fn shape_refusal(card: &[u8]) -> u32
-    ensures { λ r. ⌜ (0 < r → cardRefusal (now (card .entry)) ≡ r) × (r ≡ 0 → WellShaped (now (card .entry))) ⌝ }
-{
-    if card.len() != 512 {
-        return 1;
-    }
-    if stored_check(card) != computed_check(card) {
-        return 2;
-    }
-    if !within_limits(byte_at(card, 0), byte_at(card, 1)) {
-        return 3;
-    }
-    if has_misplaced(card) {
-        return 4;
-    }
-    0
+    unused
 }

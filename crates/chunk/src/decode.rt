@@ -3,6 +3,7 @@ ghost use mathlib.Core.Path.{_≡_};
 ghost use Rattle.chunk.specs.DecodedFrom.{DecodedFrom};
 use super::card;
 use super::order;
+use super::refusal;
 use model::Decoded;
 use model::DecodedCode;
 
@@ -22,25 +23,32 @@ fn refused(refusal: u32) -> Decoded
     }
 }
 
-// Refusals 1 to 5 of any bytes as a card, and the track and the code of a sound one. The rows are dependent where a nonzero set
-// of them has weight 0.
+// Refusals 1 to 5 of any bytes as a card, checked downwards, and the track and the code of a sound one. The rows are dependent
+// where a nonempty set of them has weight 0; their least weight counts for rows that lie within n bits, so it is looked at below
+// refusal 4.
 pub fn decode(card: &[u8]) -> Decoded
     ensures { λ r. ⌜ DecodedFrom (now (card .entry)) r ⌝ }
 {
-    let refusal = card::shape_refusal(card);
-    if refusal != 0 {
-        return refused(refusal);
+    if card.len() != 512 {
+        return refused(1);
+    }
+    let unused = card::unused_byte_set(card);
+    if card::stored_check(card) != card::computed_check(card, unused) {
+        return refused(2);
     }
     let n = card::byte_at(card, 0);
     let k = card::byte_at(card, 1);
+    if !card::within_limits(n, k) {
+        return refused(3);
+    }
     let rows = card::rows_of(card);
     let distance = order::least_weight(n, k, rows);
-    if distance == 0 {
-        return refused(5);
-    }
+    let misplaced = refusal::refusal_if(card::has_misplaced(n, k, rows, unused), 4);
+    let dependent = refusal::refusal_if(distance == 0, 5);
+    let refusal = refusal::first_of(misplaced, dependent);
     let track = card::track_of(card);
     Decoded {
-        refusal: 0,
+        refusal,
         track,
         code: DecodedCode {
             n,

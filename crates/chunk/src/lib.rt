@@ -3,4 +3,5 @@ pub mod card;
 pub mod codeword;
 pub mod decode;
 pub mod order;
+pub mod refusal;
 pub mod search;

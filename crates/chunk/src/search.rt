@@ -1,5 +1,6 @@
 // Reading a code chunk by search.
 ghost use mathlib.Core.Path.{_≡_};
+ghost use Prim.Native.Nat.{_^_, _<_};
 ghost use Rattle.bits.specs.Places.{bit};
 ghost use Rattle.model.specs.Decoded.{meaning};
 ghost use Rattle.model.specs.Reading.{chunkReading};
@@ -9,13 +10,13 @@ use model::Chunk;
 use model::DecodedCode;
 
 // The codeword within the radius of the chunk `x`, with the count of places in which the two differ.
-// The form is nested loops, over codewords and, inside, over bits. A label leaves the bit loop once the radius is passed, and
-// the loop over codewords yields its value by `break`. A differing bit is added without a branch on it.
+// Document 01 names the form: nested loops, over codewords and, inside, over bits. A label leaves the bit loop once the radius
+// is passed, and the loop over codewords yields its value by `break`. The bits met are those in which codeword and chunk
+// differ: each turn clears the lowest of them.
 pub fn read_chunk(code: DecodedCode, x: u64) -> Chunk
-    requires { ⌜ Sound (meaning code) ⌝ }
+    requires { ⌜ Sound (meaning code) × (x < 2 ^ code .n) ⌝ }
     ensures { λ r. ⌜ r ≡ chunkReading (meaning code) (bit x) ⌝ }
 {
-    let n = code.n;
     let k = code.k;
     let rows = code.rows;
     let radius = (code.distance - 1) / 2;
@@ -23,12 +24,11 @@ pub fn read_chunk(code: DecodedCode, x: u64) -> Chunk
     let mut word: u64 = 0;
     let mut i: u32 = 0;
     let found = loop {
-        let difference = word ^ x;
+        let mut rest = word ^ x;
         let mut unlike: u32 = 0;
-        let mut p: u32 = 0;
-        'bits: while p < n {
-            unlike += ((difference >> p) % 2) as u32;
-            p += 1;
+        'bits: while rest != 0 {
+            rest &= rest - 1;
+            unlike += 1;
             if radius < unlike {
                 break 'bits;
             }

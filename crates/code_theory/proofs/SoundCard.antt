@@ -10,7 +10,7 @@ use lib.Dec.{leb, eqb}
 use lib.ListN.{length}
 use Rattle.bits.proofs.Numbers.{or-false-left, or-false-right}
 use Rattle.bits.proofs.Searches.{none-of-any}
-use Rattle.model.specs.Card.{cardRefusal, codeOf, codeWith, withinLimits, rowTooWide, unusedRowSet, unusedByteSet, dependent, lengthOf, rowsOf, rowOf, storedCheck, computedCheck}
+use Rattle.model.specs.Card.{cardRefusal, misplaced, codeOf, codeWith, withinLimits, rowTooWide, unusedRowSet, unusedByteSet, dependent, lengthOf, rowsOf, rowOf, storedCheck, computedCheck}
 use Rattle.code_theory.specs.Promise.{Sound}
 use Rattle.code_theory.specs.CardTests.{CardTests}
 use Rattle.code_theory.proofs.LeastWeight.{independent-of-test}
@@ -93,13 +93,13 @@ sound-code n k row limits narrow unused independent =
     }
 
 pub card-tests : (b : List ℕ) → cardRefusal b ≡ 0 → CardTests b
-unfolding cardRefusal
+unfolding cardRefusal misplaced
 card-tests b e =
     let wide : Bool = rowTooWide (lengthOf b) (rowOf b) in
     let unused : Bool = unusedRowSet (rowsOf b) (rowOf b) in
     let none =
     none-of-five (not (eqb (length b) 512)) (not (eqb (storedCheck b) (computedCheck b))) (not (withinLimits (lengthOf b) (rowsOf b)))
-    (wide || unused || unusedByteSet b) (dependent (rowsOf b) (rowOf b)) e in
+    (misplaced b) (dependent (rowsOf b) (rowOf b)) e in
     record {
       size = eqb-true _ _ (not-false _ (none .0));
       check = eqb-true _ _ (not-false _ (none .1));

@@ -94,6 +94,10 @@ unusedRowSet k row = anyBelow (λ z. leb k z && not (eqb (row z) 0)) 12
 unfoldable pub unusedByteSet : List ℕ → Bool
 unusedByteSet b = anyBelow (λ i. not (eqb (byte b (100 + i)) 0)) 410
 
+-- something is set that a card leaves zero: a bit at n or above in a row, an unused row, or an unused byte
+unfoldable pub misplaced : List ℕ → Bool
+misplaced b = rowTooWide (lengthOf b) (rowOf b) || unusedRowSet (rowsOf b) (rowOf b) || unusedByteSet b
+
 -- some nonempty set of the rows 0 to k - 1 sums to zero; set g + 1 holds the rows whose bit is set in g + 1
 unfoldable pub dependent : ℕ → (ℕ → ℕ) → Bool
 dependent k row = anyBelow (λ g. eqb (sumOfRows row k (g + 1)) 0) (2 ^ k - 1)
@@ -104,6 +108,6 @@ cardRefusal b =
     cond (not (eqb (length b) 512)) 1
     (cond (not (eqb (storedCheck b) (computedCheck b))) 2
     (cond (not (withinLimits (lengthOf b) (rowsOf b))) 3
-    (cond (rowTooWide (lengthOf b) (rowOf b) || unusedRowSet (rowsOf b) (rowOf b) || unusedByteSet b) 4
+    (cond (misplaced b) 4
     (cond (dependent (rowsOf b) (rowOf b)) 5
     0))))

@@ -1,38 +1,32 @@
--- `chunk::card::unused_byte_set` meets its contract. The loop's invariant: none of the first `i` unused bytes is set. The measure
--- is the bytes that are left. Assumes nothing.
+-- `chunk::card::unused_byte_set` meets its contract. The loop's invariant: the joined bytes are 0 just where none of the first `i`
+-- unused bytes is set. The measure is the bytes that are left. Assumes nothing.
 use Prim.Native.Nat.{ℕ, _+_, _-_, _≤_, _<_}
 use mathlib.Core.Path.{_≡_, sym}
-use mathlib.Core.Bool.{false, not}
-use borrow.Author.Count.{below-more, below-none}
+use mathlib.Core.Bool.{not}
 use borrow.Author.Needs.{needs}
-use borrow.Author.Tests.{eq-eqb, ne-eqb}
 use native.Mathlib.Omega.{arith}
 use lib.Dec.{eqb}
-use Rattle.bits.proofs.Searches.{any-none, any-some}
+use Rattle.bits.specs.Searches.{anyBelow}
 use Rattle.model.specs.Card.{byte, unusedByteSet}
+use Rattle.chunk.proofs.JoinedBytes.{join-more}
 use Rattle.chunk.proofs.card.unused_byte_set.Statement.{statement}
 use Rattle.chunk.proofs.card.unused_byte_set.Tie as tie
 
 abbrev Inv-loop : tie.InvT-loop
-Inv-loop card i₀ i = (i ≤ 410) × ((j : ℕ) → j < i → not (eqb (byte card (100 + j)) 0) ≡ false)
+Inv-loop card joined₀ i₀ joined i = (i ≤ 410) × (not (eqb joined 0) ≡ anyBelow (λ j. not (eqb (byte card (100 + j)) 0)) i)
 
 abbrev μ-loop : tie.MeasureT-loop
-μ-loop card i₀ i = 410 - i
+μ-loop card joined₀ i₀ joined i = 410 - i
 
 loop-holds : tie.Need-loop-holds Inv-loop μ-loop
-loop-holds c = (omega arith, below-none _)
+unfolding anyBelow
+loop-holds c = search needs
 
-add-if1 : tie.Need-add-if1 Inv-loop μ-loop
-add-if1 c = search needs
+add-joined : tie.Need-add-joined Inv-loop μ-loop
+add-joined c = search needs
 
-shared-slice-read-if1 : tie.Need-shared-slice-read-if1 Inv-loop μ-loop
-shared-slice-read-if1 c = search needs
-
-returns : tie.Need-returns Inv-loop μ-loop
-unfolding unusedByteSet
-returns c =
-    sym
-    (any-some _ 410 (c .before .before .before .loop .i) (c .before .before .loop-test .taken) (simp (ne-eqb _ _ (c .if1 .taken))))
+shared-slice-read-joined : tie.Need-shared-slice-read-joined Inv-loop μ-loop
+shared-slice-read-joined c = search needs
 
 add-i : tie.Need-add-i Inv-loop μ-loop
 add-i c = search needs
@@ -41,12 +35,13 @@ loop-less : tie.Need-loop-less Inv-loop μ-loop
 loop-less c = search needs
 
 loop-again : tie.Need-loop-again Inv-loop μ-loop
-loop-again c =
-    (omega arith, below-more _ _ (c .before .before .before .loop .inv .1) (simp (eq-eqb _ _ (c .if1 .left))))
+loop-again c = (omega arith, join-more (λ j. byte (c .before .before .before .args .card .now) (100 + j)) (c .before .before .loop .joined) (c .before .before .loop .i) (c .before .before .loop .inv .1))
 
-returns-2 : tie.Need-returns-2 Inv-loop μ-loop
+returns : tie.Need-returns Inv-loop μ-loop
 unfolding unusedByteSet
-returns-2 c = sym (any-none _ 410 (λ j h. c .before .loop .inv .1 j (omega arith)))
+returns c =
+    let all : c .before .loop .i ≡ 410 = omega arith in
+    rw (← all) (c .before .loop .inv .1)
 
 pub unused-byte-set-spec : {M : Type 1} → statement M
 unused-byte-set-spec =
@@ -55,10 +50,9 @@ unused-byte-set-spec =
     Inv-loop
     μ-loop
     loop-holds
-    add-if1
-    shared-slice-read-if1
-    returns
+    add-joined
+    shared-slice-read-joined
     add-i
     loop-less
     loop-again
-    returns-2)
+    returns)

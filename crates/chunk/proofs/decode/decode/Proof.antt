@@ -1,86 +1,160 @@
--- `chunk::decode::decode` meets its contract: a refusal of the card's shape is handed back as it is, and past it the least weight
--- in Gray order tells refusal 5 from a sound card. Assumes nothing.
+-- `chunk::decode::decode` meets its contract: each of the refusals 1 to 3 is one law, and past them the tests of the rows, the upper
+-- first, tell refusals 4 and 5 from a sound card. Assumes nothing.
 use mathlib.Core.Path.{_≡_, refl, sym, _∙_}
-use Prim.Native.Nat.{_-_, _^_}
+use mathlib.Core.Bool.{true}
 use borrow.Author.Needs.{needs}
-use borrow.Author.Tests.{eqb-false}
+use borrow.Author.Tests.{eqb-false, not-true, not-false}
 use native.Mathlib.Omega.{arith}
-use Rattle.model.specs.Card.{lengthOf, rowsOf, rowOf}
-use Rattle.code_theory.specs.LeastDistance.{leastInOrder}
-use Rattle.chunk.specs.WellShaped.{WellShaped}
-use Rattle.chunk.proofs.Decoding.{card-limits, rows-narrow, dependent-refused, independent-sound, code-of-least, refused-from, sound-from}
+use lib.ListN.{length}
+use Rattle.model.specs.Card.{lengthOf, rowsOf, rowOf, storedCheck, computedCheck, withinLimits, misplaced}
+use Rattle.code_theory.proofs.SoundCard.{limits-of-test}
+use Rattle.chunk.proofs.Decoding.{least, least-of-card, rows-refusal, code-of-least, refused-from, decoded-from}
+use Rattle.chunk.proofs.LeastWeightLoop.{Narrow}
+use Rattle.chunk.proofs.Refusals.{refusal-1, refusal-2, refusal-3}
 use Rattle.chunk.proofs.decode.decode.Statement.{statement}
 use Rattle.chunk.proofs.decode.decode.Tie as tie
 
-shaped : (c : tie.Else1) → WellShaped (c .before .before .before .args .card .now)
-shaped c = c .before .shape-refusal .ensures .1 (c .if1 .left)
+-- past the second test: 512 bytes, and the two checks are equal
+whole : (c : tie.Else2) → length (c .before .before .before .before .before .before .args .card .now) ≡ 512
+whole c = c .before .before .before .before .if1 .left
 
--- the least weight of the rows that the card has
-least : (c : tie.After-least-weight)
-    → let b = c .before .before .before .before .before .before .before .args .card .now in
-    c .least-weight .result ≡ leastInOrder (lengthOf b) (rowsOf b) (rowOf b) (2 ^ rowsOf b - 1)
-least c =
-    rw (c .before .rows-of .ensures, c .before .before .before .byte-at .ensures .0, c .before .before .byte-at2 .ensures .0) at (c .least-weight .ensures)
+checked : (c : tie.Else2)
+    → let b = c .before .before .before .before .before .before .args .card .now in storedCheck b ≡ computedCheck b
+checked c = sym (c .before .before .stored-check .ensures) ∙ c .if2 .left ∙ c .before .computed-check .ensures
 
-shape-refusal-requires : tie.Need-shape-refusal-requires
-shape-refusal-requires c κs = search needs
+-- what the third test asks
+limits : (c : tie.After-within-limits)
+    → let b = c .before .before .before .before .before .before .before .before .before .args .card .now in
+    c .within-limits .result ≡ withinLimits (lengthOf b) (rowsOf b)
+limits c = rw (c .before .before .byte-at .ensures .0, c .before .byte-at2 .ensures .0) at (c .within-limits .ensures)
+
+within : (c : tie.Else3)
+    → let b = c .before .before .before .before .before .before .before .before .before .before .args .card .now in
+    withinLimits (lengthOf b) (rowsOf b) ≡ true
+within c = sym (limits (c .before)) ∙ not-false _ (c .if3 .left)
+
+-- the least weight of the rows that the card has, and the fourth test of them
+is-least : (c : tie.After-least-weight)
+    → let b = c .before .before .before .before .before .before .before .before .before .before .before .before .args .card .now in
+    Narrow (lengthOf b) (rowsOf b) (rowOf b) → c .least-weight .result ≡ least b
+is-least c =
+    let limited = c .before .before .before in
+    least-of-card _ _ _ _ _ (limited .before .before .byte-at .ensures .0) (limited .before .byte-at2 .ensures .0) (c .before .rows-of .ensures) (c .least-weight .ensures)
+
+is-misplaced : (c : tie.After-has-misplaced)
+    → let b = c .before .before .before .before .before .before .before .before .before .before .before .before .before .args .card .now in
+    c .has-misplaced .result ≡ misplaced b
+unfolding misplaced
+is-misplaced c =
+    let limited = c .before .before .before .before in
+    let first = limited .before .before .before in
+    rw (c .before .before .rows-of .ensures, limited .before .before .byte-at .ensures .0, limited .before .byte-at2 .ensures .0, first .before .before .before .unused-byte-set .ensures) at (c .has-misplaced .ensures)
 
 refused-requires : tie.Need-refused-requires
 refused-requires c κs = search needs
 
 returns : tie.Need-returns
-returns c =
-    refused-from _ _ _ (c .refused .ensures) (c .before .before .shape-refusal .ensures .0 (omega arith)) (c .before .if1 .taken)
+returns c = refused-from _ _ 1 (c .refused .ensures) (refusal-1 _ (c .before .if1 .taken)) (eqb-false 1 0 refl)
 
-byte-at-requires : tie.Need-byte-at-requires
-byte-at-requires c κs = omega (arith, shaped c .whole)
+unused-byte-set-requires : tie.Need-unused-byte-set-requires
+unused-byte-set-requires c κs = search needs
 
-byte-at-requires-2 : tie.Need-byte-at-requires-2
-byte-at-requires-2 c κs = omega (arith, shaped (c .before) .whole)
+stored-check-requires : tie.Need-stored-check-requires
+stored-check-requires c κs = search needs
 
-rows-of-requires : tie.Need-rows-of-requires
-rows-of-requires c κs = shaped (c .before .before) .whole
-
-least-weight-requires : tie.Need-least-weight-requires
-least-weight-requires c κs =
-    let first = c .before .before .before in
-    rw (c .before .before .byte-at .ensures .0, c .before .byte-at2 .ensures .0)
-    (card-limits _ (shaped first) .1, card-limits _ (shaped first) .3, rows-narrow _ (shaped first) _ (c .rows-of .ensures))
+computed-check-requires : tie.Need-computed-check-requires
+computed-check-requires c κs = search needs
 
 refused-requires-2 : tie.Need-refused-requires-2
 refused-requires-2 c κs = search needs
 
 returns-2 : tie.Need-returns-2
 returns-2 c =
-    let weighed = c .before .before in
-    let first = weighed .before .before .before .before in
-    let none = sym (least weighed) ∙ c .before .if2 .taken in
-    refused-from _ _ _ (c .refused2 .ensures) (dependent-refused _ (shaped first) none) (eqb-false 5 0 refl)
+    let summed = c .before .before in
+    refused-from _ _ 2 (c .refused2 .ensures)
+    (refusal-2 _ (summed .before .before .before .if1 .left)
+    (λ e. c .before .if2 .taken (summed .before .stored-check .ensures ∙ e ∙ sym (summed .computed-check .ensures))))
+    (eqb-false 2 0 refl)
 
-track-of-requires : tie.Need-track-of-requires
-track-of-requires c κs = shaped (c .before .before .before .before .before) .whole
+byte-at-requires : tie.Need-byte-at-requires
+byte-at-requires c κs = search needs
+
+byte-at-requires-2 : tie.Need-byte-at-requires-2
+byte-at-requires-2 c κs = search needs
+
+within-limits-requires : tie.Need-within-limits-requires
+within-limits-requires c κs = search needs
+
+refused-requires-3 : tie.Need-refused-requires-3
+refused-requires-3 c κs = search needs
 
 returns-3 : tie.Need-returns-3
 returns-3 c =
-    let weighed = c .before .before in
-    let first = weighed .before .before .before .before in
-    sound-from _ _ refl (independent-sound _ (shaped first) (λ z. c .before .if2 .left (least weighed ∙ z))) (c .track-of .ensures)
-    (code-of-least _ (shaped first) _ _ _ (weighed .before .rows-of .result)
-    (weighed .before .before .before .byte-at .ensures .0) (weighed .before .before .byte-at2 .ensures .0)
-    (weighed .before .rows-of .ensures) (least weighed) (λ z. c .before .if2 .left (least weighed ∙ z)))
+    let tested = c .before .before in
+    let second = tested .before .before .before in
+    let outside = sym (limits tested) ∙ not-true _ (c .before .if3 .taken) in
+    refused-from _ _ 3 (c .refused3 .ensures) (refusal-3 _ (whole second) (checked second) outside) (eqb-false 3 0 refl)
+
+rows-of-requires : tie.Need-rows-of-requires
+rows-of-requires c κs = search needs
+
+least-weight-requires : tie.Need-least-weight-requires
+least-weight-requires c κs =
+    let limited = c .before .before in
+    let low = limits-of-test _ _ (within (c .before)) in
+    rw (limited .before .before .byte-at .ensures .0, limited .before .byte-at2 .ensures .0) (low .1, low .3)
+
+has-misplaced-requires : tie.Need-has-misplaced-requires
+has-misplaced-requires c κs = search needs
+
+refusal-if-requires : tie.Need-refusal-if-requires
+refusal-if-requires c κs = search needs
+
+refusal-if-requires-2 : tie.Need-refusal-if-requires-2
+refusal-if-requires-2 c κs = search needs
+
+first-of-requires : tie.Need-first-of-requires
+first-of-requires c κs = search needs
+
+track-of-requires : tie.Need-track-of-requires
+track-of-requires c κs = search needs
+
+returns-4 : tie.Need-returns-4
+returns-4 c =
+    let chosen = c .before in
+    let placed = chosen .before .before .before in
+    let weighed = placed .before in
+    let third = weighed .before .before in
+    let second = third .before .before .before .before in
+    let refusal =
+    rw (chosen .before .before .refusal-if .ensures, chosen .before .refusal-if2 .ensures, is-misplaced placed) at (chosen .first-of .ensures) in
+    decoded-from _ _
+    (refusal ∙ rows-refusal _ (within third) (whole second) (checked second) _ (is-least weighed)) (c .track-of .ensures)
+    (λ sound.
+    code-of-least _ sound _ _ _ (weighed .before .rows-of .result) (third .before .before .before .byte-at .ensures .0)
+    (third .before .before .byte-at2 .ensures .0) (weighed .before .rows-of .ensures) (is-least weighed))
 
 pub decode-spec : {M : Type 1} → statement M
 decode-spec =
     tie.close
     (tie.spec
-    shape-refusal-requires
     refused-requires
     returns
-    byte-at-requires
-    byte-at-requires-2
-    rows-of-requires
-    least-weight-requires
+    unused-byte-set-requires
+    stored-check-requires
+    computed-check-requires
     refused-requires-2
     returns-2
+    byte-at-requires
+    byte-at-requires-2
+    within-limits-requires
+    refused-requires-3
+    returns-3
+    rows-of-requires
+    least-weight-requires
+    has-misplaced-requires
+    refusal-if-requires
+    refusal-if-requires-2
+    first-of-requires
     track-of-requires
-    returns-3)
+    returns-4)

@@ -49,14 +49,14 @@ loop-less c = search needs
 
 loop-again : tie.Need-loop-again Inv-loop μ-loop
 loop-again c =
-    at-next _ _ _ (c .before .before .before .before .pre .1) (c .before .before .before .before .pre .2) _ _ _ _ _ (c .before .before .loop .inv) (c .before .loop-test .taken) (omega arith)
+    at-next _ _ _ (c .before .before .before .before .pre .1) _ _ _ _ _ (c .before .before .loop .inv) (c .before .loop-test .taken) (omega arith)
 
 loop-less-2 : tie.Need-loop-less-2 Inv-loop μ-loop
 loop-less-2 c = search needs
 
 loop-again-2 : tie.Need-loop-again-2 Inv-loop μ-loop
 loop-again-2 c =
-    at-next _ _ _ (c .before .before .before .before .pre .1) (c .before .before .before .before .pre .2) _ _ _ _ _ (c .before .before .loop .inv) (c .before .loop-test .taken) (omega arith)
+    at-next _ _ _ (c .before .before .before .before .pre .1) _ _ _ _ _ (c .before .before .loop .inv) (c .before .loop-test .taken) (omega arith)
 
 returns : tie.Need-returns Inv-loop μ-loop
 returns c = at-end _ _ _ _ _ _ _ (c .before .loop .inv) (c .loop-test .left)

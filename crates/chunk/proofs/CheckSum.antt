@@ -1,0 +1,32 @@
+-- The sum that a card's check is made of: bytes that are zero add nothing, so it ends at the last used byte where no unused byte
+-- is set. Assumes nothing.
+use Prim.Native.Nat.{ℕ, _+_, _*_, _≤_, _<_}
+use mathlib.Core.Path.{_≡_, refl, sym, _∙_}
+use mathlib.Core.Bool.{Bool, true, false, not}
+use mathlib.Core.List.{List}
+use borrow.Author.Tests.{eqb-true, not-false}
+use native.Mathlib.Nat.{mul-zero}
+use native.Mathlib.Omega.{arith}
+use lib.Dec.{eqb}
+use Rattle.bits.specs.Sums.{sumBelow, from}
+use Rattle.bits.proofs.Searches.{none-of-any}
+use Rattle.bits.proofs.Sums.{sum-split, sum-zero}
+use Rattle.model.specs.Card.{byte, unusedByteSet}
+
+-- what place p adds
+abbrev pub summand : List ℕ → ℕ → ℕ
+summand b p = (p + 1) * byte b p
+
+-- the sum over all places ends at place `end`
+abbrev pub EndsAt : List ℕ → ℕ → Type 0
+EndsAt b end = (end ≤ 510) × (sumBelow (summand b) 510 ≡ sumBelow (summand b) end)
+
+pub ends-at-all : (b : List ℕ) → EndsAt b 510
+ends-at-all b = (omega arith, refl)
+
+pub ends-at-used : (b : List ℕ) → unusedByteSet b ≡ false → EndsAt b 100
+unfolding unusedByteSet
+ends-at-used b none =
+    let zero : (p : ℕ) → p < 410 → summand b (100 + p) ≡ 0 =
+    λ p h. rw (eqb-true (byte b (100 + p)) 0 (not-false _ (none-of-any (λ i. not (eqb (byte b (100 + i)) 0)) 410 none p h))) (mul-zero _) in
+    (omega arith, omega (arith, sum-split (summand b) 100 410, sum-zero {f = from 100 (summand b)} 410 zero))
