@@ -7,3 +7,4 @@ pub mod Searches
 pub mod Places
 pub mod PackedDistance
 pub mod LowestOne
+pub mod Shifts

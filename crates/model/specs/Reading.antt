@@ -78,10 +78,13 @@ allowedBy C x rule =
     (cond (eqb rule 3) (rule₃ C (chunkReading C (chunk₁ C x)) (chunkReading C (chunk₂ C x)))
     (refusedBy 9)))
 
+-- the rule that a word's separators name
+unfoldable pub ruleNamed : Code → (ℕ → ℕ) → ℕ
+ruleNamed C x = ruleOf (majority (C .D) x) (majority (C .D) (separator₂ C x)) (majority (C .D) (separator₃ C x))
+
 -- what the word's separators and chunks allow
 unfoldable pub allowed : Code → (ℕ → ℕ) → Allowed
-allowed C x =
-    allowedBy C x (ruleOf (majority (C .D) x) (majority (C .D) (separator₂ C x)) (majority (C .D) (separator₃ C x)))
+allowed C x = allowedBy C x (ruleNamed C x)
 
 -- the residual of a position: in how many of all d bits its word is unlike the received word
 unfoldable pub residual : Code → (ℕ → ℕ) → ℕ → ℕ

@@ -25,20 +25,20 @@ use Rattle.position.specs.SearchReady.{BlockWords}
 
 module _ (C : Code) (i : ℕ) (u v w : List ℕ) (at : ℕ) (words : BlockWords C i u v)
     (spare : (p : ℕ) → place u p ≡ cut (wordBits C) (word C i) p) (room : at ≤ wordBits C)
-    (splice : (p : ℕ) → p < 320 → place w p ≡ cond (ltb p at) (place v p) (place u p)) where
+    (splice : (p : ℕ) → place w p ≡ cond (ltb p at) (place v p) (place u p)) where
   below : (p : ℕ) → p < at → place w p ≡ word C (i + 1) p
   below p b =
-      rw (splice p (omega (arith, word-bits-bound C (words .sound))), lt-ltb p at b) (words .new p (omega arith))
+      rw (splice p, lt-ltb p at b) (words .new p (omega arith))
 
-  above : (p : ℕ) → at ≤ p → p < 320 → place w p ≡ place u p
-  above p b l = rw (splice p l, le-ltb p at b)
+  above : (p : ℕ) → at ≤ p → place w p ≡ place u p
+  above p b = rw (splice p, le-ltb p at b)
 
   -- its distance from w(i) counts the steps to it
   pub steps-counted : distance 320 (place u) (place w) ≡ distance at (word C i) (word C (i + 1))
   steps-counted =
       let rest : (m : ℕ) × (at + m ≡ 320) = le-dest (omega (arith, word-bits-bound C (words .sound))) in
       let none : distance (rest .0) (from at (place u)) (from at (place w)) ≡ 0 =
-      distance-ext (rest .0) (λ p b. refl) (λ p b. above (at + p) (omega arith) (omega arith)) ∙ distance-self (rest .0) (from at (place u))
+      distance-ext (rest .0) (λ p b. refl) (λ p b. above (at + p) (omega arith)) ∙ distance-self (rest .0) (from at (place u))
       in
       let steps : distance at (place u) (place w) ≡ distance at (word C i) (word C (i + 1)) =
       distance-ext at (λ p b. words .old p (omega arith)) below
@@ -54,11 +54,11 @@ module _ (C : Code) (i : ℕ) (u v w : List ℕ) (at : ℕ) (words : BlockWords 
       rw (
         cut-below (wordBits C) (wordAt C (start C i + distance at (word C i) (word C (i + 1)))) p b,
         word-passed C (promise C (words .sound)) i (words .inside) at p room b,
-        splice p l,
+        splice p,
         words .old p b,
         words .new p b,
       ))
       (λ (b : wordBits C ≤ p).
       rw (cut-above (wordBits C) (wordAt C (start C i + distance at (word C i) (word C (i + 1)))) p b)
-      (above p (omega arith) l ∙ spare p ∙ cut-above (wordBits C) (word C i) p b))
+      (above p (omega arith) ∙ spare p ∙ cut-above (wordBits C) (word C i) p b))
       (lt-or-le p (wordBits C))

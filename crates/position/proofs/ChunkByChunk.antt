@@ -1,25 +1,18 @@
--- A word built chunk by chunk: a chunk is put down bit by bit on places that are 0, and chunks put down one after the other make
+-- A word built chunk by chunk: a chunk is put down part by part on places that are 0, and chunks put down one after the other make
 -- up a word as far as they go. Assumes nothing.
-use mathlib.Core.Path.{_≡_, sym, _∙_}
+use mathlib.Core.Path.{_≡_, sym, _∙_, fun-ext}
 use mathlib.Core.Logic.{⊎-elim}
-use Prim.Native.Nat.{ℕ, zero, suc, _+_, _-_, _/_, _^_, _≤_, _<_}
+use Prim.Native.Nat.{ℕ, _+_, _^_, _≤_, _<_}
 use native.Mathlib.Nat.{le-dest}
 use native.Mathlib.Omega.{arith}
-use lib.Pow.{pow-pos}
-use Rattle.bits.specs.Sums.{unlike, joinAt}
+use Rattle.bits.specs.Sums.{joinAt}
 use Rattle.bits.specs.Places.{bit, cut}
-use Rattle.bits.proofs.Binary.{bit-lowest, bit-suc}
+use Rattle.bits.proofs.Binary.{bit-high}
 use Rattle.bits.proofs.Distance.{join-left, join-right}
-use Rattle.bits.proofs.Numbers.{lt-or-le, eq-or-ne}
+use Rattle.bits.proofs.Numbers.{lt-or-le}
 use Rattle.bits.proofs.Places.{cut-below, cut-above}
 
--- ---- one chunk, bit by bit
-
-cut-more : (v : ℕ → ℕ) (p k : ℕ) → (k ≡ p → ⊥) → cut (p + 1) v k ≡ cut p v k
-cut-more v p k other =
-    ⊎-elim (λ (l : k < p). cut-below (p + 1) v k (omega arith) ∙ sym (cut-below p v k l))
-    (λ (l : p ≤ k). cut-above (p + 1) v k (omega arith) ∙ sym (cut-above p v k l))
-    (lt-or-le k p)
+-- ---- one chunk, part by part
 
 module _ (at : ℕ) (u v : ℕ → ℕ) where
   -- a joined word is what it is before `at` and from there on
@@ -35,21 +28,40 @@ module _ (at : ℕ) (u v : ℕ → ℕ) where
   chunk-none zeros =
       by-parts (cut 0 v) (λ s l. omega arith) (λ k. zeros (at + k) (omega arith) ∙ sym (cut-above 0 v k (omega arith)))
 
-  -- bit p is put down by turning a 0 where it is 1
-  pub chunk-more : (p : ℕ) {w w′ : ℕ → ℕ} → ((s : ℕ) → w s ≡ joinAt at u (cut p v) s) → v p < 2
-      → w′ (at + p) ≡ unlike (w (at + p)) (v p) → ((s : ℕ) → (s ≡ at + p → ⊥) → w′ s ≡ w s)
-      → (s : ℕ) → w′ s ≡ joinAt at u (cut (p + 1) v) s
-  chunk-more p {w} {w′} so-far one here elsewhere =
-      by-parts (cut (p + 1) v)
-      (λ s l. elsewhere s (omega arith) ∙ so-far s ∙ join-left at u (cut p v) s l)
+  -- bits p to p′ - 1 are put down
+  pub chunk-more : (p p′ : ℕ) {w w′ : ℕ → ℕ} → p ≤ p′ → ((s : ℕ) → w s ≡ joinAt at u (cut p v) s)
+      → ((k : ℕ) → p ≤ k → k < p′ → w′ (at + k) ≡ v k) → ((s : ℕ) → s < at + p → w′ s ≡ w s)
+      → ((s : ℕ) → at + p′ ≤ s → w′ s ≡ w s) → (s : ℕ) → w′ s ≡ joinAt at u (cut p′ v) s
+  chunk-more p p′ {w} {w′} up so-far here before behind =
+      by-parts (cut p′ v)
+      (λ s l. before s (omega arith) ∙ so-far s ∙ join-left at u (cut p v) s l)
       (λ k. ⊎-elim
-      (λ (e : k ≡ p).
-      let free : w (at + p) ≡ 0 = so-far (at + p) ∙ join-right at u (cut p v) p ∙ cut-above p v p (omega arith) in
-      rw (e, here, free, cut-below (p + 1) v p (omega arith)) (omega arith))
-      (λ (ne : k ≡ p → ⊥).
-      elsewhere (at + k) (λ e. ne (omega arith))
-      ∙ so-far (at + k) ∙ join-right at u (cut p v) k ∙ sym (cut-more v p k ne))
-      (eq-or-ne k p))
+      (λ (l : k < p).
+      before (at + k) (omega arith) ∙ so-far (at + k) ∙ join-right at u (cut p v) k
+      ∙ cut-below p v k l ∙ sym (cut-below p′ v k (omega arith)))
+      (λ (l : p ≤ k). ⊎-elim
+      (λ (l′ : k < p′). here k l l′ ∙ sym (cut-below p′ v k l′))
+      (λ (l′ : p′ ≤ k).
+      behind (at + k) (omega arith) ∙ so-far (at + k) ∙ join-right at u (cut p v) k
+      ∙ cut-above p v k l ∙ sym (cut-above p′ v k l′))
+      (lt-or-le k p′))
+      (lt-or-le k p))
+
+  -- behind the bits put down the word is free
+  pub chunk-free : (p : ℕ) {w : ℕ → ℕ} → ((s : ℕ) → w s ≡ joinAt at u (cut p v) s) → (k : ℕ) → p ≤ k → w (at + k) ≡ 0
+  chunk-free p so-far k l = so-far (at + k) ∙ join-right at u (cut p v) k ∙ cut-above p v k l
+
+-- a value of `len` bits has zeros behind them, so as many more may be put down
+pub chunk-whole : (value len p : ℕ) → value < 2 ^ len → len ≤ p → cut p (bit value) ≡ cut len (bit value)
+chunk-whole value len p narrow h =
+    fun-ext
+    (λ k. ⊎-elim
+    (λ (l : k < len). cut-below p (bit value) k (omega arith) ∙ sym (cut-below len (bit value) k l))
+    (λ (l : len ≤ k). ⊎-elim
+    (λ (l′ : k < p). cut-below p (bit value) k l′ ∙ bit-high value len k narrow l ∙ sym (cut-above len (bit value) k l))
+    (λ (l′ : p ≤ k). cut-above p (bit value) k l′ ∙ sym (cut-above len (bit value) k l))
+    (lt-or-le k p))
+    (lt-or-le k len))
 
 -- ---- chunk after chunk
 
@@ -71,13 +83,3 @@ chunk-appended at len u {w} {v} {r} so-far chunk put p =
         (λ (l : k < len). cut-below len v k l ∙ chunk k l ∙ sym (cut-below (at + len) u (at + k) (omega arith)))
         (λ (l : len ≤ k). cut-above len v k l ∙ sym (cut-above (at + len) u (at + k) (omega arith)))
         (lt-or-le k len)
-
--- ---- separators
-
--- each of the n bits of 2^n - 1 is 1
-pub bit-all-ones : (n p : ℕ) → p < n → bit (2 ^ n - 1) p ≡ 1
-bit-all-ones zero p h = absurd (omega arith)
-bit-all-ones (suc n) zero h = bit-lowest (2 ^ suc n - 1) ∙ (omega (arith, pow-pos n))
-bit-all-ones (suc n) (suc p) h =
-    let half : (2 ^ suc n - 1) / 2 ≡ 2 ^ n - 1 = omega (arith, pow-pos n) in
-    bit-suc (2 ^ suc n - 1) p ∙ rw half (bit-all-ones n p (omega arith))

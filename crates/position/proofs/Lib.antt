@@ -1,10 +1,11 @@
 pub mod StartSum
-pub mod ShiftIn
+pub mod GatheredBits
 pub mod Scanning
 pub mod Passing
 pub mod NearestSearch
 pub mod TurnedPlaces
 pub mod ChunkByChunk
+pub mod FilledByte
 pub mod ByteDistance
 pub mod ZeroBytes
 pub mod WordChunks
@@ -16,3 +17,4 @@ pub mod RuleRanges
 pub mod UnreadableChunk
 pub mod SeparatorRules
 pub mod SpareBits
+pub mod ReadRefusals

@@ -4,37 +4,21 @@ use mathlib.Core.Path.{_≡_, refl, sym}
 use mathlib.Core.Bool.{cond}
 use mathlib.Core.List.{List}
 use mathlib.Core.Logic.{⊎-elim}
-use Prim.Native.Nat.{ℕ, suc, _+_, _-_, _*_, _/_, _%_, _^_, _≤_, _<_, min}
-use native.Mathlib.Nat.{le-dest, mod-lt, mul-assoc, div-lt-iff-lt-mul, eq-or-lt-of-le}
+use Prim.Native.Nat.{ℕ, _+_, _-_, _*_, _/_, _%_, _^_, _≤_, _<_}
+use native.Mathlib.Nat.{le-dest, mod-lt, div-lt-iff-lt-mul}
 use native.Mathlib.Omega.{arith}
-use lib.Bits.{bitXor, xor-shifted, shifted-even}
+use lib.Bits.{bitXor, xor-shifted}
 use lib.Dec.{ltb}
 use lib.ListN.{length, getD, set}
-use lib.Pow.{pow-pos, pow-add, shr-lt, shr-shr, shl-shr, high, field, mod-mod-pow}
+use lib.Pow.{pow-pos, pow-add, shr-lt, shr-shr, high}
 use lib.Seq.{getD-set-same, getD-set-other}
 use borrow.Author.Tests.{lt-ltb, le-ltb}
 use Rattle.bits.specs.Places.{bit, place}
-use Rattle.bits.proofs.Numbers.{lt-or-le}
-use Rattle.bits.proofs.Binary.{bit-bit, bit-high, bit-xor}
+use Rattle.bits.proofs.Numbers.{lt-or-le, eq-or-ne}
+use Rattle.bits.proofs.Binary.{bit-bit, bit-xor}
+use Rattle.bits.proofs.Shifts.{moved-below, moved-above, cut-kept, cut-off}
 
 module _ (q : ℕ) where
-  -- the places below q of a number that is moved up by q are 0, and from q on they are the number's
-  moved-below : (h p : ℕ) → p < q → bit (h * 2 ^ q) p ≡ 0
-  moved-below h p b =
-      let rest = le-dest b in
-      let apart : q ≡ suc (rest .0) + p = omega arith in
-      rw (apart, pow-add 2 (suc (rest .0)) p, ← (mul-assoc h (2 ^ suc (rest .0)) (2 ^ p)), shl-shr (h * 2 ^ suc (rest .0)) p) (shifted-even h (rest .0))
-
-  moved-above : (h s : ℕ) → bit (h * 2 ^ q) (q + s) ≡ bit h s
-  moved-above h s = rw (← (shr-shr (h * 2 ^ q) q s), shl-shr h q)
-
-  -- the places below q of a remainder by 2^q are the number's
-  cut-kept : (x p : ℕ) → p < q → bit (x % 2 ^ q) p ≡ bit x p
-  cut-kept x p b =
-      let rest = le-dest b in
-      let apart : q ≡ rest .0 + 1 + p = omega arith in
-      rw (apart, field x (rest .0 + 1) p) (mod-mod-pow (x / 2 ^ p) (rest .0) 1)
-
   mixed-is : (x y : ℕ) → y / 2 ^ q * 2 ^ q + x % 2 ^ q ≡ bitXor (y / 2 ^ q * 2 ^ q) (x % 2 ^ q)
   mixed-is x y = sym (xor-shifted (y / 2 ^ q) q (x % 2 ^ q) (mod-lt x (pow-pos q)))
 
@@ -42,17 +26,17 @@ module _ (q : ℕ) where
   mixed-bits x y p =
       ⊎-elim
       (λ (b : p < q).
-      rw (mixed-is x y, bit-xor (y / 2 ^ q * 2 ^ q) (x % 2 ^ q) p, moved-below (y / 2 ^ q) p b, cut-kept x p b, lt-ltb p q b)
+      rw (mixed-is x y, bit-xor (y / 2 ^ q * 2 ^ q) (x % 2 ^ q) p, moved-below q (y / 2 ^ q) p b, cut-kept q x p b, lt-ltb p q b)
       (omega (arith, bit-bit x p)))
       (λ (b : q ≤ p).
       let rest = le-dest b in
       rw (
         mixed-is x y,
         bit-xor (y / 2 ^ q * 2 ^ q) (x % 2 ^ q) p,
-        bit-high (x % 2 ^ q) q p (mod-lt x (pow-pos q)) b,
+        cut-off q x p b,
         le-ltb p q b,
         ← (rest .1),
-        moved-above (y / 2 ^ q) (rest .0),
+        moved-above q (y / 2 ^ q) (rest .0),
         shr-shr y q (rest .0),
       ) (omega (arith, bit-bit y (q + rest .0))))
       (lt-or-le p q)
@@ -67,22 +51,41 @@ module _ (q : ℕ) where
       in
       rw (← (pow-add 2 (rest .0) q), ← eight) at whole
 
--- one byte more of a word that is v below place at, and u from there on
-pub splice-more : (u v word : List ℕ) (at j b : ℕ) → j < length word
-    → ((p : ℕ) → p < 8 * j → place word p ≡ cond (ltb p at) (place v p) (place u p))
-    → ((q : ℕ) → q < 8 → bit b q ≡ cond (ltb q (min 8 (at - 8 * j))) (bit (getD v j 0) q) (bit (getD u j 0) q))
-    → (p : ℕ) → p < 8 * (j + 1) → place (set word j b) p ≡ cond (ltb p at) (place v p) (place u p)
+-- a word that is v below place `at`, and u from there on
+abbrev pub Spliced : (u v word : List ℕ) (at : ℕ) → Type 0
+Spliced u v word at = (p : ℕ) → place word p ≡ cond (ltb p at) (place v p) (place u p)
+
+pub spliced-none : (u v : List ℕ) → Spliced u v u 0
+spliced-none u v p = rw (le-ltb p 0 (omega arith))
+
+-- one byte more, of which the bits below q are v's
+pub spliced-more : (u v word : List ℕ) (j q b : ℕ) → j < length word → q ≤ 8 → Spliced u v word (8 * j)
+    → ((r : ℕ) → r < 8 → bit b r ≡ cond (ltb r q) (bit (getD v j 0) r) (bit (getD u j 0) r)) → Spliced u v (set word j b) (8 * j + q)
 unfolding place
-splice-more u v word at j b h old new p l =
+spliced-more u v word j q b h eight old new p =
     ⊎-elim
     (λ (e : p / 8 ≡ j).
     rw (e, getD-set-same word j b 0 h, new (p % 8) (omega arith), same-side e) refl)
-    (λ (l′ : p / 8 < j). rw (getD-set-other word j (p / 8) b 0 (λ e. omega arith)) (old p (omega arith)))
-    (eq-or-lt-of-le {n = p / 8} {m = j} (omega arith))
+    (λ (ne : p / 8 ≡ j → ⊥). rw (getD-set-other word j (p / 8) b 0 ne, other-side ne) (old p))
+    (eq-or-ne (p / 8) j)
   where
-    same-side : p / 8 ≡ j → ltb (p % 8) (min 8 (at - 8 * j)) ≡ ltb p at
+    same-side : p / 8 ≡ j → ltb (p % 8) q ≡ ltb p (8 * j + q)
     same-side e =
         ⊎-elim
-        (λ (b : p < at). rw (lt-ltb p at b, lt-ltb (p % 8) (min 8 (at - 8 * j)) (omega arith)))
-        (λ (b : at ≤ p). rw (le-ltb p at b, le-ltb (p % 8) (min 8 (at - 8 * j)) (omega arith)))
-        (lt-or-le p at)
+        (λ (l : p % 8 < q). rw (lt-ltb (p % 8) q l, lt-ltb p (8 * j + q) (omega arith)))
+        (λ (l : q ≤ p % 8). rw (le-ltb (p % 8) q l, le-ltb p (8 * j + q) (omega arith)))
+        (lt-or-le (p % 8) q)
+
+    other-side : (p / 8 ≡ j → ⊥) → ltb p (8 * j + q) ≡ ltb p (8 * j)
+    other-side ne =
+        ⊎-elim
+        (λ (l : p < 8 * j). rw (lt-ltb p (8 * j) l, lt-ltb p (8 * j + q) (omega arith)))
+        (λ (l : 8 * j ≤ p). rw (le-ltb p (8 * j) l, le-ltb p (8 * j + q) (omega arith)))
+        (lt-or-le p (8 * j))
+
+-- a whole byte of v
+pub spliced-whole : (u v word : List ℕ) (j : ℕ) → j < length word → Spliced u v word (8 * j)
+    → Spliced u v (set word j (getD v j 0)) (8 * (j + 1))
+spliced-whole u v word j h old =
+    let next : 8 * (j + 1) ≡ 8 * j + 8 = omega arith in
+    rw next (spliced-more u v word j 8 (getD v j 0) h (omega arith) old (λ r l. rw (lt-ltb r 8 l)))

@@ -5,26 +5,25 @@ use native.Mathlib.Nat.{zero-add}
 use borrow.Author.Tests.{eq-eqb, ne-eqb}
 use Rattle.bits.specs.Sums.{from}
 use Rattle.model.specs.Card.{Code}
-use Rattle.model.specs.Reading.{majority, chunkReading, chunk₁, separator₂, chunk₂, separator₃, ruleOf, rule₁, rule₂, rule₃, allowedBy, allowed, nearest, reading}
-use Rattle.model.specs.declared.ReadAnswer.the-variants.{Refused}
+use Rattle.model.specs.Reading.{majority, separator₂, separator₃, ruleOf, ruleNamed}
 
 -- what starts at place 0 is the whole
 pub from-zero : (x : ℕ → ℕ) → from 0 x ≡ x
 from-zero x = fun-ext (λ p. ap x (zero-add p))
 
 module _ (C : Code) (x : ℕ → ℕ) (s₁ s₂ s₃ : ℕ) (h₁ : s₁ ≡ majority (C .D) x) (h₂ : s₂ ≡ majority (C .D) (separator₂ C x)) (h₃ : s₃ ≡ majority (C .D) (separator₃ C x)) where
-  pub reads-by-rule₃ : s₁ ≡ s₂ → s₂ ≡ s₃ → reading C x ≡ nearest C x (rule₃ C (chunkReading C (chunk₁ C x)) (chunkReading C (chunk₂ C x)))
-  unfolding reading allowed ruleOf allowedBy
-  reads-by-rule₃ e e′ = rw (← h₁, ← h₂, ← h₃, eq-eqb s₁ s₂ e, eq-eqb s₂ s₃ e′)
+  pub names-rule₃ : s₁ ≡ s₂ → s₂ ≡ s₃ → 3 ≡ ruleNamed C x
+  unfolding ruleNamed ruleOf
+  names-rule₃ e e′ = rw (← h₁, ← h₂, ← h₃, eq-eqb s₁ s₂ e, eq-eqb s₂ s₃ e′)
 
-  pub reads-by-rule₁ : s₁ ≡ s₂ → (s₂ ≡ s₃ → ⊥) → reading C x ≡ nearest C x (rule₁ C (chunkReading C (chunk₁ C x)))
-  unfolding reading allowed ruleOf allowedBy
-  reads-by-rule₁ e ne = rw (← h₁, ← h₂, ← h₃, eq-eqb s₁ s₂ e, ne-eqb s₂ s₃ ne)
+  pub names-rule₁ : s₁ ≡ s₂ → (s₂ ≡ s₃ → ⊥) → 1 ≡ ruleNamed C x
+  unfolding ruleNamed ruleOf
+  names-rule₁ e ne = rw (← h₁, ← h₂, ← h₃, eq-eqb s₁ s₂ e, ne-eqb s₂ s₃ ne)
 
-  pub reads-by-rule₂ : (s₁ ≡ s₂ → ⊥) → s₂ ≡ s₃ → reading C x ≡ nearest C x (rule₂ C (chunkReading C (chunk₂ C x)))
-  unfolding reading allowed ruleOf allowedBy
-  reads-by-rule₂ ne e = rw (← h₁, ← h₂, ← h₃, ne-eqb s₁ s₂ ne, eq-eqb s₂ s₃ e)
+  pub names-rule₂ : (s₁ ≡ s₂ → ⊥) → s₂ ≡ s₃ → 2 ≡ ruleNamed C x
+  unfolding ruleNamed ruleOf
+  names-rule₂ ne e = rw (← h₁, ← h₂, ← h₃, ne-eqb s₁ s₂ ne, eq-eqb s₂ s₃ e)
 
-  pub reads-by-none : (s₁ ≡ s₂ → ⊥) → (s₂ ≡ s₃ → ⊥) → reading C x ≡ Refused 9
-  unfolding reading allowed ruleOf allowedBy nearest
-  reads-by-none ne ne′ = rw (← h₁, ← h₂, ← h₃, ne-eqb s₁ s₂ ne, ne-eqb s₂ s₃ ne′)
+  pub names-none : (s₁ ≡ s₂ → ⊥) → (s₂ ≡ s₃ → ⊥) → 0 ≡ ruleNamed C x
+  unfolding ruleNamed ruleOf
+  names-none ne ne′ = rw (← h₁, ← h₂, ← h₃, ne-eqb s₁ s₂ ne, ne-eqb s₂ s₃ ne′)

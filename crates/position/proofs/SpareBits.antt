@@ -1,6 +1,6 @@
 -- The spare bits of a received word, by a count of ones. Assumes nothing.
-use mathlib.Core.Path.{_≡_, refl, _∙_}
-use mathlib.Core.Bool.{Bool, true, false}
+use mathlib.Core.Path.{_≡_, refl, sym, _∙_}
+use mathlib.Core.Bool.{Bool, true, false, not}
 use mathlib.Core.List.{List}
 use mathlib.Core.Logic.{⊎-elim}
 use Prim.Native.Nat.{ℕ, _+_, _-_, _*_, _/_, _≤_, _<_}
@@ -8,10 +8,10 @@ use native.Mathlib.Nat.{le-dest, zero-div}
 use native.Mathlib.Omega.{arith}
 use lib.Dec.{eqb}
 use lib.ListN.{length, List·getD-eq-default}
-use borrow.Author.Tests.{eqb-false, ne-eqb}
+use borrow.Author.Tests.{eqb-false, eq-eqb, ne-eqb}
 use Rattle.bits.specs.Sums.{sumBelow, from}
 use Rattle.bits.specs.Places.{place}
-use Rattle.bits.proofs.Numbers.{lt-or-le}
+use Rattle.bits.proofs.Numbers.{lt-or-le, eq-or-ne}
 use Rattle.bits.proofs.Sums.{summand-le, sum-zero}
 use Rattle.bits.proofs.Searches.{any-none, none-of-any}
 use Rattle.bits.proofs.Places.{place-bit}
@@ -27,32 +27,39 @@ past-end l p h =
     let past : length l ≤ p / 8 = omega arith in rw (List·getD-eq-default l 0 past, zero-div) refl
 
 module _ (C : Code) (received x : List ℕ) (same : (p : ℕ) → place x p ≡ place received p) where
-  pub spare-none : sumBelow (from (wordBits C) (place x)) (8 * wordLength C - wordBits C) ≡ 0 → spareSet C received ≡ false
+  spare-none : sumBelow (from (wordBits C) (place x)) (8 * wordLength C - wordBits C) ≡ 0 → spareSet C received ≡ false
   unfolding spareSet
   spare-none e =
       any-none _ _ (λ q b. ne-eqb (place received (wordBits C + q)) 1 (λ (one : place received (wordBits C + q) ≡ 1).
       omega (arith, summand-le (from (wordBits C) (place x)) (8 * wordLength C - wordBits C) q b, same (wordBits C + q))))
 
-  pub spare-some : (sumBelow (from (wordBits C) (place x)) (8 * wordLength C - wordBits C) ≡ 0 → ⊥) → spareSet C received ≡ true
+  none-set : spareSet C received ≡ false → (q : ℕ) → q < 8 * wordLength C - wordBits C → place x (wordBits C + q) ≡ 0
+  unfolding spareSet
+  none-set f q b =
+      let not-one = eqb-false (place received (wordBits C + q)) 1 (none-of-any (λ q. eqb (place received (wordBits C + q)) 1) _ f q b) in
+      omega (arith, same (wordBits C + q), place-bit received (wordBits C + q), not-one)
+
+  spare-some : (sumBelow (from (wordBits C) (place x)) (8 * wordLength C - wordBits C) ≡ 0 → ⊥) → spareSet C received ≡ true
   unfolding spareSet
   spare-some ne = by-test (spareSet C received) refl
     where
-      none-set : spareSet C received ≡ false → (q : ℕ) → q < 8 * wordLength C - wordBits C → place x (wordBits C + q) ≡ 0
-      none-set f q b =
-          let not-one = eqb-false (place received (wordBits C + q)) 1 (none-of-any (λ q. eqb (place received (wordBits C + q)) 1) _ f q b) in
-          omega (arith, same (wordBits C + q), place-bit received (wordBits C + q), not-one)
-
       by-test : (t : Bool) → spareSet C received ≡ t → spareSet C received ≡ true
       by-test true e = e
       by-test false e = absurd (ne (sum-zero _ (none-set e)))
 
-  pub nothing-spare : length received ≡ wordLength C → sumBelow (from (wordBits C) (place x)) (8 * wordLength C - wordBits C) ≡ 0
-      → NothingSpare C x
-  unfolding NothingSpare
-  nothing-spare h e p l =
+  -- the test of a count of ones
+  pub spare-test : (ones : ℕ) → ones ≡ sumBelow (from (wordBits C) (place x)) (8 * wordLength C - wordBits C)
+      → not (eqb ones 0) ≡ spareSet C received
+  spare-test ones is =
       ⊎-elim
-      (λ (b : p < 8 * wordLength C).
-      let rest = le-dest l in
-      rw (← (rest .1)) (omega (arith, summand-le (from (wordBits C) (place x)) (8 * wordLength C - wordBits C) (rest .0) (omega arith))))
+      (λ (none : ones ≡ 0). rw (eq-eqb ones 0 none, spare-none (sym is ∙ none)))
+      (λ (some : ones ≡ 0 → ⊥). rw (ne-eqb ones 0 some, spare-some (λ e. some (is ∙ e))))
+      (eq-or-ne ones 0)
+
+  pub nothing-spare : length received ≡ wordLength C → spareSet C received ≡ false → NothingSpare C x
+  unfolding NothingSpare
+  nothing-spare h none p l =
+      ⊎-elim
+      (λ (b : p < 8 * wordLength C). let rest = le-dest l in rw (← (rest .1)) (none-set none (rest .0) (omega arith)))
       (λ (b : 8 * wordLength C ≤ p). same p ∙ past-end received p (omega arith))
       (lt-or-le p (8 * wordLength C))

@@ -12,3 +12,4 @@ pub record LayoutOf (C : Code) (l : Layout) : Type 0 where
   pub separator₃-at : l .separator3 ≡ C .D + C .n + C .D + C .n
   pub bits-are : l .bits ≡ wordBits C
   pub fits : wordBits C ≤ 320
+  pub separator-fits : C .D ≤ 64

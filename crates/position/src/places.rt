@@ -1,6 +1,6 @@
 // Places of a word that is held as [u8; 40]: one bit, a count of ones, the reading of a separator, a code chunk as a number.
 ghost use mathlib.Core.Path.{_≡_};
-ghost use Prim.Native.Nat.{ℕ, _+_, _^_, _≤_, _<_};
+ghost use Prim.Native.Nat.{ℕ, _+_, _-_, _*_, _/_, _%_, _^_, _≤_, _<_};
 ghost use Rattle.bits.specs.Sums.{sumBelow, from};
 ghost use Rattle.bits.specs.Places.{bit, place};
 ghost use Rattle.model.specs.Reading.{majority};
@@ -14,23 +14,52 @@ pub fn bit_at(w: &[u8; 40], p: u32) -> u32
     ((w[j] >> (p % 8)) % 2) as u32
 }
 
+// The number whose lowest n bits are 1 and no other.
+pub fn low_bits(n: u32) -> u64
+    requires { ⌜ n ≤ 64 ⌝ }
+    ensures { λ r. ⌜ r ≡ 2 ^ n - 1 ⌝ }
+{
+    if n == 0 {
+        return 0;
+    }
+    u64::MAX >> (64 - n)
+}
+
+// The bits of a byte from bit q on, moved up to bit `to` of a number.
+fn moved_to(byte: u8, q: u32, to: u32) -> u64
+    requires { ⌜ (q < 8) × (to < 64) ⌝ }
+    ensures { λ r. ⌜ (r ≡ byte / 2 ^ q * 2 ^ to % 2 ^ 64) × (byte < 2 ^ 8) ⌝ }
+{
+    ((byte >> q) as u64) << to
+}
+
+// The n bits from place `at` on as a number: a code chunk, say. Each turn takes the rest of a byte.
+pub fn chunk_at(w: &[u8; 40], at: u32, n: u32) -> u64
+    requires { ⌜ (at + n ≤ 320) × (n ≤ 64) ⌝ }
+    ensures { λ r. ⌜ (r < 2 ^ n) × ((p : ℕ) → p < n → bit r p ≡ place (now (w .entry)) (at + p)) ⌝ }
+{
+    let mut value: u64 = 0;
+    let mut p: u32 = 0;
+    while p < n {
+        let q = at + p;
+        let j = (q / 8) as usize;
+        value ^= moved_to(w[j], q % 8, p);
+        p += 8 - q % 8;
+    }
+    value & low_bits(n)
+}
+
 // How many of the `len` bits from place `at` on are 1.
 pub fn ones_between(w: &[u8; 40], at: u32, len: u32) -> u32
-    requires { ⌜ at + len ≤ 320 ⌝ }
+    requires { ⌜ (at + len ≤ 320) × (len ≤ 64) ⌝ }
     ensures { λ r. ⌜ (r ≡ sumBelow (from at (place (now (w .entry)))) len) × (r ≤ len) ⌝ }
 {
-    let mut ones: u32 = 0;
-    let mut p: u32 = 0;
-    while p < len {
-        ones += bit_at(w, at + p);
-        p += 1;
-    }
-    ones
+    u64::count_ones(chunk_at(w, at, len))
 }
 
 // What the separator of `distance` bits from place `at` on reads: 1 if more than half its bits are 1, else 0.
 pub fn separator_at(w: &[u8; 40], at: u32, distance: u32) -> u32
-    requires { ⌜ at + distance ≤ 320 ⌝ }
+    requires { ⌜ (at + distance ≤ 320) × (distance ≤ 64) ⌝ }
     ensures { λ r. ⌜ (r ≡ majority distance (from at (place (now (w .entry))))) × (r < 2) ⌝ }
 {
     if distance < 2 * ones_between(w, at, distance) {
@@ -38,18 +67,4 @@ pub fn separator_at(w: &[u8; 40], at: u32, distance: u32) -> u32
     } else {
         0
     }
-}
-
-// The code chunk of n bits from place `at` on, as a number.
-pub fn chunk_at(w: &[u8; 40], at: u32, n: u32) -> u64
-    requires { ⌜ (at + n ≤ 320) × (n ≤ 64) ⌝ }
-    ensures { λ r. ⌜ (r < 2 ^ n) × ((p : ℕ) → p < n → bit r p ≡ place (now (w .entry)) (at + p)) ⌝ }
-{
-    let mut value: u64 = 0;
-    let mut p = n;
-    while 0 < p {
-        p -= 1;
-        value = value * 2 + bit_at(w, at + p) as u64;
-    }
-    value
 }

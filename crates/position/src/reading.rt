@@ -7,7 +7,7 @@ ghost use Rattle.model.specs.Answers.{readWord};
 ghost use Rattle.model.specs.Decoded.{meaning};
 ghost use Rattle.model.specs.Order.{lastCodeword, changedWeight, start, lastPosition};
 ghost use Rattle.model.specs.Words.{wordBits, word};
-ghost use Rattle.model.specs.Reading.{chunkReading, chunk₁, chunk₂, fromTo, rule₁, rule₂, rule₃, residual, nearest, reading};
+ghost use Rattle.model.specs.Reading.{chunkReading, chunk₁, chunk₂, fromTo, rule₁, rule₂, rule₃, allowedBy, ruleNamed, residual, nearest};
 ghost use Rattle.code_theory.specs.Promise.{Sound};
 ghost use Rattle.position.specs.Received.{NothingSpare, Begun};
 ghost use Rattle.position.specs.Scanned.{Scanned};
@@ -19,6 +19,7 @@ use super::scan;
 use super::scan::Scan;
 use super::splice;
 use super::words;
+use chunk::refusal;
 use chunk::search;
 use model::Chunk;
 use model::DecodedCode;
@@ -186,10 +187,24 @@ fn by_rule3(code: DecodedCode, x: [u8; 40]) -> ReadAnswer
     nearest_around(code, x, first)
 }
 
-// The reading of a word whose spare bits are zero: the separators name the rule.
-fn read_places(code: DecodedCode, x: [u8; 40]) -> ReadAnswer
-    requires { ⌜ Sound (meaning code) × NothingSpare (meaning code) x ⌝ }
-    ensures { λ r. ⌜ r ≡ reading (meaning code) (place x) ⌝ }
+// What the rule with this number answers.
+fn by_rule(code: DecodedCode, x: [u8; 40], rule: u32) -> ReadAnswer
+    requires { ⌜ Sound (meaning code) × NothingSpare (meaning code) x × (1 ≤ rule) × (rule ≤ 3) ⌝ }
+    ensures { λ r. ⌜ r ≡ nearest (meaning code) (place x) (allowedBy (meaning code) (place x) rule) ⌝ }
+{
+    if rule == 1 {
+        return by_rule1(code, x);
+    }
+    if rule == 2 {
+        return by_rule2(code, x);
+    }
+    by_rule3(code, x)
+}
+
+// The number of the rule that the separators name: 1 for b b c, 2 for b c c, 3 for b b b, and 0 for b c b.
+fn named_rule(code: DecodedCode, x: [u8; 40]) -> u32
+    requires { ⌜ Sound (meaning code) ⌝ }
+    ensures { λ r. ⌜ (r ≡ ruleNamed (meaning code) (place x)) × (r ≤ 3) ⌝ }
 {
     let at = layout::layout_of(code);
     let s1 = places::separator_at(&x, 0, code.distance);
@@ -197,14 +212,14 @@ fn read_places(code: DecodedCode, x: [u8; 40]) -> ReadAnswer
     let s3 = places::separator_at(&x, at.separator3, code.distance);
     if s1 == s2 {
         if s2 == s3 {
-            return by_rule3(code, x);
+            return 3;
         }
-        return by_rule1(code, x);
+        return 1;
     }
     if s2 == s3 {
-        return by_rule2(code, x);
+        return 2;
     }
-    ReadAnswer::Refused(9)
+    0
 }
 
 // The reading of a received word, of any length.
@@ -218,8 +233,12 @@ pub fn read(code: DecodedCode, word: &[u8]) -> ReadAnswer
         return ReadAnswer::Refused(6);
     }
     let x = words::received(word);
-    if places::ones_between(&x, bits, 8 * len - bits) != 0 {
-        return ReadAnswer::Refused(8);
+    let rule = named_rule(code, x);
+    let spare = refusal::refusal_if(places::ones_between(&x, bits, 8 * len - bits) != 0, 8);
+    let unnamed = refusal::refusal_if(rule == 0, 9);
+    let refusal = refusal::first_of(spare, unnamed);
+    if refusal != 0 {
+        return ReadAnswer::Refused(refusal);
     }
-    read_places(code, x)
+    by_rule(code, x, rule)
 }

@@ -14,6 +14,7 @@ ghost use Rattle.model.specs.Order.{lastCodeword, lastPosition};
 ghost use Rattle.model.specs.Words.{wordBits, word, wordAt, wordBytes};
 ghost use Rattle.code_theory.specs.Promise.{Sound};
 use super::blocks;
+use super::places;
 use chunk::codeword;
 use model::DecodedCode;
 
@@ -25,17 +26,17 @@ fn turned(byte: u8, q: u32, by: u8) -> u8
     byte ^ (by << q)
 }
 
-// Bit q of a value of 64 bits.
-fn bit_of(value: u64, q: u32) -> u8
-    requires { ⌜ q < 64 ⌝ }
-    ensures { λ r. ⌜ (r ≡ bit value q) × (r < 2) ⌝ }
+// The lowest bits of a value moved up to bit q of a byte; what lies above the byte is left out.
+fn moved_up(value: u64, q: u32) -> u8
+    requires { ⌜ q < 8 ⌝ }
+    ensures { λ r. ⌜ r ≡ value * 2 ^ q % 2 ^ 8 ⌝ }
 {
-    ((value >> q) % 2) as u8
+    ((value << q) % 256) as u8
 }
 
-// The word with one more chunk: the first `len` bits of `value` from place `at` on.
+// The word with one more chunk: the `len` bits of `value` from place `at` on. Each turn fills the rest of a byte.
 fn put_chunk(before: [u8; 40], at: u32, len: u32, value: u64) -> [u8; 40]
-    requires { ⌜ (at + len ≤ 320) × (len ≤ 64) × ((p : ℕ) → at ≤ p → place before p ≡ 0) ⌝ }
+    requires { ⌜ (at + len ≤ 320) × (len ≤ 64) × (value < 2 ^ len) × ((p : ℕ) → at ≤ p → place before p ≡ 0) ⌝ }
     ensures { λ r. ⌜ ((p : ℕ) → place r p ≡ joinAt at (place before) (cut len (bit value)) p) ⌝ }
 {
     let mut word = before;
@@ -43,20 +44,21 @@ fn put_chunk(before: [u8; 40], at: u32, len: u32, value: u64) -> [u8; 40]
     while p < len {
         let q = at + p;
         let j = (q / 8) as usize;
-        word[j] = turned(word[j], q % 8, bit_of(value, p));
-        p += 1;
+        word[j] ^= moved_up(value >> p, q % 8);
+        p += 8 - q % 8;
     }
     word
 }
 
 // The bits of a separator: each the parity of i.
-fn separator(i: u32) -> u64
-    ensures { λ r. ⌜ ((p : ℕ) → p < 64 → bit r p ≡ i % 2) ⌝ }
+fn separator(i: u32, distance: u32) -> u64
+    requires { ⌜ distance ≤ 64 ⌝ }
+    ensures { λ r. ⌜ (r < 2 ^ distance) × ((p : ℕ) → p < distance → bit r p ≡ i % 2) ⌝ }
 {
     if i % 2 == 0 {
         return 0;
     }
-    u64::MAX
+    places::low_bits(distance)
 }
 
 // w(i), built chunk by chunk.
@@ -66,7 +68,7 @@ pub fn word_of(code: DecodedCode, i: u32) -> [u8; 40]
 {
     let n = code.n;
     let d = code.distance;
-    let parity = separator(i);
+    let parity = separator(i, d);
     let c = codeword::codeword(code, i);
     let at2 = d + n;
     let at3 = at2 + d;

@@ -10,7 +10,7 @@ use lib.Dec.{eqb}
 use borrow.Author.Tests.{eqb-false}
 use Rattle.model.specs.Card.{Code}
 use Rattle.model.specs.Order.{lastCodeword, changedWeight, start, lastPosition}
-use Rattle.model.specs.Reading.{majority, ruleOf, chunkReading, chunk₁, separator₂, chunk₂, separator₃, Allowed, fromTo, refusedBy, rule₁, rule₂, rule₃, allowedBy, allowed}
+use Rattle.model.specs.Reading.{ruleNamed, chunkReading, chunk₁, separator₂, chunk₂, separator₃, Allowed, fromTo, refusedBy, rule₁, rule₂, rule₃, allowedBy, allowed}
 use Rattle.model.specs.declared.Chunk.{Chunk}
 use Rattle.model.specs.declared.Chunk.the-variants.{Codeword, Unreadable}
 use Rattle.code_theory.specs.Promise.{ChunkPromise}
@@ -84,7 +84,7 @@ module _ (C : Code) (promise : ChunkPromise C) where
   allowed-good x = by-rule (eqb rule 1) (eqb rule 2) (eqb rule 3)
     where
       rule : ℕ
-      rule = ruleOf (majority (C .D) x) (majority (C .D) (separator₂ C x)) (majority (C .D) (separator₃ C x))
+      rule = ruleNamed C x
 
       codeword-of : (chunk : ℕ → ℕ) (p e : ℕ) → chunkReading C chunk ≡ Codeword p e → p ≤ lastCodeword C
       codeword-of chunk p e r = promise .chunks .within chunk p e r .0

@@ -13,7 +13,7 @@ use Rattle.bits.specs.Sums.{sumBelow}
 use Rattle.bits.proofs.Numbers.{lt-or-le, eq-or-ne}
 use Rattle.model.specs.Card.{Code}
 use Rattle.model.specs.Order.{lastCodeword, changedWeight, blockLength, start, lastPosition}
-use Rattle.model.specs.Reading.{majority, ruleOf, chunk₁, separator₂, chunk₂, separator₃, fromTo, rule₁, rule₂, rule₃, allowedBy, allowed}
+use Rattle.model.specs.Reading.{majority, ruleOf, ruleNamed, chunk₁, separator₂, chunk₂, separator₃, fromTo, rule₁, rule₂, rule₃, allowedBy, allowed}
 use Rattle.code_theory.specs.Promise.{ChunkPromise}
 use Rattle.position_theory.specs.Ranges.{Allows}
 use Rattle.position_theory.specs.WholeChunks.{ReadsAs, WholeChunksRead}
@@ -32,21 +32,21 @@ module _ (C : Code) (x : ℕ → ℕ) (b c : ℕ) where
   allowed₁ : (p : ℕ) → majority (C .D) x ≡ b → majority (C .D) (separator₂ C x) ≡ b → majority (C .D) (separator₃ C x) ≡ c
       → (b ≡ c → ⊥) → ReadsAs C (chunk₁ C x) (p + 1)
       → allowed C x ≡ fromTo 1 (start C p + C .D + changedWeight C p) (start C (p + 1))
-  unfolding allowed ruleOf allowedBy rule₁ ReadsAs
+  unfolding allowed ruleNamed ruleOf allowedBy rule₁ ReadsAs
   allowed₁ p h₁ h₂ h₃ ne r =
       simp (h₁, h₂, h₃, eq-eqb b b refl, ne-eqb b c ne, r .1, ne-eqb (p + 1) 0 (omega arith), add-sub-cancel)
 
   allowed₂ : (p : ℕ) → majority (C .D) x ≡ b → majority (C .D) (separator₂ C x) ≡ c → majority (C .D) (separator₃ C x) ≡ c
       → (b ≡ c → ⊥) → ReadsAs C (chunk₂ C x) p → p < lastCodeword C
       → allowed C x ≡ fromTo 2 (start C p) (start C p + 2 * C .D + changedWeight C p)
-  unfolding allowed ruleOf allowedBy rule₂ ReadsAs
+  unfolding allowed ruleNamed ruleOf allowedBy rule₂ ReadsAs
   allowed₂ p h₁ h₂ h₃ ne r l =
       simp (h₁, h₂, h₃, eq-eqb c c refl, ne-eqb b c ne, r .1, ne-eqb p (lastCodeword C) (omega arith))
 
   allowed₃ : (p : ℕ) → majority (C .D) x ≡ b → majority (C .D) (separator₂ C x) ≡ b → majority (C .D) (separator₃ C x) ≡ b
       → ReadsAs C (chunk₁ C x) p → ReadsAs C (chunk₂ C x) p
       → allowed C x ≡ fromTo 3 (start C p - C .D) (min (start C p + C .D) (lastPosition C))
-  unfolding allowed ruleOf allowedBy rule₃ ReadsAs
+  unfolding allowed ruleNamed ruleOf allowedBy rule₃ ReadsAs
   allowed₃ p h₁ h₂ h₃ r r′ = simp (h₁, h₂, h₃, eq-eqb b b refl, r .1, r′ .1, eq-eqb p p refl)
 
 -- at a start no chunk is divided

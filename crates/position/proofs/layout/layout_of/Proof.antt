@@ -2,6 +2,7 @@
 use native.Mathlib.Omega.{arith}
 use mathlib.Core.Path.{refl}
 use Rattle.model.specs.Decoded.{meaning}
+use Rattle.code_theory.proofs.LeastDistance.{D-high}
 use Rattle.position_theory.proofs.Bounds.{word-bits-bound}
 use Rattle.position.proofs.layout.layout_of.Statement.{statement}
 use Rattle.position.proofs.layout.layout_of.Tie as tie
@@ -27,6 +28,7 @@ returns c =
       separator₃-at = refl;
       bits-are = omega arith;
       fits = word-bits-bound (meaning (c .args .code)) (c .pre);
+      separator-fits = omega (arith, D-high (meaning (c .args .code)) (c .pre), c .pre .n-high);
     }
 
 pub layout-of-spec : {M : Type 1} → statement M

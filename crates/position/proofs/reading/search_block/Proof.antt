@@ -9,7 +9,7 @@ use Rattle.model.specs.Decoded.{meaning}
 use Rattle.model.specs.Order.{start}
 use Rattle.model.specs.Words.{word}
 use Rattle.code_theory.proofs.Promise.{promise}
-use Rattle.position_theory.proofs.Bounds.{position-bound}
+use Rattle.position_theory.proofs.Bounds.{position-bound, word-bits-bound}
 use Rattle.position_theory.proofs.Stepping.{steps-room}
 use Rattle.code_theory.proofs.Starts.{last-codeword-bound}
 use Rattle.position.specs.Received.{Begun}
@@ -29,7 +29,8 @@ word-of-requires-2 : tie.Need-word-of-requires-2
 word-of-requires-2 c κs = search needs
 
 spliced-requires : tie.Need-spliced-requires
-spliced-requires c κs = search needs
+spliced-requires c κs =
+    let first = c .before .before in omega (arith, first .pre .3, first .pre .4, word-bits-bound (meaning (first .args .code)) (first .pre .0))
 
 block-start-requires : tie.Need-block-start-requires
 block-start-requires c κs = search needs

@@ -1,27 +1,28 @@
--- `position::words::put_chunk` meets its contract. The loop's invariant: the first `p` bits of the chunk are put down. The measure is
--- the bits that are left. Assumes nothing.
+-- `position::words::put_chunk` meets its contract. The loop's invariant: the first `p` bits of the chunk are put down, the last of them
+-- maybe zeros behind the chunk. The measure is the bits that are left. Assumes nothing.
 use Prim.Native.Nat.{ℕ, _+_, _-_, _*_, _/_, _%_, _^_, _≤_, _<_}
-use mathlib.Core.Path.{_≡_}
+use mathlib.Core.Path.{_≡_, _∙_}
 use borrow.Author.Needs.{needs}
 use native.Mathlib.Omega.{arith}
 use lib.Bits.{bitXor}
 use lib.ListN.{length, getD, length-set}
 use Rattle.bits.specs.Sums.{joinAt}
 use Rattle.bits.specs.Places.{bit, place, cut}
-use Rattle.position.proofs.TurnedPlaces.{turned-here, turned-elsewhere}
-use Rattle.position.proofs.ChunkByChunk.{chunk-none, chunk-more}
+use Rattle.bits.proofs.Shifts.{moved-down}
+use Rattle.position.proofs.ChunkByChunk.{chunk-none, chunk-more, chunk-whole, chunk-free}
+use Rattle.position.proofs.FilledByte.{filled-here, filled-before, filled-behind}
 use Rattle.position.proofs.words.put_chunk.Statement.{statement}
 use Rattle.position.proofs.words.put_chunk.Tie as tie
 
 abbrev Inv-loop : tie.InvT-loop
 Inv-loop at len value word₀ p₀ word p =
-    (p ≤ len) × (length word ≡ 40) × ((s : ℕ) → place word s ≡ joinAt at (place word₀) (cut p (bit value)) s)
+    (p ≤ len + 8) × (length word ≡ 40) × ((s : ℕ) → place word s ≡ joinAt at (place word₀) (cut p (bit value)) s)
 
 abbrev μ-loop : tie.MeasureT-loop
 μ-loop at len value word₀ p₀ word p = len - p
 
 loop-holds : tie.Need-loop-holds Inv-loop μ-loop
-loop-holds c = (omega arith, search needs, chunk-none (c .args .at) (place (c .args .before)) (bit (c .args .value)) (c .pre .2))
+loop-holds c = (omega arith, search needs, chunk-none (c .args .at) (place (c .args .before)) (bit (c .args .value)) (c .pre .3))
 
 add-q : tie.Need-add-q Inv-loop μ-loop
 add-q c = search needs
@@ -29,17 +30,23 @@ add-q c = search needs
 cast-j : tie.Need-cast-j Inv-loop μ-loop
 cast-j c = search needs
 
-array-read-turned : tie.Need-array-read-turned Inv-loop μ-loop
-array-read-turned c = search needs
+cast-moved-up : tie.Need-cast-moved-up Inv-loop μ-loop
+cast-moved-up c = search needs
 
-bit-of-requires : tie.Need-bit-of-requires Inv-loop μ-loop
-bit-of-requires c κs = search needs
+shr-moved-up : tie.Need-shr-moved-up Inv-loop μ-loop
+shr-moved-up c = search needs
 
-turned-requires : tie.Need-turned-requires Inv-loop μ-loop
-turned-requires c κs = search needs
+moved-up-requires : tie.Need-moved-up-requires Inv-loop μ-loop
+moved-up-requires c κs = search needs
+
+array-read-word : tie.Need-array-read-word Inv-loop μ-loop
+array-read-word c = search needs
 
 array-write-word : tie.Need-array-write-word Inv-loop μ-loop
 array-write-word c = search needs
+
+sub-p : tie.Need-sub-p Inv-loop μ-loop
+sub-p c = search needs
 
 add-p : tie.Need-add-p Inv-loop μ-loop
 add-p c = search needs
@@ -49,23 +56,30 @@ loop-less c = search needs
 
 loop-again : tie.Need-loop-again Inv-loop μ-loop
 loop-again c =
-    let loop = c .before .before .before .loop in
-    let args = c .before .before .before .before .args in
+    let loop = c .before .before .loop in
+    let args = c .before .before .before .args in
     let q = args .at + loop .p in
-    let b = bit (args .value) (loop .p) in
+    let v = args .value / 2 ^ loop .p in
+    let byte = bitXor (getD (loop .word) (q / 8) 0) (c .moved-up .result) in
     let inside : q / 8 < length (loop .word) = omega (arith, loop .inv .1) in
-    let is : c .turned .result ≡ bitXor (getD (loop .word) (q / 8) 0) (b * 2 ^ (q % 8)) =
-    rw (← (c .before .bit-of .ensures .0)) (c .turned .ensures) in (
+    let is : byte ≡ bitXor (getD (loop .word) (q / 8) 0) (v * 2 ^ (q % 8) % 2 ^ 8) = rw (c .moved-up .ensures) in (
       omega arith,
       simp length-set (loop .inv .1),
-      chunk-more (args .at) (place (args .before)) (bit (args .value)) (loop .p) (loop .inv .2) (omega arith)
-          (turned-here (loop .word) q b (c .turned .result) inside (omega arith) is)
-          (turned-elsewhere (loop .word) q b (c .turned .result) inside (omega arith) is),
+      chunk-more (args .at) (place (args .before)) (bit (args .value)) (loop .p) (loop .p + (8 - q % 8)) (omega arith) (loop .inv .2)
+          (λ k l h.
+          let free = chunk-free (args .at) (place (args .before)) (bit (args .value)) (loop .p) (loop .inv .2) k l in
+          let moved : args .at + k - q ≡ k - loop .p = omega arith in
+          let up : loop .p + (k - loop .p) ≡ k = omega arith in
+          filled-here (loop .word) q v byte inside is (args .at + k) (omega arith) (omega arith) free
+          ∙ rw (moved, moved-down (loop .p) (args .value) (k - loop .p), up))
+          (filled-before (loop .word) q v byte inside is)
+          (λ s h. filled-behind (loop .word) q v byte inside is s (omega arith)),
     )
 
 returns : tie.Need-returns Inv-loop μ-loop
 returns c =
-    let all : c .before .loop .p ≡ c .before .before .args .len = omega arith in rw (← all) (c .before .loop .inv .2)
+    let loop = c .before .loop in
+    rw (← (chunk-whole _ _ (loop .p) (c .before .before .pre .2) (c .loop-test .left))) (loop .inv .2)
 
 pub put-chunk-spec : {M : Type 1} → statement M
 put-chunk-spec =
@@ -76,10 +90,12 @@ put-chunk-spec =
     loop-holds
     add-q
     cast-j
-    array-read-turned
-    bit-of-requires
-    turned-requires
+    cast-moved-up
+    shr-moved-up
+    moved-up-requires
+    array-read-word
     array-write-word
+    sub-p
     add-p
     loop-less
     loop-again

@@ -1,6 +1,6 @@
 -- `position::words::word_of` meets its contract: each chunk is put down behind the ones before it, by one law each.
 -- Assumes nothing.
-use Prim.Native.Nat.{ℕ, _+_, _%_, _≤_, _<_}
+use Prim.Native.Nat.{ℕ, _+_, _%_, _^_, _≤_, _<_}
 use mathlib.Core.Path.{_≡_}
 use mathlib.Core.List.{List}
 use borrow.Author.Needs.{needs}
@@ -39,7 +39,13 @@ module _ (c : tie.After-codeword) where
   fits = (c .before .before .pre .n-high, omega (arith, D-high C (c .before .before .pre), c .before .before .pre .n-high))
 
   parity-bits : (p : ℕ) → p < C .D → bit (c .before .separator .result) p ≡ c .before .before .args .i % 2
-  parity-bits p b = c .before .separator .ensures p (omega (arith, fits))
+  parity-bits p b = c .before .separator .ensures .1 p b
+
+  parity-narrow : c .before .separator .result < 2 ^ C .D
+  parity-narrow = c .before .separator .ensures .0
+
+  codeword-narrow : c .codeword .result < 2 ^ C .n
+  codeword-narrow = c .codeword .ensures .1
 
 first : (c : tie.After-put-chunk) → let o = c .before in Holds o (at₁ o) (c .put-chunk .result)
 first c =
@@ -62,7 +68,7 @@ fourth c =
     put-chunk₂ _ _ _ _ (parity-bits o) (o .codeword .ensures .0) (third (c .before)) (c .put-chunk4 .ensures)
 
 separator-requires : tie.Need-separator-requires
-separator-requires c κs = search needs
+separator-requires c κs = omega (arith, D-high (meaning (c .args .code)) (c .pre), c .pre .n-high)
 
 codeword-requires : tie.Need-codeword-requires
 codeword-requires c κs = search needs
@@ -77,22 +83,22 @@ add-at4 : tie.Need-add-at4
 add-at4 c = omega (arith, fits c)
 
 put-chunk-requires : tie.Need-put-chunk-requires
-put-chunk-requires c κs = (omega (arith, fits c), fits c .1, λ p _. zero-place 40 p)
+put-chunk-requires c κs = (omega (arith, fits c), fits c .1, parity-narrow c, λ p _. zero-place 40 p)
 
 put-chunk-requires-2 : tie.Need-put-chunk-requires-2
-put-chunk-requires-2 c κs = (omega (arith, fits (c .before)), fits (c .before) .0, zeros-behind _ _ _ (first c))
+put-chunk-requires-2 c κs = (omega (arith, fits (c .before)), fits (c .before) .0, codeword-narrow (c .before), zeros-behind _ _ _ (first c))
 
 put-chunk-requires-3 : tie.Need-put-chunk-requires-3
 put-chunk-requires-3 c κs =
-    let room = fits (c .before .before) in (omega arith, room .1, zeros-behind _ _ _ (second c))
+    let room = fits (c .before .before) in (omega arith, room .1, parity-narrow (c .before .before), zeros-behind _ _ _ (second c))
 
 put-chunk-requires-4 : tie.Need-put-chunk-requires-4
 put-chunk-requires-4 c κs =
-    let room = fits (c .before .before .before) in (omega arith, room .0, zeros-behind _ _ _ (third c))
+    let room = fits (c .before .before .before) in (omega arith, room .0, codeword-narrow (c .before .before .before), zeros-behind _ _ _ (third c))
 
 put-chunk-requires-5 : tie.Need-put-chunk-requires-5
 put-chunk-requires-5 c κs =
-    let room = fits (c .before .before .before .before) in (omega arith, room .1, zeros-behind _ _ _ (fourth c))
+    let room = fits (c .before .before .before .before) in (omega arith, room .1, parity-narrow (c .before .before .before .before), zeros-behind _ _ _ (fourth c))
 
 returns : tie.Need-returns
 returns c =

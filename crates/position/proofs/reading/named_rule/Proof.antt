@@ -1,12 +1,13 @@
--- `position::reading::read_places` meets its contract: the separators name the rule. Assumes nothing.
-use mathlib.Core.Path.{_≡_, _∙_, sym, ap}
+-- `position::reading::named_rule` meets its contract: the separators name the rule. Assumes nothing.
+use mathlib.Core.Path.{_≡_, _∙_, ap}
+use native.Mathlib.Omega.{arith}
+use borrow.Author.Needs.{needs}
 use Rattle.bits.specs.Places.{place}
 use Rattle.model.specs.Decoded.{meaning}
 use Rattle.model.specs.Reading.{majority, separator₂, separator₃}
-use Rattle.position.proofs.SeparatorRules.{from-zero, reads-by-rule₁, reads-by-rule₂, reads-by-rule₃, reads-by-none}
-use borrow.Author.Needs.{needs}
-use Rattle.position.proofs.reading.read_places.Statement.{statement}
-use Rattle.position.proofs.reading.read_places.Tie as tie
+use Rattle.position.proofs.SeparatorRules.{from-zero, names-rule₁, names-rule₂, names-rule₃, names-none}
+use Rattle.position.proofs.reading.named_rule.Statement.{statement}
+use Rattle.position.proofs.reading.named_rule.Tie as tie
 
 -- what the three separators read
 read₁ : (c : tie.After-separator-at3)
@@ -36,47 +37,35 @@ separator-at-requires-2 c κs = search needs
 separator-at-requires-3 : tie.Need-separator-at-requires-3
 separator-at-requires-3 c κs = search needs
 
-by-rule3-requires : tie.Need-by-rule3-requires
-by-rule3-requires c κs = search needs
-
 returns : tie.Need-returns
 returns c =
-    let there = c .before .before .before in
-    c .by-rule3 .ensures ∙ sym (reads-by-rule₃ _ _ _ _ _ (read₁ there) (read₂ there) (read₃ there) (c .before .before .if1 .taken) (c .before .if2 .taken))
-
-by-rule1-requires : tie.Need-by-rule1-requires
-by-rule1-requires c κs = search needs
+    let there = c .before .before in
+    (names-rule₃ _ _ _ _ _ (read₁ there) (read₂ there) (read₃ there) (c .before .if1 .taken) (c .if2 .taken), omega arith)
 
 returns-2 : tie.Need-returns-2
 returns-2 c =
-    let there = c .before .before .before in
-    c .by-rule1 .ensures ∙ sym (reads-by-rule₁ _ _ _ _ _ (read₁ there) (read₂ there) (read₃ there) (c .before .before .if1 .taken) (c .before .if2 .left))
-
-by-rule2-requires : tie.Need-by-rule2-requires
-by-rule2-requires c κs = search needs
+    let there = c .before .before in
+    (names-rule₁ _ _ _ _ _ (read₁ there) (read₂ there) (read₃ there) (c .before .if1 .taken) (c .if2 .left), omega arith)
 
 returns-3 : tie.Need-returns-3
 returns-3 c =
-    let there = c .before .before .before in
-    c .by-rule2 .ensures ∙ sym (reads-by-rule₂ _ _ _ _ _ (read₁ there) (read₂ there) (read₃ there) (c .before .before .if1 .left) (c .before .if3 .taken))
+    let there = c .before .before in
+    (names-rule₂ _ _ _ _ _ (read₁ there) (read₂ there) (read₃ there) (c .before .if1 .left) (c .if3 .taken), omega arith)
 
 returns-4 : tie.Need-returns-4
 returns-4 c =
     let there = c .before .before in
-    sym (reads-by-none _ _ _ _ _ (read₁ there) (read₂ there) (read₃ there) (c .before .if1 .left) (c .if3 .left))
+    (names-none _ _ _ _ _ (read₁ there) (read₂ there) (read₃ there) (c .before .if1 .left) (c .if3 .left), omega arith)
 
-pub read-places-spec : {M : Type 1} → statement M
-read-places-spec =
+pub named-rule-spec : {M : Type 1} → statement M
+named-rule-spec =
     tie.close
     (tie.spec
     layout-of-requires
     separator-at-requires
     separator-at-requires-2
     separator-at-requires-3
-    by-rule3-requires
     returns
-    by-rule1-requires
     returns-2
-    by-rule2-requires
     returns-3
     returns-4)

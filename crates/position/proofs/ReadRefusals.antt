@@ -1,0 +1,55 @@
+-- Refusals 8 and 9 of a word that has the right length: the upper one first, and where neither holds the word is read by the rule
+-- that its separators name. Assumes nothing.
+use mathlib.Core.Path.{_≡_, refl, sym, _∙_}
+use mathlib.Core.Bool.{Bool, true, false, cond}
+use mathlib.Core.List.{List}
+use mathlib.Core.Logic.{⊎-elim}
+use Prim.Native.Nat.{ℕ}
+use native.Mathlib.Omega.{arith}
+use borrow.Author.Tests.{eq-eqb, ne-eqb}
+use lib.Dec.{eqb}
+use lib.ListN.{length}
+use Rattle.bits.specs.Places.{place}
+use Rattle.bits.proofs.Numbers.{eq-or-ne}
+use Rattle.model.specs.Answers.{wordLength, spareSet, readWord}
+use Rattle.model.specs.Card.{Code}
+use Rattle.model.specs.Reading.{ruleNamed, allowedBy, allowed, nearest, reading}
+use Rattle.model.specs.declared.ReadAnswer.the-variants.{Refused}
+use Rattle.position_theory.proofs.BoundedError.{read-word}
+
+-- the first of refusals 8 and 9 by their tests, as the code puts them together
+abbrev pub firstOf8And9 : (spare unnamed : Bool) → ℕ
+firstOf8And9 spare unnamed = let upper : ℕ = cond spare 8 0 in let lower : ℕ = cond unnamed 9 0 in cond (eqb upper 0) lower upper
+
+module _ (C : Code) (received : List ℕ) (whole : length received ≡ wordLength C) where
+  -- by the tests on this word
+  abbrev tested : ℕ
+  tested = firstOf8And9 (spareSet C received) (eqb (ruleNamed C (place received)) 0)
+
+  pub first-refused : (refusal : ℕ) → refusal ≡ tested → (refusal ≡ 0 → ⊥) → Refused refusal ≡ readWord C received
+  unfolding readWord reading allowed allowedBy nearest
+  first-refused refusal is ne = rw (eq-eqb (length received) (wordLength C) whole) (by-spare (spareSet C received) is)
+    where
+      by-spare : (t : Bool) → refusal ≡ firstOf8And9 t (eqb (ruleNamed C (place received)) 0)
+          → Refused refusal ≡ cond t (Refused 8) (nearest C (place received) (allowedBy C (place received) (ruleNamed C (place received))))
+      by-spare true = λ e. rw e
+      by-spare false =
+          ⊎-elim
+          (λ (none : ruleNamed C (place received) ≡ 0). rw none (λ e. rw e))
+          (λ (some : ruleNamed C (place received) ≡ 0 → ⊥).
+          rw (ne-eqb (ruleNamed C (place received)) 0 some) (λ e. absurd (ne e)))
+          (eq-or-ne (ruleNamed C (place received)) 0)
+
+  pub neither-holds : (refusal : ℕ) → refusal ≡ tested → refusal ≡ 0
+      → (spareSet C received ≡ false) × (ruleNamed C (place received) ≡ 0 → ⊥)
+  neither-holds refusal is none = by-spare (spareSet C received) (sym none ∙ is)
+    where
+      by-spare : (t : Bool) → 0 ≡ firstOf8And9 t (eqb (ruleNamed C (place received)) 0)
+          → (t ≡ false) × (ruleNamed C (place received) ≡ 0 → ⊥)
+      by-spare true e = absurd (omega arith)
+      by-spare false e = (refl, λ zero. absurd (omega (arith, rw (eq-eqb (ruleNamed C (place received)) 0 zero) at e)))
+
+  pub read-by-rule : spareSet C received ≡ false
+      → nearest C (place received) (allowedBy C (place received) (ruleNamed C (place received))) ≡ readWord C received
+  unfolding reading allowed
+  read-by-rule none = sym (read-word C received whole none)

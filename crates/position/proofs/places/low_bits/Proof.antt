@@ -1,0 +1,29 @@
+-- `position::places::low_bits` meets its contract: 64 ones moved down by 64 - n places are n ones. Assumes nothing.
+use mathlib.Core.Path.{_≡_}
+use Prim.Native.Nat.{_+_, _-_}
+use native.Mathlib.Omega.{arith}
+use borrow.Author.Needs.{needs}
+use Rattle.bits.proofs.Shifts.{all-ones-moved}
+use Rattle.position.proofs.places.low_bits.Statement.{statement}
+use Rattle.position.proofs.places.low_bits.Tie as tie
+
+returns : tie.Need-returns
+returns c = rw (c .if1 .taken) (omega arith)
+
+sub-result : tie.Need-sub-result
+sub-result c = search needs
+
+cast-result : tie.Need-cast-result
+cast-result c = search needs
+
+shr-result : tie.Need-shr-result
+shr-result c = search needs
+
+returns-2 : tie.Need-returns-2
+returns-2 c =
+    let n = c .before .args .n in
+    let all : n + (64 - n) ≡ 64 = omega arith in
+    rw all at (all-ones-moved n (64 - n))
+
+pub low-bits-spec : {M : Type 1} → statement M
+low-bits-spec = tie.close (tie.spec returns sub-result cast-result shr-result returns-2)
