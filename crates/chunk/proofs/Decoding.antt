@@ -16,6 +16,8 @@ use Rattle.model.specs.declared.Decoded.{Decoded}
 use Rattle.code_theory.specs.LeastDistance.{leastInOrder}
 use Rattle.code_theory.proofs.LeastWeight.{least-of-order, independent-of-order, dependent-of-order}
 use Rattle.code_theory.proofs.SoundCard.{limits-of-test, narrow-of-test, card-tests, sound-card}
+use Rattle.chunk.specs.FirstRefusal.{refusalIf, firstOf}
+use Rattle.chunk.proofs.FirstRefusal.{first-by-tests}
 use Rattle.chunk.specs.DecodedFrom.{DecodedFrom}
 use Rattle.chunk.proofs.LeastWeightLoop.{Narrow}
 use Rattle.chunk.proofs.Refusals.{refusal-4-5-or-0}
@@ -28,13 +30,6 @@ least b = leastInOrder (lengthOf b) (rowsOf b) (rowOf b) (2 ^ rowsOf b - 1)
 pub least-of-card : (b : List ℕ) (n k distance : ℕ) (row : ℕ → ℕ) → n ≡ lengthOf b → k ≡ rowsOf b → row ≡ rowOf b
     → (Narrow n k row → distance ≡ leastInOrder n k row (2 ^ k - 1)) → Narrow (lengthOf b) (rowsOf b) (rowOf b) → distance ≡ least b
 least-of-card b n k distance row is-n is-k is-row is-least = rw (← is-n, ← is-k, ← is-row) is-least
-
--- the first of two refusals, and a refusal by its test, as the code puts them together
-abbrev firstOf : (upper lower : ℕ) → ℕ
-firstOf upper lower = cond (eqb upper 0) lower upper
-
-abbrev refusalIf : Bool → ℕ → ℕ
-refusalIf holds number = cond holds number 0
 
 module _ (b : List ℕ) (limits : withinLimits (lengthOf b) (rowsOf b) ≡ true) where
   narrow : misplaced b ≡ false → Narrow (lengthOf b) (rowsOf b) (rowOf b)
@@ -58,10 +53,12 @@ module _ (b : List ℕ) (limits : withinLimits (lengthOf b) (rowsOf b) ≡ true)
   pub rows-refusal : length b ≡ 512 → storedCheck b ≡ computedCheck b → (distance : ℕ)
       → (Narrow (lengthOf b) (rowsOf b) (rowOf b) → distance ≡ least b)
       → firstOf (refusalIf (misplaced b) 4) (refusalIf (eqb distance 0) 5) ≡ cardRefusal b
-  rows-refusal whole checked distance is-least = rw (refusal-4-5-or-0 b whole checked limits) (by-test (misplaced b) refl)
+  rows-refusal whole checked distance is-least =
+      first-by-tests (misplaced b) (eqb distance 0) 4 5 (omega arith)
+      ∙ rw (refusal-4-5-or-0 b whole checked limits) (by-test (misplaced b) refl)
     where
       by-test : (t : Bool) → misplaced b ≡ t
-          → firstOf (refusalIf t 4) (refusalIf (eqb distance 0) 5) ≡ cond t 4 (refusalIf (dependent (rowsOf b) (rowOf b)) 5)
+          → cond t 4 (refusalIf (eqb distance 0) 5) ≡ cond t 4 (refusalIf (dependent (rowsOf b) (rowOf b)) 5)
       by-test true e = refl
       by-test false e = rw (dependent-if-zero e, is-least (narrow e))
 

@@ -1,3 +1,4 @@
+pub mod FirstRefusal
 pub mod Bytes
 pub mod JoinedBytes
 pub mod CheckSum

@@ -1,10 +1,12 @@
 -- What a write answers and what it leaves in the lent word, one law for each way out of the code. A refusal leaves the lent bytes;
 -- where the word is written, demand 2 holds of what the lent word then holds. Assumes nothing.
-use mathlib.Core.Path.{_≡_, sym, _∙_}
+use mathlib.Core.Path.{_≡_, refl, sym, _∙_}
+use mathlib.Core.Bool.{Bool, true, false, cond, not}
 use mathlib.Core.List.{List}
-use Prim.Native.Nat.{ℕ, _≤_, _<_}
-use borrow.Author.Tests.{eq-eqb, ne-eqb, lt-ltb, le-ltb}
+use Prim.Native.Nat.{ℕ, _≤_}
+use borrow.Author.Tests.{eq-eqb, ne-eqb, eqb-true, ltb-false}
 use native.Mathlib.Omega.{arith}
+use lib.Dec.{eqb, ltb}
 use lib.ListN.{length}
 use Rattle.model.specs.Decoded.{meaning}
 use Rattle.model.specs.Order.{lastPosition}
@@ -16,6 +18,8 @@ use Rattle.model.specs.declared.WriteAnswer.the-variants.{Written, Refused}
 use Rattle.position_theory.specs.Demands.{WrittenIfServable, UnchangedIfRefused, NeighboursDifferInOneBit, NoOtherPositionsWord}
 use Rattle.position_theory.proofs.Demands.{neighbours-differ-in-one-bit, no-other-positions-word}
 use Rattle.position_theory.proofs.Writing.{written-if-servable, unchanged-if-refused, written-means}
+use Rattle.chunk.specs.FirstRefusal.{refusalIf, firstOf}
+use Rattle.chunk.proofs.FirstRefusal.{first-by-tests}
 use Rattle.chunk.specs.DecodedFrom.{DecodedFrom}
 
 module _ (card : List ℕ) (position : ℕ) (lent : List ℕ) where
@@ -60,45 +64,34 @@ module _ (card : List ℕ) (position : ℕ) (lent : List ℕ) where
     unfolding writeRefusal
     card-refused ne = refused (decoded .refusal) (rw (← (from .refusal), ne-eqb (decoded .refusal) 0 ne)) ne
 
-    module _ (sound : decoded .refusal ≡ 0) where
-      pub length-refused : (size : ℕ) → size ≡ wordLength (meaning (decoded .code)) → (length lent ≡ size → ⊥) → Meets (Refused 6) lent
+    -- refusals 6 and 7, the first of which is answered
+    module _ (sound : decoded .refusal ≡ 0) (size last refusal : ℕ) (is-size : size ≡ wordLength (meaning (decoded .code)))
+        (is-last : last ≡ lastPosition (meaning (decoded .code)))
+        (is : refusal ≡ firstOf (refusalIf (not (eqb (length lent) size)) 6) (refusalIf (ltb last position) 7)) where
+      by-tests : refusal ≡ cond (not (eqb (length lent) size)) 6 (cond (ltb last position) 7 0)
+      by-tests = is ∙ first-by-tests (not (eqb (length lent) size)) (ltb last position) 6 7 (omega arith)
+
+      word-refusal : writeRefusal card position lent ≡ refusal
       unfolding writeRefusal
-      length-refused size is ne =
-          refused 6
-          (rw (← (from .refusal), eq-eqb (decoded .refusal) 0 sound, ← (from .code sound), ← is, ne-eqb (length lent) size ne))
-          (λ e. omega arith)
+      word-refusal = rw (← (from .refusal), eq-eqb (decoded .refusal) 0 sound, ← (from .code sound), ← is-size, ← is-last, by-tests)
 
-      module _ (size last : ℕ) (is-size : size ≡ wordLength (meaning (decoded .code))) (whole : length lent ≡ size)
-          (is-last : last ≡ lastPosition (meaning (decoded .code))) where
-        pub position-refused : last < position → Meets (Refused 7) lent
-        unfolding writeRefusal
-        position-refused above =
-            refused 7
-            (rw (
-              ← (from .refusal),
-              eq-eqb (decoded .refusal) 0 sound,
-              ← (from .code sound),
-              ← is-size,
-              eq-eqb (length lent) size whole,
-              ← is-last,
-              lt-ltb last position above,
-            ))
-            (λ e. omega arith)
+      pub word-refused : (refusal ≡ 0 → ⊥) → Meets (Refused refusal) lent
+      word-refused ne = refused refusal word-refusal ne
 
-        none-refused : position ≤ last → writeRefusal card position lent ≡ 0
-        unfolding writeRefusal
-        none-refused within =
-            rw (
-              ← (from .refusal),
-              eq-eqb (decoded .refusal) 0 sound,
-              ← (from .code sound),
-              ← is-size,
-              eq-eqb (length lent) size whole,
-              ← is-last,
-              le-ltb last position within,
-            )
+      -- where none holds, the lent word has the right length and the position is on the track
+      within : (above : Bool) → ltb last position ≡ above → refusalIf above 7 ≡ 0 → position ≤ last
+      within true test e = absurd (omega arith)
+      within false test e = ltb-false last position test
 
-        pub written : position ≤ last → (left : List ℕ) → left ≡ wordBytes (meaning (decoded .code)) position → Meets Written left
-        unfolding writeAnswer lentAfterWrite
-        written within left e =
-            meets Written left (rw (none-refused within)) (rw (none-refused within, ← (from .code sound)) e)
+      whole : (same : Bool) → eqb (length lent) size ≡ same → cond (not same) 6 (refusalIf (ltb last position) 7) ≡ 0
+          → (position ≤ last) × (length lent ≡ size)
+      whole true test e = (within (ltb last position) refl e, eqb-true (length lent) size test)
+      whole false test e = absurd (omega arith)
+
+      pub servable : refusal ≡ 0 → (position ≤ last) × (length lent ≡ size)
+      servable none = whole (eqb (length lent) size) refl (sym by-tests ∙ none)
+
+      pub written : refusal ≡ 0 → (left : List ℕ) → left ≡ wordBytes (meaning (decoded .code)) position → Meets Written left
+      unfolding writeAnswer lentAfterWrite
+      written none left e =
+          meets Written left (rw (word-refusal ∙ none)) (rw (word-refusal ∙ none, ← (from .code sound)) e)

@@ -7,6 +7,7 @@ ghost use Rattle.model.specs.declared.WriteAnswer.the-variants.{Written};
 ghost use Rattle.code_theory.specs.Promise.{Sound};
 ghost use Rattle.position_theory.specs.Demands.{WrittenIfServable, UnchangedIfRefused, NeighboursDifferInOneBit, NoOtherPositionsWord, NearestOfAllowed, OffByAtMostTwiceTurned, OffByAtMostTurnedAndResidual};
 use chunk::decode;
+use chunk::refusal;
 use model::CardAnswer;
 use model::CardSummary;
 use model::DecodedCode;
@@ -63,11 +64,11 @@ pub fn write_word(card: &[u8], position: u32, word: &mut [u8]) -> WriteAnswer
         return WriteAnswer::Refused(decoded.refusal);
     }
     let code = decoded.code;
-    if word.len() != word_length(code) {
-        return WriteAnswer::Refused(6);
-    }
-    if blocks::last_position(code) < position {
-        return WriteAnswer::Refused(7);
+    let length = refusal::refusal_if(word.len() != word_length(code), 6);
+    let above = refusal::refusal_if(blocks::last_position(code) < position, 7);
+    let refusal = refusal::first_of(length, above);
+    if refusal != 0 {
+        return WriteAnswer::Refused(refusal);
     }
     words::write(code, position, word);
     WriteAnswer::Written

@@ -15,22 +15,19 @@ use Rattle.model.specs.Answers.{wordLength, spareSet, readWord}
 use Rattle.model.specs.Card.{Code}
 use Rattle.model.specs.Reading.{ruleNamed, allowedBy, allowed, nearest, reading}
 use Rattle.model.specs.declared.ReadAnswer.the-variants.{Refused}
+use Rattle.chunk.specs.FirstRefusal.{refusalIf, firstOf}
 use Rattle.position_theory.proofs.BoundedError.{read-word}
 
--- the first of refusals 8 and 9 by their tests, as the code puts them together
-abbrev pub firstOf8And9 : (spare unnamed : Bool) → ℕ
-firstOf8And9 spare unnamed = let upper : ℕ = cond spare 8 0 in let lower : ℕ = cond unnamed 9 0 in cond (eqb upper 0) lower upper
-
 module _ (C : Code) (received : List ℕ) (whole : length received ≡ wordLength C) where
-  -- by the tests on this word
-  abbrev tested : ℕ
-  tested = firstOf8And9 (spareSet C received) (eqb (ruleNamed C (place received)) 0)
+  -- the first of the two, by the tests on this word
+  abbrev pub tested : ℕ
+  tested = firstOf (refusalIf (spareSet C received) 8) (refusalIf (eqb (ruleNamed C (place received)) 0) 9)
 
   pub first-refused : (refusal : ℕ) → refusal ≡ tested → (refusal ≡ 0 → ⊥) → Refused refusal ≡ readWord C received
   unfolding readWord reading allowed allowedBy nearest
   first-refused refusal is ne = rw (eq-eqb (length received) (wordLength C) whole) (by-spare (spareSet C received) is)
     where
-      by-spare : (t : Bool) → refusal ≡ firstOf8And9 t (eqb (ruleNamed C (place received)) 0)
+      by-spare : (t : Bool) → refusal ≡ firstOf (refusalIf t 8) (refusalIf (eqb (ruleNamed C (place received)) 0) 9)
           → Refused refusal ≡ cond t (Refused 8) (nearest C (place received) (allowedBy C (place received) (ruleNamed C (place received))))
       by-spare true = λ e. rw e
       by-spare false =
@@ -44,7 +41,7 @@ module _ (C : Code) (received : List ℕ) (whole : length received ≡ wordLengt
       → (spareSet C received ≡ false) × (ruleNamed C (place received) ≡ 0 → ⊥)
   neither-holds refusal is none = by-spare (spareSet C received) (sym none ∙ is)
     where
-      by-spare : (t : Bool) → 0 ≡ firstOf8And9 t (eqb (ruleNamed C (place received)) 0)
+      by-spare : (t : Bool) → 0 ≡ firstOf (refusalIf t 8) (refusalIf (eqb (ruleNamed C (place received)) 0) 9)
           → (t ≡ false) × (ruleNamed C (place received) ≡ 0 → ⊥)
       by-spare true e = absurd (omega arith)
       by-spare false e = (refl, λ zero. absurd (omega (arith, rw (eq-eqb (ruleNamed C (place received)) 0 zero) at e)))

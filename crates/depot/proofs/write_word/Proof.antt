@@ -1,14 +1,25 @@
 -- `depot::write_word` meets its contract: one law for each way out. Assumes nothing.
-use mathlib.Core.Path.{_∙_}
+use mathlib.Core.Path.{_≡_, _∙_}
+use mathlib.Core.Bool.{not}
 use borrow.Author.Needs.{needs}
+use lib.Dec.{eqb, ltb}
+use lib.ListN.{length}
 use Rattle.model.specs.Decoded.{meaning}
 use Rattle.code_theory.specs.Promise.{Sound}
-use Rattle.depot.proofs.Writing.{card-refused, length-refused, position-refused, written}
+use Rattle.chunk.specs.FirstRefusal.{refusalIf, firstOf}
+use Rattle.depot.proofs.Writing.{card-refused, word-refused, servable, written}
 use Rattle.depot.proofs.write_word.Statement.{statement}
 use Rattle.depot.proofs.write_word.Tie as tie
 
 sound : (c : tie.Else1) → Sound (meaning (c .before .before .decode .result .code))
 sound c = c .before .before .decode .ensures .sound (c .if1 .left)
+
+-- the first of refusals 6 and 7, by what was measured
+first-refusal : (c : tie.After-first-of)
+    → let asked = c .before .before .before .before .before .before .before .before .before .before .before .args in
+    c .first-of .result
+    ≡ firstOf (refusalIf (not (eqb (length (asked .word .now)) (c .before .before .before .before .word-length .result))) 6) (refusalIf (ltb (c .before .before .last-position .result) (asked .position)) 7)
+first-refusal c = rw (c .before .before .before .refusal-if .ensures, c .before .refusal-if2 .ensures) at (c .first-of .ensures)
 
 decode-requires : tie.Need-decode-requires
 decode-requires c κs = search needs
@@ -21,43 +32,48 @@ returns c =
 word-length-requires : tie.Need-word-length-requires
 word-length-requires c κs = sound (c .before)
 
-returns-2 : tie.Need-returns-2
-returns-2 c =
-    let decoded = c .before .before .before in
-    let asked = decoded .before .before .before .before .before .args in
-    length-refused _ (asked .position) (asked .word .now) _ (decoded .before .before .decode .ensures) (decoded .if1 .left) _
-    (c .before .word-length .ensures) (c .if2 .taken)
+refusal-if-requires : tie.Need-refusal-if-requires
+refusal-if-requires c κs = search needs
 
 last-position-requires : tie.Need-last-position-requires
 last-position-requires c κs = sound (c .before .before .before)
 
-returns-3 : tie.Need-returns-3
-returns-3 c =
-    let measured = c .before .before in
-    let decoded = measured .before .before .before in
+refusal-if-requires-2 : tie.Need-refusal-if-requires-2
+refusal-if-requires-2 c κs = search needs
+
+first-of-requires : tie.Need-first-of-requires
+first-of-requires c κs = search needs
+
+returns-2 : tie.Need-returns-2
+returns-2 c =
+    let tested = c .before in
+    let decoded = tested .before .before .before .before .before .before in
     let asked = decoded .before .before .before .before .before .args in
-    position-refused _ (asked .position) (asked .word .now) _ (decoded .before .before .decode .ensures) (decoded .if1 .left) _ _
-    (measured .before .word-length .ensures) (measured .if2 .left) (c .before .last-position .ensures) (c .if3 .taken)
+    word-refused _ (asked .position) (asked .word .now) _ (decoded .before .before .decode .ensures) (decoded .if1 .left) _ _ _
+    (tested .before .before .before .before .word-length .ensures) (tested .before .before .last-position .ensures) (first-refusal tested) (c .if2 .taken)
 
 write-requires : tie.Need-write-requires
 write-requires c κs =
-    let located = c .before in
-    let measured = located .before .before in (
-      (sound (measured .before .before .before), rw (located .before .last-position .ensures) at (located .if3 .left)),
-      measured .if2 .left ∙ measured .before .word-length .ensures,
+    let tested = c .before .before in
+    let decoded = tested .before .before .before .before .before .before in
+    let asked = decoded .before .before .before .before .before .args in
+    let fits = servable _ (asked .position) (asked .word .now) _ (decoded .before .before .decode .ensures) (decoded .if1 .left) _ _ _
+    (tested .before .before .before .before .word-length .ensures) (tested .before .before .last-position .ensures) (first-refusal tested) (c .before .if2 .left) in (
+      (sound decoded, rw (tested .before .before .last-position .ensures) at (fits .0)),
+      fits .1 ∙ tested .before .before .before .before .word-length .ensures,
     )
 
 same-length : tie.Need-same-length
 same-length c = search needs
 
-returns-4 : tie.Need-returns-4
-returns-4 c =
-    let located = c .before .before .before .before in
-    let measured = located .before .before in
-    let decoded = measured .before .before .before in
+returns-3 : tie.Need-returns-3
+returns-3 c =
+    let passed = c .before .before .before .before in
+    let tested = passed .before in
+    let decoded = tested .before .before .before .before .before .before in
     let asked = decoded .before .before .before .before .before .args in
-    written _ (asked .position) (asked .word .now) _ (decoded .before .before .decode .ensures) (decoded .if1 .left) _ _
-    (measured .before .word-length .ensures) (measured .if2 .left) (located .before .last-position .ensures) (located .if3 .left) _
+    written _ (asked .position) (asked .word .now) _ (decoded .before .before .decode .ensures) (decoded .if1 .left) _ _ _
+    (tested .before .before .before .before .word-length .ensures) (tested .before .before .last-position .ensures) (first-refusal tested) (passed .if2 .left) _
     (c .before .before .write .ensures)
 
 pub write-word-spec : {M : Type 1} → statement M
@@ -67,9 +83,11 @@ write-word-spec =
     decode-requires
     returns
     word-length-requires
-    returns-2
+    refusal-if-requires
     last-position-requires
-    returns-3
+    refusal-if-requires-2
+    first-of-requires
+    returns-2
     write-requires
     same-length
-    returns-4)
+    returns-3)

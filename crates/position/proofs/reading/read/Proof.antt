@@ -13,7 +13,8 @@ use Rattle.model.specs.Answers.{wordLength, spareSet, readWord}
 use Rattle.model.specs.Decoded.{meaning}
 use Rattle.model.specs.Reading.{ruleNamed, allowedBy, nearest}
 use Rattle.model.specs.Words.{wordBits}
-use Rattle.position.proofs.ReadRefusals.{firstOf8And9, first-refused, neither-holds, read-by-rule}
+use Rattle.chunk.specs.FirstRefusal.{refusalIf, firstOf}
+use Rattle.position.proofs.ReadRefusals.{first-refused, neither-holds, read-by-rule}
 use Rattle.position.proofs.SpareBits.{spare-test, nothing-spare}
 use Rattle.position.proofs.reading.read.Statement.{statement}
 use Rattle.position.proofs.reading.read.Tie as tie
@@ -47,7 +48,7 @@ refused-first : (c : tie.After-first-of)
     → let first = c .before .before .before .before .before .before .before .before .before .before in
     let C = meaning (first .args .code) in
     let b = first .args .word .now in
-    c .first-of .result ≡ firstOf8And9 (spareSet C b) (eqb (ruleNamed C (place b)) 0)
+    c .first-of .result ≡ firstOf (refusalIf (spareSet C b) 8) (refusalIf (eqb (ruleNamed C (place b)) 0) 9)
 refused-first c =
     let counted = c .before .before .before in
     let named = counted .before .before in
