@@ -1,15 +1,12 @@
 // The public calls. Each takes a card's bytes, checks them itself, and answers every input: the card's bytes may be any list of
 // bytes, and a number any number of its type. What an answer means is said by the definitions that the contracts name.
 ghost use mathlib.Core.Path.{_≡_};
-ghost use Rattle.model.specs.Decoded.{meaning};
-ghost use Rattle.model.specs.Answers.{wordLength, cardAnswer, writeAnswer, lentAfterWrite, readAnswer, startAnswer, millimetresAnswer};
+ghost use Rattle.model.specs.Answers.{cardAnswer, writeAnswer, lentAfterWrite, readAnswer, startAnswer, millimetresAnswer};
 ghost use Rattle.model.specs.declared.WriteAnswer.the-variants.{Written};
-ghost use Rattle.code_theory.specs.Promise.{Sound};
 ghost use Rattle.position_theory.specs.Demands.{WrittenIfServable, UnchangedIfRefused, NeighboursDifferInOneBit, NoOtherPositionsWord, NearestOfAllowed, OffByAtMostTwiceTurned, OffByAtMostTurnedAndResidual};
 use chunk::decode;
 use model::CardAnswer;
 use model::CardSummary;
-use model::DecodedCode;
 use model::NumberAnswer;
 use model::ReadAnswer;
 use model::WriteAnswer;
@@ -17,15 +14,6 @@ use position::blocks;
 use position::layout;
 use position::reading;
 use position::words;
-
-// The bytes of a word.
-fn word_length(code: DecodedCode) -> usize
-    requires { ⌜ Sound (meaning code) ⌝ }
-    ensures { λ r. ⌜ r ≡ wordLength (meaning code) ⌝ }
-{
-    let bits = layout::layout_of(code).bits;
-    ((bits + 7) / 8) as usize
-}
 
 // Checks a card. A sound card is answered with its n, k, track, D, t, d and last position; any other with its refusal, 1 to 5.
 pub fn check_card(card: &[u8]) -> CardAnswer
@@ -63,7 +51,7 @@ pub fn write_word(card: &[u8], position: u32, word: &mut [u8]) -> WriteAnswer
         return WriteAnswer::Refused(decoded.refusal);
     }
     let code = decoded.code;
-    if word.len() != word_length(code) {
+    if word.len() != layout::word_length(code) {
         return WriteAnswer::Refused(6);
     }
     if blocks::last_position(code) < position {

@@ -26,7 +26,7 @@ returns-2 c =
     let decoded = c .before .before .before in
     let asked = decoded .before .before .before .before .before .args in
     length-refused _ (asked .position) (asked .word .now) _ (decoded .before .before .decode .ensures) (decoded .if1 .left) _
-    (c .before .word-length .ensures) (c .if2 .taken)
+    (c .before .word-length .ensures .0) (c .if2 .taken)
 
 last-position-requires : tie.Need-last-position-requires
 last-position-requires c κs = sound (c .before .before .before)
@@ -37,14 +37,14 @@ returns-3 c =
     let decoded = measured .before .before .before in
     let asked = decoded .before .before .before .before .before .args in
     position-refused _ (asked .position) (asked .word .now) _ (decoded .before .before .decode .ensures) (decoded .if1 .left) _ _
-    (measured .before .word-length .ensures) (measured .if2 .left) (c .before .last-position .ensures) (c .if3 .taken)
+    (measured .before .word-length .ensures .0) (measured .if2 .left) (c .before .last-position .ensures) (c .if3 .taken)
 
 write-requires : tie.Need-write-requires
 write-requires c κs =
     let located = c .before in
     let measured = located .before .before in (
       (sound (measured .before .before .before), rw (located .before .last-position .ensures) at (located .if3 .left)),
-      measured .if2 .left ∙ measured .before .word-length .ensures,
+      measured .if2 .left ∙ measured .before .word-length .ensures .0,
     )
 
 same-length : tie.Need-same-length
@@ -57,7 +57,7 @@ returns-4 c =
     let decoded = measured .before .before .before in
     let asked = decoded .before .before .before .before .before .args in
     written _ (asked .position) (asked .word .now) _ (decoded .before .before .decode .ensures) (decoded .if1 .left) _ _
-    (measured .before .word-length .ensures) (measured .if2 .left) (located .before .last-position .ensures) (located .if3 .left) _
+    (measured .before .word-length .ensures .0) (measured .if2 .left) (located .before .last-position .ensures) (located .if3 .left) _
     (c .before .before .write .ensures)
 
 pub write-word-spec : {M : Type 1} → statement M
