@@ -6,33 +6,20 @@ ghost use Rattle.model.specs.declared.WriteAnswer.the-variants.{Written};
 ghost use Rattle.position_theory.specs.Demands.{WrittenIfServable, UnchangedIfRefused, NeighboursDifferInOneBit, NoOtherPositionsWord, NearestOfAllowed, OffByAtMostTwiceTurned, OffByAtMostTurnedAndResidual};
 use chunk::decode;
 use model::CardAnswer;
-use model::CardSummary;
 use model::NumberAnswer;
 use model::ReadAnswer;
 use model::WriteAnswer;
 use position::blocks;
 use position::layout;
 use position::reading;
+use position::summary;
 use position::words;
 
 // Checks a card. A sound card is answered with its n, k, track, D, t, d and last position; any other with its refusal, 1 to 5.
 pub fn check_card(card: &[u8]) -> CardAnswer
     ensures answer { λ r. ⌜ r ≡ cardAnswer (now (card .entry)) ⌝ }
 {
-    let decoded = decode::decode(card);
-    if decoded.refusal != 0 {
-        return CardAnswer::Refused(decoded.refusal);
-    }
-    let code = decoded.code;
-    CardAnswer::Sound(CardSummary {
-        n: code.n,
-        k: code.k,
-        track: decoded.track,
-        distance: code.distance,
-        radius: (code.distance - 1) / 2,
-        bits: layout::layout_of(code).bits,
-        last: blocks::last_position(code),
-    })
+    summary::card_answer(decode::decode(card))
 }
 
 // Writes the word of a position into the lent word. Refused: the card, 1 to 5; a lent word that has not exactly the bytes of a

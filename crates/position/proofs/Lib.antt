@@ -16,3 +16,4 @@ pub mod RuleRanges
 pub mod UnreadableChunk
 pub mod SeparatorRules
 pub mod SpareBits
+pub mod DecodedCard
