@@ -3,12 +3,12 @@
 -- Assumes nothing.
 use mathlib.Core.Path.{_≡_, refl, sym, ap, _∙_}
 use Prim.Native.Nat.{ℕ, zero, suc, _+_, _*_, _/_, _%_, _^_, _≤_, _<_}
-use native.Mathlib.Nat.{mod-lt, mod-eq-of-lt, mod-add-mod, add-mod-mod, div-one, zero-div, div-eq-of-lt, div-self, div-div-eq-div-mul, pow-succ', lt-of-lt-of-le, mul-add-mod-self-right, zero-lt-suc, mod-one, zero-add, add-zero, div-lt-iff-lt-mul}
+use native.Mathlib.Nat.{mod-lt, mod-eq-of-lt, mod-add-mod, add-mod-mod, div-one, zero-div, div-eq-of-lt, div-self, div-div-eq-div-mul, pow-succ', lt-of-lt-of-le, mul-add-mod-self-right, zero-lt-suc, mod-one, zero-add, add-zero}
 use native.Mathlib.Numerals.{one-add, add-one}
 use native.Mathlib.Omega.{arith}
 use lib.Bits.{bitXor, differ, xor-step, xor-shr}
 use lib.Count.{ones, ones-cat}
-use lib.Pow.{pow-pos, pow-mono, mod-pow-add, shr-shr}
+use lib.Pow.{pow-pos, pow-mono, mod-pow-add}
 use Rattle.bits.specs.Sums.{sumBelow, unlike, distance}
 use Rattle.bits.specs.Places.{bit, weight}
 use Rattle.bits.proofs.Sums.{sum-ext, sum-zero, sum-of-bits, summand-le}
@@ -53,13 +53,6 @@ bit-ext x y h =
     (lt-of-lt-of-le (below-pow x) (pow-mono (omega arith)))
     (lt-of-lt-of-le (below-pow y) (pow-mono (omega arith)))
     (λ p l. h p)
-
--- a number whose digits are 0 from n on is below 2 ^ n
-pub below-of-bits : (n x : ℕ) → ((p : ℕ) → n ≤ p → bit x p ≡ 0) → x < 2 ^ n
-below-of-bits n x h =
-    let none : x / 2 ^ n ≡ 0 =
-    bit-ext (x / 2 ^ n) 0 (λ p. rw (shr-shr x n p) (h (n + p) (omega arith) ∙ sym (bit-zero p))) in
-    let l : x < 1 * 2 ^ n = div-lt-iff-lt-mul (pow-pos n) .0 (omega arith) in omega arith
 
 -- 2 ^ z has one bit, bit z
 pub bit-pow-same : (z : ℕ) → bit (2 ^ z) z ≡ 1

@@ -50,12 +50,6 @@ unfolding distance sumBelow
 distance-everywhere u v zero h = refl
 distance-everywhere u v (suc d) h = omega (arith, distance-everywhere u v d (λ p b. h p (omega arith)), h d (omega arith))
 
--- words at distance 0 agree
-pub agree-of-distance-zero : {u v : ℕ → ℕ} (d : ℕ) → ((p : ℕ) → u p < 2) → ((p : ℕ) → v p < 2) → distance d u v ≡ 0
-    → (p : ℕ) → p < d → u p ≡ v p
-agree-of-distance-zero {u} {v} d hu hv e p b =
-    omega (arith, hu p, hv p, distance-suc p u v, distance-longer u v {a = suc p} {d = d} b)
-
 -- where at each place u or v agrees with c, the way from u to v over c is no detour
 pub distance-through : {u c v : ℕ → ℕ} (d : ℕ) → ((p : ℕ) → p < d → (u p ≡ c p) ⊎ (v p ≡ c p))
     → distance d u v ≡ distance d u c + distance d c v
@@ -76,15 +70,6 @@ join-right a u v p = simp (le-ltb (a + p) a (omega arith), add-sub-cancel-left)
 pub join-bits : (a : ℕ) {u v : ℕ → ℕ} → ((p : ℕ) → u p < 2) → ((p : ℕ) → v p < 2) → (p : ℕ) → joinAt a u v p < 2
 unfolding joinAt
 join-bits a {u} {v} hu hv p = elim (ltb p a) as (λ t. cond t (u p) (v (p - a)) < 2) [ true ↦ hu p | false ↦ hv (p - a) ]
-
-pub distance-join : (a b : ℕ) (u v u′ v′ : ℕ → ℕ)
-    → distance (a + b) (joinAt a u v) (joinAt a u′ v′) ≡ distance a u u′ + distance b v v′
-distance-join a b u v u′ v′ =
-    rw (
-      distance-split a b (joinAt a u v) (joinAt a u′ v′),
-      distance-ext a (join-left a u v) (join-left a u′ v′),
-      distance-ext b (λ p _. join-right a u v p) (λ p _. join-right a u′ v′ p),
-    )
 
 -- words that agree at all places but one are as far from a third one but for that place
 pub distance-one-place : (f g x : ℕ → ℕ) (d q : ℕ) → q < d → ((p : ℕ) → p < d → (p ≡ q → ⊥) → f p ≡ g p)

@@ -105,10 +105,6 @@ pub length-pack : (d : ℕ) (u : ℕ → ℕ) → length (pack d u) ≡ bytesFor
 unfolding pack
 length-pack d u = length-listOf (bytesFor d) (byteOf (cut d u))
 
-pub pack-ext : (d : ℕ) (u v : ℕ → ℕ) → ((p : ℕ) → p < d → u p ≡ v p) → pack d u ≡ pack d v
-unfolding pack
-pack-ext d u v same = rw (cut-ext d u v same)
-
 past-pack : (d : ℕ) (u : ℕ → ℕ) (i : ℕ) → bytesFor d ≤ i → getD (pack d u) i 0 ≡ 0
 past-pack d u i h = let past : length (pack d u) ≤ i = rw (length-pack d u) h in List·getD-eq-default (pack d u) 0 past
 

@@ -48,18 +48,7 @@ any-some f zero i l t = absurd (omega arith)
 any-some f (suc m) i l t =
     ⊎-elim (λ e. or-true-right (anyBelow f m) (f m) (rw e at t)) (λ k. rw (any-some f m i k t)) (last-or-below l)
 
-pub any-ext : (f g : ℕ → Bool) (m : ℕ) → ((i : ℕ) → i < m → f i ≡ g i) → anyBelow f m ≡ anyBelow g m
-unfolding anyBelow
-any-ext f g zero h = refl
-any-ext f g (suc m) h = rw (any-ext f g m (λ i l. h i (le-step l)), h m (lt-suc-self m))
-
 -- first: where the test first holds
-
-from-low : (f : ℕ → Bool) (from m : ℕ) → from ≤ firstFrom f from m
-unfolding firstFrom
-from-low f from zero = le-refl from
-from-low f from (suc m) =
-    ⊎-elim (λ e. rw e (le-refl from)) (λ e. rw e (omega (arith, from-low f (suc from) m))) (true-or-false (f from))
 
 from-high : (f : ℕ → Bool) (from m : ℕ) → firstFrom f from m ≤ from + m
 unfolding firstFrom
@@ -81,13 +70,6 @@ from-before f from (suc m) j h =
     (λ e. rw e (λ l. ⊎-elim (λ s. rw (← s) e) (λ k. from-before f (suc from) m j k l) (eq-or-lt-of-le h)))
     (true-or-false (f from))
 
-from-ext : (f g : ℕ → Bool) (from m : ℕ) → ((j : ℕ) → from ≤ j → j < from + m → f j ≡ g j)
-    → firstFrom f from m ≡ firstFrom g from m
-unfolding firstFrom
-from-ext f g from zero h = refl
-from-ext f g from (suc m) h =
-    rw (h from (le-refl from) (omega arith), from-ext f g (suc from) m (λ j l k. h j (omega arith) (omega arith)))
-
 module _ (f : ℕ → Bool) (m : ℕ) where
   pub first-le : first f m ≤ m
   unfolding first
@@ -108,10 +90,6 @@ module _ (f : ℕ → Bool) (m : ℕ) where
   pub first-none : ((j : ℕ) → j < m → f j ≡ false) → first f m ≡ m
   first-none none =
       equal (first f m) m (λ k. never (first-holds k) (none (first f m) k)) (λ k. omega (arith, first-le))
-
-pub first-ext : (f g : ℕ → Bool) (m : ℕ) → ((j : ℕ) → j < m → f j ≡ g j) → first f m ≡ first g m
-unfolding first
-first-ext f g m h = from-ext f g 0 m (λ j l k. h j (omega arith))
 
 -- leastAt: where a count is least
 
@@ -168,23 +146,6 @@ leastAt-first f from (suc m) q l =
     ⊎-elim (λ t. rw (t .0) (λ h. omega (arith, t .1, leastAt-least f from m q l (omega arith))))
     (λ k. rw (k .0) before)
     (taken-or-kept f from m)
-
--- the facts that say which number it is
-pub leastAt-is : (f : ℕ → ℕ) (from m q : ℕ) → from ≤ q → q ≤ from + m
-    → ((j : ℕ) → from ≤ j → j ≤ from + m → f q ≤ f j) → ((j : ℕ) → from ≤ j → j < q → f q < f j) → leastAt f from m ≡ q
-leastAt-is f from m q l h least first-one =
-    let r = leastAt f from m in
-    equal r q (λ k. omega (arith, first-one r (leastAt-low f from m) k, leastAt-least f from m q l h))
-    (λ k. omega (arith, leastAt-first f from m q l k, least r (leastAt-low f from m) (leastAt-high f from m)))
-
-pub leastAt-ext : (f g : ℕ → ℕ) (from m : ℕ) → ((j : ℕ) → from ≤ j → j ≤ from + m → f j ≡ g j)
-    → leastAt f from m ≡ leastAt g from m
-unfolding leastAt
-leastAt-ext f g from zero same = refl
-leastAt-ext f g from (suc m) same =
-    let before = leastAt-ext f g from m (λ j l h. same j l (omega arith)) in
-    let there = same (leastAt g from m) (leastAt-low g from m) (omega (arith, leastAt-high g from m)) in
-    rw (before, same (from + suc m) (omega arith) (omega arith), there)
 
 -- greatest: the greatest number of which the test holds
 

@@ -7,26 +7,27 @@ use native.Mathlib.Omega.{arith}
 use borrow.Author.Tests.{eq-eqb, ne-eqb}
 use lib.ListN.{length}
 use lib.Seq.{sets, sets-eq, drop-length}
-use Rattle.capi.specs.Crossing.{wrongCount, statusFor, leftFor, UnchangedUnlessZero}
+use Rattle.capi.specs.Crossing.{wrongCount, statusFor, leftBy, UnchangedUnlessZero}
 
 module _ (count : ℕ) (lent : List ℕ) where
-  -- what the contract of a call says of its status and of what it leaves, where the answer's own are `answered` and `kept`
-  abbrev Crosses : (answered : ℕ) (kept : List ℕ) (status : ℕ) (left : List ℕ) → Type 0
-  Crosses answered kept status left =
+  -- what the contract of a call says of its status and of what it leaves, where the answer's status is `answered`
+  abbrev Crosses : (answered : ℕ) (values : List ℕ) (status : ℕ) (left : List ℕ) → Type 0
+  Crosses answered values status left =
       (status ≡ statusFor count lent answered)
-      × ((left ≡ leftFor count lent kept) × UnchangedUnlessZero lent status left)
+      × ((left ≡ leftBy status values lent) × UnchangedUnlessZero lent status left)
 
-  pub wrong-count-changes-nothing : (length lent ≡ count → ⊥) → (answered : ℕ) (kept : List ℕ) → Crosses answered kept wrongCount lent
-  unfolding statusFor leftFor UnchangedUnlessZero
-  wrong-count-changes-nothing unlike answered kept = rw (ne-eqb (length lent) count unlike) (refl, (refl, λ _. refl))
+  pub wrong-count-changes-nothing : (length lent ≡ count → ⊥) → (answered : ℕ) (values : List ℕ) → Crosses answered values wrongCount lent
+  unfolding statusFor leftBy UnchangedUnlessZero
+  wrong-count-changes-nothing unlike answered values = rw (ne-eqb (length lent) count unlike) (refl, (refl, λ _. refl))
 
   module _ (alike : length lent ≡ count) where
-    pub refusal-changes-nothing : (refusal : ℕ) → Crosses refusal lent refusal lent
-    unfolding statusFor leftFor UnchangedUnlessZero
-    refusal-changes-nothing refusal = rw (eq-eqb (length lent) count alike) (refl, (refl, λ _. refl))
+    pub refusal-changes-nothing : (refusal : ℕ) → (refusal ≡ 0 → ⊥) → (values : List ℕ) → Crosses refusal values refusal lent
+    unfolding statusFor leftBy UnchangedUnlessZero
+    refusal-changes-nothing refusal nonzero values =
+        rw (eq-eqb (length lent) count alike, ne-eqb refusal 0 nonzero) (refl, (refl, λ _. refl))
 
     pub values-are-left : (values : List ℕ) → Crosses 0 values 0 values
-    unfolding statusFor leftFor UnchangedUnlessZero
+    unfolding statusFor leftBy UnchangedUnlessZero
     values-are-left values = rw (eq-eqb (length lent) count alike) (refl, (refl, λ nonzero. absurd (nonzero refl)))
 
 pub all-stored : (values lent : List ℕ) → length lent ≡ length values → sets lent 0 values ≡ values

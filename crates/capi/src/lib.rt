@@ -4,7 +4,8 @@
 // is not 0, nothing that was lent has changed. include/dunnavish.h says the same to a programmer in C.
 ghost use mathlib.Core.Path.{_≡_};
 ghost use Rattle.model.specs.Answers.{cardAnswer, writeAnswer, lentAfterWrite, readAnswer, startAnswer, millimetresAnswer};
-ghost use Rattle.capi.specs.Crossing.{statusFor, leftFor, UnchangedUnlessZero, cardCount, cardStatus, cardLeft, writeStatus, readCount, readStatus, readLeft, numberCount, numberStatus, numberLeft};
+ghost use Rattle.model.specs.Numbers.{cardStatus, cardValues, writeStatus, readStatus, readValues, numberStatus, numberValues};
+ghost use Rattle.capi.specs.Crossing.{cardCount, readCount, numberCount, statusFor, leftBy, UnchangedUnlessZero};
 use model::CardAnswer;
 use model::NumberAnswer;
 use model::ReadAnswer;
@@ -17,7 +18,7 @@ const WRONG_COUNT: u32 = 100;
 #[no_mangle]
 pub extern "C" fn dunnavish_check_card(card: &[u8], values: &mut [u32]) -> u32
     ensures status { λ r. ⌜ r ≡ statusFor cardCount (now (values .entry)) (cardStatus (cardAnswer (now (card .entry)))) ⌝ }
-    ensures left { λ _. ⌜ now (values .exit) ≡ leftFor cardCount (now (values .entry)) (cardLeft (cardAnswer (now (card .entry))) (now (values .entry))) ⌝ }
+    ensures left { λ r. ⌜ now (values .exit) ≡ leftBy r (cardValues (cardAnswer (now (card .entry)))) (now (values .entry)) ⌝ }
     ensures unchanged { λ r. ⌜ UnchangedUnlessZero (now (values .entry)) r (now (values .exit)) ⌝ }
 {
     if values.len() != 7 {
@@ -57,7 +58,7 @@ pub extern "C" fn dunnavish_write_word(card: &[u8], position: u32, word: &mut [u
 #[no_mangle]
 pub extern "C" fn dunnavish_read_word(card: &[u8], word: &[u8], values: &mut [u32]) -> u32
     ensures status { λ r. ⌜ r ≡ statusFor readCount (now (values .entry)) (readStatus (readAnswer (now (card .entry)) (now (word .entry)))) ⌝ }
-    ensures left { λ _. ⌜ now (values .exit) ≡ leftFor readCount (now (values .entry)) (readLeft (readAnswer (now (card .entry)) (now (word .entry))) (now (values .entry))) ⌝ }
+    ensures left { λ r. ⌜ now (values .exit) ≡ leftBy r (readValues (readAnswer (now (card .entry)) (now (word .entry)))) (now (values .entry)) ⌝ }
     ensures unchanged { λ r. ⌜ UnchangedUnlessZero (now (values .entry)) r (now (values .exit)) ⌝ }
 {
     if values.len() != 3 {
@@ -83,7 +84,7 @@ pub extern "C" fn dunnavish_read_word(card: &[u8], word: &[u8], values: &mut [u3
 #[no_mangle]
 pub extern "C" fn dunnavish_block_start(card: &[u8], block: u32, values: &mut [u32]) -> u32
     ensures status { λ r. ⌜ r ≡ statusFor numberCount (now (values .entry)) (numberStatus (startAnswer (now (card .entry)) block)) ⌝ }
-    ensures left { λ _. ⌜ now (values .exit) ≡ leftFor numberCount (now (values .entry)) (numberLeft (startAnswer (now (card .entry)) block) (now (values .entry))) ⌝ }
+    ensures left { λ r. ⌜ now (values .exit) ≡ leftBy r (numberValues (startAnswer (now (card .entry)) block)) (now (values .entry)) ⌝ }
     ensures unchanged { λ r. ⌜ UnchangedUnlessZero (now (values .entry)) r (now (values .exit)) ⌝ }
 {
     if values.len() != 1 {
@@ -103,7 +104,7 @@ pub extern "C" fn dunnavish_block_start(card: &[u8], block: u32, values: &mut [u
 #[no_mangle]
 pub extern "C" fn dunnavish_millimetres(card: &[u8], position: u32, values: &mut [u32]) -> u32
     ensures status { λ r. ⌜ r ≡ statusFor numberCount (now (values .entry)) (numberStatus (millimetresAnswer (now (card .entry)) position)) ⌝ }
-    ensures left { λ _. ⌜ now (values .exit) ≡ leftFor numberCount (now (values .entry)) (numberLeft (millimetresAnswer (now (card .entry)) position) (now (values .entry))) ⌝ }
+    ensures left { λ r. ⌜ now (values .exit) ≡ leftBy r (numberValues (millimetresAnswer (now (card .entry)) position)) (now (values .entry)) ⌝ }
     ensures unchanged { λ r. ⌜ UnchangedUnlessZero (now (values .entry)) r (now (values .exit)) ⌝ }
 {
     if values.len() != 1 {

@@ -2,7 +2,7 @@
 -- facts: no weight is below it, and it is some weight, or n. The Gray order meets every nonzero set of rows, so the two agree
 -- where the rows are independent; where they are not, the order meets weight 0. Assumes nothing.
 use mathlib.Core.Path.{_≡_, refl, sym, ap, _∙_}
-use mathlib.Core.Bool.{true, false, true≢false}
+use mathlib.Core.Bool.{true, false}
 use mathlib.Core.Logic.{_⊎_, inl, inr, ⊎-elim}
 use Prim.Native.Nat.{ℕ, zero, suc, _+_, _-_, _^_, _≤_, _<_, min}
 use native.Mathlib.Nat.{le-antisymm, eq-zero-or-pos}
@@ -176,14 +176,7 @@ module _ (n k : ℕ) (row : ℕ → ℕ) where
           omega (arith, order-meets-zero (2 ^ k - 1) i up (le-ones k below) (ap (sumOfRows row k) is-g ∙ e)))
           (eq-zero-or-pos i)
 
-  -- so it is 0 where they are dependent ...
-  pub zero-of-order : dependent k row ≡ true → leastInOrder n k row (2 ^ k - 1) ≡ 0
-  zero-of-order test =
-      ⊎-elim (λ (e : leastInOrder n k row (2 ^ k - 1) ≡ 0). e)
-      (λ (pos : 0 < leastInOrder n k row (2 ^ k - 1)). absurd (true≢false (sym test ∙ independent-of-order pos)))
-      (eq-zero-or-pos (leastInOrder n k row (2 ^ k - 1)))
-
-  -- ... and only there
+  -- a least of 0 shows that they are dependent
   pub dependent-of-order : 1 ≤ n → ((z : ℕ) → z < k → row z < 2 ^ n) → leastInOrder n k row (2 ^ k - 1) ≡ 0
       → dependent k row ≡ true
   dependent-of-order hn narrow e =

@@ -1,51 +1,26 @@
 // The public calls. Each takes a card's bytes, checks them itself, and answers every input: the card's bytes may be any list of
 // bytes, and a number any number of its type. What an answer means is said by the definitions that the contracts name.
 ghost use mathlib.Core.Path.{_≡_};
-ghost use Rattle.model.specs.Decoded.{meaning};
-ghost use Rattle.model.specs.Answers.{wordLength, cardAnswer, writeAnswer, lentAfterWrite, readAnswer, startAnswer, millimetresAnswer};
+ghost use Rattle.model.specs.Answers.{cardAnswer, writeAnswer, lentAfterWrite, readAnswer, startAnswer, millimetresAnswer};
 ghost use Rattle.model.specs.declared.WriteAnswer.the-variants.{Written};
-ghost use Rattle.code_theory.specs.Promise.{Sound};
 ghost use Rattle.position_theory.specs.Demands.{WrittenIfServable, UnchangedIfRefused, NeighboursDifferInOneBit, NoOtherPositionsWord, NearestOfAllowed, OffByAtMostTwiceTurned, OffByAtMostTurnedAndResidual};
 use chunk::decode;
 use chunk::refusal;
 use model::CardAnswer;
-use model::CardSummary;
-use model::DecodedCode;
 use model::NumberAnswer;
 use model::ReadAnswer;
 use model::WriteAnswer;
 use position::blocks;
 use position::layout;
 use position::reading;
+use position::summary;
 use position::words;
-
-// The bytes of a word.
-fn word_length(code: DecodedCode) -> usize
-    requires { ⌜ Sound (meaning code) ⌝ }
-    ensures { λ r. ⌜ r ≡ wordLength (meaning code) ⌝ }
-{
-    let bits = layout::layout_of(code).bits;
-    ((bits + 7) / 8) as usize
-}
 
 // Checks a card. A sound card is answered with its n, k, track, D, t, d and last position; any other with its refusal, 1 to 5.
 pub fn check_card(card: &[u8]) -> CardAnswer
     ensures answer { λ r. ⌜ r ≡ cardAnswer (now (card .entry)) ⌝ }
 {
-    let decoded = decode::decode(card);
-    if decoded.refusal != 0 {
-        return CardAnswer::Refused(decoded.refusal);
-    }
-    let code = decoded.code;
-    CardAnswer::Sound(CardSummary {
-        n: code.n,
-        k: code.k,
-        track: decoded.track,
-        distance: code.distance,
-        radius: (code.distance - 1) / 2,
-        bits: layout::layout_of(code).bits,
-        last: blocks::last_position(code),
-    })
+    summary::card_answer(decode::decode(card))
 }
 
 // Writes the word of a position into the lent word. Refused: the card, 1 to 5; a lent word that has not exactly the bytes of a
@@ -64,7 +39,7 @@ pub fn write_word(card: &[u8], position: u32, word: &mut [u8]) -> WriteAnswer
         return WriteAnswer::Refused(decoded.refusal);
     }
     let code = decoded.code;
-    let length = refusal::refusal_if(word.len() != word_length(code), 6);
+    let length = refusal::refusal_if(word.len() != layout::word_length(code), 6);
     let above = refusal::refusal_if(blocks::last_position(code) < position, 7);
     let refusal = refusal::first_of(length, above);
     if refusal != 0 {

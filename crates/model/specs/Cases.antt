@@ -10,12 +10,7 @@ use Rattle.model.specs.Order.{codeword, lastPosition, start}
 use Rattle.model.specs.Words.{wordBytes}
 use Rattle.model.specs.Reading.{separator₂, separator₃}
 use Rattle.model.specs.Answers.{cardAnswer, writeAnswer, lentAfterWrite, readAnswer}
-use Rattle.model.specs.declared.CardAnswer.{CardAnswer}
-use Rattle.model.specs.declared.CardAnswer.the-variants.{Sound, Refused as CardRefused}
-use Rattle.model.specs.declared.WriteAnswer.{WriteAnswer}
-use Rattle.model.specs.declared.WriteAnswer.the-variants.{Written, Refused as WriteRefused}
-use Rattle.model.specs.declared.ReadAnswer.{ReadAnswer}
-use Rattle.model.specs.declared.ReadAnswer.the-variants.{At, Refused as ReadRefused}
+use Rattle.model.specs.Numbers.{cardStatus, cardValues, writeStatus, writeValues, readStatus, readValues}
 
 -- rows below 256, each as 8 bytes, high byte first
 unfoldable pub rowBytes : List ℕ → List ℕ
@@ -47,18 +42,9 @@ pub data Question : Type 0 where
   bitsUnlike : (card : List ℕ) (position : ℕ) (received : List ℕ) → Question
   onesOfSeparators : (card received : List ℕ) → Question
 
--- document 01's number of a refusal, alone; of any other answer 0 and its values
-unfoldable pub cardNumbers : CardAnswer → List ℕ
-cardNumbers (Sound s) = 0 ∷ s .n ∷ s .k ∷ s .track ∷ s .distance ∷ s .radius ∷ s .bits ∷ s .last ∷ []
-cardNumbers (CardRefused refusal) = refusal ∷ []
-
-unfoldable pub writeNumbers : WriteAnswer → List ℕ
-writeNumbers Written = 0 ∷ []
-writeNumbers (WriteRefused refusal) = refusal ∷ []
-
-unfoldable pub readNumbers : ReadAnswer → List ℕ
-readNumbers (At position residual rule) = 0 ∷ position ∷ residual ∷ rule ∷ []
-readNumbers (ReadRefused refusal) = refusal ∷ []
+-- an answer written out: its status, then its values
+unfoldable pub numbersOf : {A : Type 0} (status : A → ℕ) (values : A → List ℕ) (answer : A) → List ℕ
+numbersOf status values answer = status answer ∷ values answer
 
 -- the codewords c(0), …, c(m - 1) of n places, each place 0 first
 unfoldable pub codewordPlaces : List ℕ → ℕ → List ℕ
@@ -68,11 +54,12 @@ codewordPlaces card (suc i) = codewordPlaces card i ++ listOf (codeOf card .n) (
 -- what the definitions answer
 unfoldable pub answerTo : Question → List ℕ
 answerTo (checkOf card) = storedCheck card ∷ []
-answerTo (check card) = cardNumbers (cardAnswer card)
+answerTo (check card) = numbersOf cardStatus cardValues (cardAnswer card)
 answerTo (order card m) = codewordPlaces card m
 answerTo (starts card m) = listOf m (start (codeOf card)) ++ (lastPosition (codeOf card) ∷ [])
-answerTo (write card position lent) = writeNumbers (writeAnswer card position lent) ++ lentAfterWrite card position lent
-answerTo (read card received) = readNumbers (readAnswer card received)
+answerTo (write card position lent) =
+    numbersOf writeStatus writeValues (writeAnswer card position lent) ++ lentAfterWrite card position lent
+answerTo (read card received) = numbersOf readStatus readValues (readAnswer card received)
 answerTo (bitsUnlike card position received) = differingBits (wordBytes (codeOf card) position) received ∷ []
 answerTo (onesOfSeparators card received) =
     let C : Code = codeOf card in

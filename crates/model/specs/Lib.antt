@@ -4,4 +4,5 @@ pub mod Order
 pub mod Words
 pub mod Reading
 pub mod Answers
+pub mod Numbers
 pub mod Cases

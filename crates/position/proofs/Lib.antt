@@ -18,3 +18,4 @@ pub mod UnreadableChunk
 pub mod SeparatorRules
 pub mod SpareBits
 pub mod ReadRefusals
+pub mod DecodedCard

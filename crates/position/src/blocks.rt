@@ -1,8 +1,8 @@
-// The blocks of a track: where each one starts, the block of a position, and the weight of the row that a block changes.
+// The blocks of a track: where each one starts, and the block of a position.
 ghost use mathlib.Core.Path.{_≡_};
 ghost use Prim.Native.Nat.{_+_, _/_, _^_, _≤_, _<_};
 ghost use Rattle.model.specs.Decoded.{meaning};
-ghost use Rattle.model.specs.Order.{lastCodeword, changedWeight, start, lastPosition};
+ghost use Rattle.model.specs.Order.{lastCodeword, start, lastPosition};
 ghost use Rattle.model.specs.Words.{blockOf};
 ghost use Rattle.code_theory.specs.Promise.{Sound};
 use chunk::codeword;
@@ -65,14 +65,4 @@ pub fn block_of(code: DecodedCode, position: u32) -> u32
         }
     }
     low
-}
-
-// The weight of the row in which codewords i and i + 1 differ: the row whose number is the count of trailing zeros of i + 1.
-pub fn changed_weight(code: DecodedCode, i: u32) -> u32
-    requires { ⌜ Sound (meaning code) × (i < lastCodeword (meaning code)) ⌝ }
-    ensures { λ r. ⌜ r ≡ changedWeight (meaning code) i ⌝ }
-{
-    let rows = code.rows;
-    let z = u32::trailing_zeros(i + 1) as usize;
-    codeword::row_weight(rows[z])
 }

@@ -1,4 +1,7 @@
-// The layout of a word: where its chunks start, and how many bits it has.
+// The layout of a word: where its chunks start, and how many bits and bytes it has.
+ghost use mathlib.Core.Path.{_≡_};
+ghost use Prim.Native.Nat.{_≤_};
+ghost use Rattle.model.specs.Answers.{wordLength};
 ghost use Rattle.model.specs.Decoded.{meaning};
 ghost use Rattle.code_theory.specs.Promise.{Sound};
 ghost use Rattle.position.specs.LayoutOf.{LayoutOf};
@@ -29,4 +32,12 @@ pub fn layout_of(code: DecodedCode) -> Layout
         separator3,
         bits: separator3 + d,
     }
+}
+
+// The bytes of a word: 1 to 40.
+pub fn word_length(code: DecodedCode) -> usize
+    requires { ⌜ Sound (meaning code) ⌝ }
+    ensures { λ r. ⌜ (r ≡ wordLength (meaning code)) × (1 ≤ r) × (r ≤ 40) ⌝ }
+{
+    ((layout_of(code).bits + 7) / 8) as usize
 }

@@ -5,4 +5,5 @@ pub mod places;
 pub mod reading;
 pub mod scan;
 pub mod splice;
+pub mod summary;
 pub mod words;

@@ -13,7 +13,7 @@ pub mod search;
 pub mod steps;
 
 ghost use mathlib.Core.Path.{_≡_};
-ghost use Prim.Native.Nat.{_+_, _*_, _≤_, _<_};
+ghost use Prim.Native.Nat.{_+_, _≤_, _<_};
 
 // What a sound card is answered with. Of a refused card every field but the refusal is 0.
 pub struct CardFacts {
@@ -108,11 +108,6 @@ pub fn prepared_facts(p: Prepared) -> CardFacts {
     }
 }
 
-// Checks a card: its facts, or the refusal.
-pub fn card_facts(card: &[u8]) -> CardFacts {
-    prepared_facts(prepare(card))
-}
-
 // The walk at position 0 of a prepared card.
 pub fn prepared_walk(p: Prepared) -> Walk
     ensures { λ r. ⌜ r .position ≡ 0 ⌝ }
@@ -129,11 +124,6 @@ pub fn prepared_walk(p: Prepared) -> Walk
         stand,
         bits,
     }
-}
-
-// The walk at position 0 of a card.
-pub fn walk_start(card: &[u8]) -> Walk {
-    prepared_walk(prepare(card))
 }
 
 // The walk one position further, with one bit turned. At the last position it stays.

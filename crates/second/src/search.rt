@@ -1,7 +1,6 @@
 // The reading rules and the search for the nearest allowed position, written from document 01's words by plain search,
 // to be compared with the library.
-ghost use mathlib.Core.Path.{_≡_};
-ghost use Prim.Native.Nat.{_+_, _*_, _≤_, _<_};
+ghost use Prim.Native.Nat.{_+_, _≤_, _<_};
 use crate::bits;
 use crate::code;
 use crate::steps;

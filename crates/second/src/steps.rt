@@ -3,7 +3,7 @@
 //
 // The walk starts at position 0 with w(0). In block i each step turns the next place, in rising order, in which w(i)
 // and w(i+1) differ, until none is left; the word is then w(i+1), and block i+1 begins.
-ghost use Prim.Native.Nat.{_+_, _*_, _≤_, _<_};
+ghost use Prim.Native.Nat.{_≤_, _<_};
 use crate::bits;
 use crate::code;
 

@@ -10,8 +10,9 @@ use Rattle.model.specs.Order.{gray, lastCodeword, codeword, changedRow, changed
 use Rattle.model.specs.Words.{fiveChunks, word, blockOf, wordAt, wordBytes}
 use Rattle.model.specs.Reading.{majority, chunkDistance, chunkReading, ruleOf, ruleNamed, rule₁, rule₂, rule₃, allowedBy, allowed, residual, nearest, reading}
 use Rattle.model.specs.Answers.{summaryOf, cardAnswer, writeRefusal, writeAnswer, lentAfterWrite, spareSet, readWord, readAnswer}
-use Rattle.model.specs.Cases.{Case, rowBytes, sealed, cardOf, cardA, cardB, cardNumbers, writeNumbers, readNumbers, codewordPlaces, answerTo, starredCases}
+use Rattle.model.specs.Numbers.{cardStatus, cardValues, writeStatus, writeValues, readStatus, readValues}
+use Rattle.model.specs.Cases.{Case, rowBytes, sealed, cardOf, cardA, cardB, numbersOf, codewordPlaces, answerTo, starredCases}
 
 pub starred-cases : map (λ (c : Case). answerTo (c .question)) starredCases ≡ map (λ (c : Case). c .answer) starredCases
-unfolding sumBelow distance joinAt walk weight place cut byteOf listOf pack differingBits anyBelow firstFrom first leastAt greatest highFirst trackOf rowOf storedCheck computedCheck sumOfRows leastWeight codeOf withinLimits rowTooWide unusedRowSet unusedByteSet misplaced dependent cardRefusal gray lastCodeword codeword changedRow changedWeight start lastPosition fiveChunks word blockOf wordAt wordBytes majority chunkDistance chunkReading ruleOf ruleNamed rule₁ rule₂ rule₃ allowedBy allowed residual nearest reading summaryOf cardAnswer writeRefusal writeAnswer lentAfterWrite spareSet readWord readAnswer rowBytes sealed cardOf cardA cardB cardNumbers writeNumbers readNumbers codewordPlaces answerTo starredCases
+unfolding sumBelow distance joinAt walk weight place cut byteOf listOf pack differingBits anyBelow firstFrom first leastAt greatest highFirst trackOf rowOf storedCheck computedCheck sumOfRows leastWeight codeOf withinLimits rowTooWide unusedRowSet unusedByteSet misplaced dependent cardRefusal gray lastCodeword codeword changedRow changedWeight start lastPosition fiveChunks word blockOf wordAt wordBytes majority chunkDistance chunkReading ruleOf ruleNamed rule₁ rule₂ rule₃ allowedBy allowed residual nearest reading summaryOf cardAnswer writeRefusal writeAnswer lentAfterWrite spareSet readWord readAnswer rowBytes sealed cardOf cardA cardB cardStatus cardValues writeStatus writeValues readStatus readValues numbersOf codewordPlaces answerTo starredCases
 starred-cases = refl

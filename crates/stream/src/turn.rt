@@ -11,6 +11,7 @@ ghost use Rattle.stream.specs.TakenIn.{TakenIn};
 use super::tail;
 use super::words;
 use model::DecodedCode;
+use position::layout;
 use report::lines;
 
 // What a turn gives: the place past its lines, the words that it met and those that it read, and the bytes kept.
@@ -27,7 +28,7 @@ pub fn take_in(out: &mut [u8], code: DecodedCode, input: &mut [u8], n: usize, me
     requires { ⌜ (n ≤ length (now input)) × (n / wordLength (meaning code) * lineRoom ≤ length (now out)) × (met + n / wordLength (meaning code) < 2 ^ 64) ⌝ }
     ensures { λ r. ⌜ TakenIn (meaning code) (take n (now (input .entry))) met (now (input .exit)) (now (out .entry)) (now (out .exit)) r ⌝ }
 {
-    let w = words::word_length(code);
+    let w = layout::word_length(code);
     let m = n / w;
     let told = words::put_words(out, 0, code, &input[..n], met, m);
     let held = tail::keep_tail(input, m * w, n);

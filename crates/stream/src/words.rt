@@ -14,14 +14,6 @@ use position::layout;
 use position::reading;
 use report::lines;
 
-// The bytes of a word: 1 to 40.
-pub fn word_length(code: DecodedCode) -> usize
-    requires { ⌜ Sound (meaning code) ⌝ }
-    ensures { λ r. ⌜ (r ≡ wordLength (meaning code)) × (1 ≤ r) × (r ≤ 40) ⌝ }
-{
-    ((layout::layout_of(code).bits + 7) / 8) as usize
-}
-
 // 1 for a word that is read, 0 for one that is refused.
 fn read_count(answer: ReadAnswer) -> u64
     ensures { λ r. ⌜ (r ≡ readCount answer) × (r ≤ 1) ⌝ }
@@ -59,7 +51,7 @@ pub fn put_words(
     ensures { λ r. ⌜ r .next ≤ at + words * lineRoom ⌝ }
     ensures { λ r. ⌜ (r .read ≡ wordsRead (meaning code) (now (bytes .entry)) words) × (r .read ≤ words) ⌝ }
 {
-    let w = word_length(code);
+    let w = layout::word_length(code);
     let mut next = at;
     let mut read: u64 = 0;
     let mut from: usize = 0;

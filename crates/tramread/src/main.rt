@@ -13,10 +13,10 @@ use chunk::decode;
 use libc::STDIN_FILENO;
 use libc::STDOUT_FILENO;
 use model::DecodedCode;
+use position::layout;
+use position::summary;
 use report::lines;
-use stream::card;
 use stream::turn;
-use stream::words;
 
 // A turn of the loop reads at most 1,600 words: 64,000 bytes of the widest word, and 204,800 bytes of lines.
 const WORDS: usize = 1600;
@@ -56,7 +56,7 @@ fn read_words(code: DecodedCode, input: &mut [u8], out: &mut [u8])
     requires { ⌜ Sound (meaning code) ⌝ }
     requires { ⌜ (length (now input) ≡ 64000) × (length (now out) ≡ 204800) ⌝ }
 {
-    let w = words::word_length(code);
+    let w = layout::word_length(code);
     let full = WORDS * w;
     let mut held: usize = 0;
     let mut met: u64 = 0;
@@ -87,7 +87,7 @@ fn main() {
     let n = io::read_full(STDIN_FILENO, &mut bytes);
     let decoded = decode::decode(&bytes[..n]);
     let mut out = line_buffer();
-    let end = lines::put_card_line(&mut out, 0, card::card_answer(decoded));
+    let end = lines::put_card_line(&mut out, 0, summary::card_answer(decoded));
     io::write_all(STDOUT_FILENO, &out[..end]);
     if decoded.refusal != 0 {
         return;

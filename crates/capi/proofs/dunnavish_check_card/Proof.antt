@@ -5,8 +5,10 @@ use mathlib.Core.List.{[], _∷_}
 use native.Mathlib.Omega.{arith}
 use borrow.Author.Needs.{needs}
 use lib.ListN.{length-set}
-use Rattle.capi.specs.Crossing.{cardCount, cardStatus, cardLeft}
+use Rattle.model.specs.Numbers.{cardStatus, cardValues}
+use Rattle.capi.specs.Crossing.{cardCount}
 use Rattle.capi.proofs.Lent.{wrong-count-changes-nothing, refusal-changes-nothing, values-are-left, all-stored}
+use Rattle.capi.proofs.NonzeroRefusals.{card-refusal-nonzero}
 use Rattle.capi.proofs.dunnavish_check_card.Statement.{statement}
 use Rattle.capi.proofs.dunnavish_check_card.Tie as tie
 
@@ -44,17 +46,17 @@ slice-write-values-7 : tie.Need-slice-write-values-7
 slice-write-values-7 c = simp length-set (omega arith)
 
 returns-2 : tie.Need-returns-2
-unfolding cardStatus cardLeft
+unfolding cardStatus cardValues
 returns-2 c =
     let asked = c .before .before .before in
-    rw (sym (asked .check-card .ensures) ∙ c .before .answer .given .1)
-    (refusal-changes-nothing cardCount _ (asked .before .if1 .left) _)
+    let refused = sym (asked .check-card .ensures) ∙ c .before .answer .given .1 in
+    rw refused (refusal-changes-nothing cardCount _ (asked .before .if1 .left) _ (card-refusal-nonzero _ refused) _)
 
 same-length : tie.Need-same-length
 same-length c = search needs
 
 returns-3 : tie.Need-returns-3
-unfolding cardStatus cardLeft
+unfolding cardStatus cardValues
 returns-3 c =
     let asked = c .before .before .before in
     let alike = asked .before .if1 .left in

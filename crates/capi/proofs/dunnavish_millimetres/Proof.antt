@@ -3,8 +3,10 @@
 use mathlib.Core.Path.{sym, _∙_}
 use mathlib.Core.List.{[], _∷_}
 use borrow.Author.Needs.{needs}
-use Rattle.capi.specs.Crossing.{numberCount, numberStatus, numberLeft}
+use Rattle.model.specs.Numbers.{numberStatus, numberValues}
+use Rattle.capi.specs.Crossing.{numberCount}
 use Rattle.capi.proofs.Lent.{wrong-count-changes-nothing, refusal-changes-nothing, values-are-left, all-stored}
+use Rattle.capi.proofs.NonzeroRefusals.{millimetres-refusal-nonzero}
 use Rattle.capi.proofs.dunnavish_millimetres.Statement.{statement}
 use Rattle.capi.proofs.dunnavish_millimetres.Tie as tie
 
@@ -24,17 +26,17 @@ slice-write-values : tie.Need-slice-write-values
 slice-write-values c = search needs
 
 returns-2 : tie.Need-returns-2
-unfolding numberStatus numberLeft
+unfolding numberStatus numberValues
 returns-2 c =
     let asked = c .before .before .before in
-    rw (sym (asked .millimetres .ensures) ∙ c .before .answer .given .1)
-    (refusal-changes-nothing numberCount _ (asked .before .if1 .left) _)
+    let refused = sym (asked .millimetres .ensures) ∙ c .before .answer .given .1 in
+    rw refused (refusal-changes-nothing numberCount _ (asked .before .if1 .left) _ (millimetres-refusal-nonzero _ _ refused) _)
 
 same-length : tie.Need-same-length
 same-length c = search needs
 
 returns-3 : tie.Need-returns-3
-unfolding numberStatus numberLeft
+unfolding numberStatus numberValues
 returns-3 c =
     let asked = c .before .before .before in
     let alike = asked .before .if1 .left in

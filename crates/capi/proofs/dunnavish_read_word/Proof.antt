@@ -3,8 +3,10 @@
 use mathlib.Core.Path.{sym, _∙_}
 use mathlib.Core.List.{[], _∷_}
 use borrow.Author.Needs.{needs}
-use Rattle.capi.specs.Crossing.{readCount, readStatus, readLeft}
+use Rattle.model.specs.Numbers.{readStatus, readValues}
+use Rattle.capi.specs.Crossing.{readCount}
 use Rattle.capi.proofs.Lent.{wrong-count-changes-nothing, refusal-changes-nothing, values-are-left, all-stored}
+use Rattle.capi.proofs.NonzeroRefusals.{read-refusal-nonzero}
 use Rattle.capi.proofs.dunnavish_read_word.Statement.{statement}
 use Rattle.capi.proofs.dunnavish_read_word.Tie as tie
 
@@ -30,17 +32,17 @@ slice-write-values-3 : tie.Need-slice-write-values-3
 slice-write-values-3 c = search needs
 
 returns-2 : tie.Need-returns-2
-unfolding readStatus readLeft
+unfolding readStatus readValues
 returns-2 c =
     let asked = c .before .before .before in
-    rw (sym (asked .read-word .ensures .0) ∙ c .before .answer .given .1)
-    (refusal-changes-nothing readCount _ (asked .before .if1 .left) _)
+    let refused = sym (asked .read-word .ensures .0) ∙ c .before .answer .given .1 in
+    rw refused (refusal-changes-nothing readCount _ (asked .before .if1 .left) _ (read-refusal-nonzero _ _ refused) _)
 
 same-length : tie.Need-same-length
 same-length c = search needs
 
 returns-3 : tie.Need-returns-3
-unfolding readStatus readLeft
+unfolding readStatus readValues
 returns-3 c =
     let asked = c .before .before .before in
     let alike = asked .before .if1 .left in

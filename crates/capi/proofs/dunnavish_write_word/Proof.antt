@@ -7,7 +7,8 @@ use borrow.Author.Needs.{needs}
 use Rattle.model.specs.declared.WriteAnswer.{WriteAnswer}
 use Rattle.model.specs.declared.WriteAnswer.the-variants.{Written, Refused}
 use Rattle.position_theory.specs.Demands.{UnchangedIfRefused}
-use Rattle.capi.specs.Crossing.{writeStatus, UnchangedUnlessZero}
+use Rattle.model.specs.Numbers.{writeStatus}
+use Rattle.capi.specs.Crossing.{UnchangedUnlessZero}
 use Rattle.capi.proofs.dunnavish_write_word.Statement.{statement}
 use Rattle.capi.proofs.dunnavish_write_word.Tie as tie
 

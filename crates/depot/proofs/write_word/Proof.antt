@@ -50,7 +50,7 @@ returns-2 c =
     let decoded = tested .before .before .before .before .before .before in
     let asked = decoded .before .before .before .before .before .args in
     word-refused _ (asked .position) (asked .word .now) _ (decoded .before .before .decode .ensures) (decoded .if1 .left) _ _ _
-    (tested .before .before .before .before .word-length .ensures) (tested .before .before .last-position .ensures) (first-refusal tested) (c .if2 .taken)
+    (tested .before .before .before .before .word-length .ensures .0) (tested .before .before .last-position .ensures) (first-refusal tested) (c .if2 .taken)
 
 write-requires : tie.Need-write-requires
 write-requires c κs =
@@ -58,9 +58,9 @@ write-requires c κs =
     let decoded = tested .before .before .before .before .before .before in
     let asked = decoded .before .before .before .before .before .args in
     let fits = servable _ (asked .position) (asked .word .now) _ (decoded .before .before .decode .ensures) (decoded .if1 .left) _ _ _
-    (tested .before .before .before .before .word-length .ensures) (tested .before .before .last-position .ensures) (first-refusal tested) (c .before .if2 .left) in (
+    (tested .before .before .before .before .word-length .ensures .0) (tested .before .before .last-position .ensures) (first-refusal tested) (c .before .if2 .left) in (
       (sound decoded, rw (tested .before .before .last-position .ensures) at (fits .0)),
-      fits .1 ∙ tested .before .before .before .before .word-length .ensures,
+      fits .1 ∙ tested .before .before .before .before .word-length .ensures .0,
     )
 
 same-length : tie.Need-same-length
@@ -73,7 +73,7 @@ returns-3 c =
     let decoded = tested .before .before .before .before .before .before in
     let asked = decoded .before .before .before .before .before .args in
     written _ (asked .position) (asked .word .now) _ (decoded .before .before .decode .ensures) (decoded .if1 .left) _ _ _
-    (tested .before .before .before .before .word-length .ensures) (tested .before .before .last-position .ensures) (first-refusal tested) (passed .if2 .left) _
+    (tested .before .before .before .before .word-length .ensures .0) (tested .before .before .last-position .ensures) (first-refusal tested) (passed .if2 .left) _
     (c .before .before .write .ensures)
 
 pub write-word-spec : {M : Type 1} → statement M

@@ -1,4 +1,4 @@
-// The answer of a card that has been decoded.
+// The answer to a check of a card, from what decoding the card gave: its refusal, or its figures.
 ghost use mathlib.Core.Path.{_≡_};
 ghost use mathlib.Core.List.{List};
 ghost use Prim.Native.Nat.{ℕ};
@@ -6,13 +6,14 @@ ghost use Rattle.model.specs.Answers.{cardAnswer};
 ghost use Rattle.model.specs.Decoded.{meaning};
 ghost use Rattle.code_theory.specs.Promise.{Sound};
 ghost use Rattle.chunk.specs.DecodedFrom.{DecodedFrom};
+use super::blocks;
+use super::layout;
 use model::CardAnswer;
 use model::CardSummary;
 use model::Decoded;
-use position::blocks;
-use position::layout;
 
-// The answer to a check of the card that was decoded so. The card is not looked at again.
+// The answer to a check of whichever card was decoded so. The card is not looked at again: a caller that goes on to use the code
+// decodes it once.
 pub fn card_answer(decoded: Decoded) -> CardAnswer
     requires { ⌜ (decoded .refusal ≡ 0 → Sound (meaning (decoded .code))) ⌝ }
     ensures { λ r. ⌜ ((card : List ℕ) → DecodedFrom card decoded → r ≡ cardAnswer card) ⌝ }

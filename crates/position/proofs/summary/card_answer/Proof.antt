@@ -1,10 +1,10 @@
--- `stream::card::card_answer` meets its contract: the laws of the card's public check say what each way out answers. Assumes nothing.
+-- `position::summary::card_answer` meets its contract: one law for each way out. Assumes nothing.
 use Rattle.model.specs.Decoded.{meaning}
 use Rattle.code_theory.specs.Promise.{Sound}
 use Rattle.code_theory.proofs.LeastDistance.{D-low}
-use Rattle.depot.proofs.Answers.{card-refused, card-sound}
-use Rattle.stream.proofs.card.card_answer.Statement.{statement}
-use Rattle.stream.proofs.card.card_answer.Tie as tie
+use Rattle.position.proofs.DecodedCard.{card-refused, card-sound}
+use Rattle.position.proofs.summary.card_answer.Statement.{statement}
+use Rattle.position.proofs.summary.card_answer.Tie as tie
 
 sound : (c : tie.Else1) → Sound (meaning (c .before .before .args .decoded .code))
 sound c = c .before .before .pre (c .if1 .left)

@@ -1,0 +1,132 @@
+-- A check of a card, a read and a call that asks for one number are never refused by the number 0: a status of 0 says that the
+-- call was served, and its values are what the lent numbers then hold. Assumes nothing.
+use mathlib.Core.Path.{_≡_, refl}
+use mathlib.Core.Bool.{Bool, true, false, cond, not}
+use mathlib.Core.List.{List}
+use Prim.Native.Nat.{ℕ}
+use native.Mathlib.Omega.{arith}
+use lib.Dec.{eqb, ltb}
+use lib.ListN.{length}
+use borrow.Author.Tests.{eqb-false}
+use Rattle.bits.specs.Places.{place}
+use Rattle.model.specs.Card.{Code, cardRefusal, codeOf}
+use Rattle.model.specs.Order.{lastCodeword, lastPosition, start}
+use Rattle.model.specs.Words.{millimetresOf}
+use Rattle.model.specs.Reading.{Allowed, fromTo, refusedBy, rule₁, rule₂, rule₃, allowedBy, allowed, nearest, reading}
+use Rattle.model.specs.Answers.{wordLength, spareSet, cardAnswer, readWord, readAnswer, startAnswer, millimetresAnswer}
+use Rattle.model.specs.declared.Chunk.{Chunk}
+use Rattle.model.specs.declared.Chunk.the-variants.{Codeword, Unreadable}
+use Rattle.model.specs.declared.CardAnswer.{CardAnswer}
+use Rattle.model.specs.declared.CardAnswer.the-variants.{Sound, Refused as CardRefused}
+use Rattle.model.specs.declared.ReadAnswer.{ReadAnswer}
+use Rattle.model.specs.declared.ReadAnswer.the-variants.{At, Refused as ReadRefused}
+use Rattle.model.specs.declared.NumberAnswer.{NumberAnswer}
+use Rattle.model.specs.declared.NumberAnswer.the-variants.{Number, Refused as NumberRefused}
+
+-- what holds on either side of a test holds of what it chooses
+by-test : {A : Type 0} (P : A → Type 0) (t : Bool) {a b : A} → (t ≡ true → P a) → (t ≡ false → P b) → P (cond t a b)
+by-test P true ha hb = ha refl
+by-test P false ha hb = hb refl
+
+-- the same of a test turned round
+unless-test : {A : Type 0} (P : A → Type 0) (t : Bool) {a b : A} → (t ≡ false → P a) → (t ≡ true → P b) → P (cond (not t) a b)
+unless-test P true ha hb = hb refl
+unless-test P false ha hb = ha refl
+
+-- a check of a card: it is served, or refused by a number that is not 0
+unfoldable CardNotByZero : CardAnswer → Type 0
+CardNotByZero (Sound s) = Unit {0}
+CardNotByZero (CardRefused refusal) = refusal ≡ 0 → ⊥
+
+card-not-by-zero : (card : List ℕ) → CardNotByZero (cardAnswer card)
+unfolding cardAnswer CardNotByZero
+card-not-by-zero card = by-test CardNotByZero (eqb (cardRefusal card) 0) (λ _. tt) (eqb-false (cardRefusal card) 0)
+
+pub card-refusal-nonzero : (card : List ℕ) {refusal : ℕ} → cardAnswer card ≡ CardRefused refusal → refusal ≡ 0 → ⊥
+unfolding CardNotByZero
+card-refusal-nonzero card e = rw e at (card-not-by-zero card)
+
+-- a call that asks for one number: a block's start, or a distance
+unfoldable NumberNotByZero : NumberAnswer → Type 0
+NumberNotByZero (Number number) = Unit {0}
+NumberNotByZero (NumberRefused refusal) = refusal ≡ 0 → ⊥
+
+number-not-by-zero : (card : List ℕ) (last asked number : ℕ)
+    → NumberNotByZero (cond (not (eqb (cardRefusal card) 0)) (NumberRefused (cardRefusal card))
+    (cond (ltb last asked) (NumberRefused 7)
+    (Number number)))
+unfolding NumberNotByZero
+number-not-by-zero card last asked number =
+    unless-test NumberNotByZero (eqb (cardRefusal card) 0) (eqb-false (cardRefusal card) 0)
+    (λ _. by-test NumberNotByZero (ltb last asked) (λ _ z. omega arith) (λ _. tt))
+
+pub start-refusal-nonzero : (card : List ℕ) (block : ℕ) {refusal : ℕ} → startAnswer card block ≡ NumberRefused refusal
+    → refusal ≡ 0 → ⊥
+unfolding startAnswer NumberNotByZero
+start-refusal-nonzero card block e = rw e at (number-not-by-zero card (lastCodeword (codeOf card)) block (start (codeOf card) block))
+
+pub millimetres-refusal-nonzero : (card : List ℕ) (position : ℕ) {refusal : ℕ}
+    → millimetresAnswer card position ≡ NumberRefused refusal → refusal ≡ 0 → ⊥
+unfolding millimetresAnswer NumberNotByZero
+millimetres-refusal-nonzero card position e =
+    rw e at (number-not-by-zero card (lastPosition (codeOf card)) position (millimetresOf position))
+
+-- a read
+unfoldable ReadNotByZero : ReadAnswer → Type 0
+ReadNotByZero (At position residual rule) = Unit {0}
+ReadNotByZero (ReadRefused refusal) = refusal ≡ 0 → ⊥
+
+-- of a sound card, whatever the separators and the chunks allow
+module _ (C : Code) (x : ℕ → ℕ) where
+  abbrev AllowedNotByZero : Allowed → Type 0
+  AllowedNotByZero a = ReadNotByZero (nearest C x a)
+
+  some : (rule low high : ℕ) → AllowedNotByZero (fromTo rule low high)
+  unfolding nearest ReadNotByZero
+  some rule low high = tt
+
+  none : (refusal : ℕ) → (refusal ≡ 0 → ⊥) → AllowedNotByZero (refusedBy refusal)
+  unfolding nearest ReadNotByZero
+  none refusal nonzero = nonzero
+
+  by-rule₁ : (c : Chunk) → AllowedNotByZero (rule₁ C c)
+  unfolding rule₁
+  by-rule₁ (Codeword p e) = by-test AllowedNotByZero (eqb p 0) (λ _. none 12 (λ z. omega arith)) (λ _. some _ _ _)
+  by-rule₁ Unreadable = none 10 (λ z. omega arith)
+
+  by-rule₂ : (c : Chunk) → AllowedNotByZero (rule₂ C c)
+  unfolding rule₂
+  by-rule₂ (Codeword p e) = by-test AllowedNotByZero (eqb p (lastCodeword C)) (λ _. none 12 (λ z. omega arith)) (λ _. some _ _ _)
+  by-rule₂ Unreadable = none 10 (λ z. omega arith)
+
+  by-rule₃ : (c c′ : Chunk) → AllowedNotByZero (rule₃ C c c′)
+  unfolding rule₃
+  by-rule₃ (Codeword p e) (Codeword q f) = by-test AllowedNotByZero (eqb p q) (λ _. some _ _ _) (λ _. none 11 (λ z. omega arith))
+  by-rule₃ (Codeword p e) Unreadable = none 10 (λ z. omega arith)
+  by-rule₃ Unreadable (Codeword q f) = none 10 (λ z. omega arith)
+  by-rule₃ Unreadable Unreadable = none 10 (λ z. omega arith)
+
+  by-any-rule : (rule : ℕ) → AllowedNotByZero (allowedBy C x rule)
+  unfolding allowedBy
+  by-any-rule rule =
+      by-test AllowedNotByZero (eqb rule 1) (λ _. by-rule₁ _)
+      (λ _. by-test AllowedNotByZero (eqb rule 2) (λ _. by-rule₂ _)
+      (λ _. by-test AllowedNotByZero (eqb rule 3) (λ _. by-rule₃ _ _) (λ _. none 9 (λ z. omega arith))))
+
+  reading-not-by-zero : ReadNotByZero (reading C x)
+  unfolding reading allowed
+  reading-not-by-zero = by-any-rule _
+
+read-not-by-zero : (card received : List ℕ) → ReadNotByZero (readAnswer card received)
+unfolding readAnswer readWord ReadNotByZero
+read-not-by-zero card received =
+    by-test ReadNotByZero (eqb (cardRefusal card) 0)
+    (λ _. unless-test ReadNotByZero (eqb (length received) (wordLength (codeOf card))) (λ _ z. omega arith)
+    (λ _. by-test ReadNotByZero (spareSet (codeOf card) received) (λ _ z. omega arith)
+    (λ _. reading-not-by-zero (codeOf card) (place received))))
+    (eqb-false (cardRefusal card) 0)
+
+pub read-refusal-nonzero : (card received : List ℕ) {refusal : ℕ} → readAnswer card received ≡ ReadRefused refusal
+    → refusal ≡ 0 → ⊥
+unfolding ReadNotByZero
+read-refusal-nonzero card received e = rw e at (read-not-by-zero card received)

@@ -1,0 +1,49 @@
+-- What the answers stand for in document 01's words, for every case of each answer's enum: its status, which is 0 where the call
+-- is served and the refusal's number in the table where it is turned down, and its values. A refusal carries its number alone.
+-- Assumes nothing.
+use Prim.Native.Nat.{ℕ}
+use mathlib.Core.List.{List, [], _∷_}
+use Rattle.model.specs.declared.CardAnswer.{CardAnswer}
+use Rattle.model.specs.declared.CardAnswer.the-variants.{Sound, Refused as CardRefused}
+use Rattle.model.specs.declared.WriteAnswer.{WriteAnswer}
+use Rattle.model.specs.declared.WriteAnswer.the-variants.{Written, Refused as WriteRefused}
+use Rattle.model.specs.declared.ReadAnswer.{ReadAnswer}
+use Rattle.model.specs.declared.ReadAnswer.the-variants.{At, Refused as ReadRefused}
+use Rattle.model.specs.declared.NumberAnswer.{NumberAnswer}
+use Rattle.model.specs.declared.NumberAnswer.the-variants.{Number, Refused as NumberRefused}
+
+-- a check of a card: n, k, track, D, t, d and the last position
+unfoldable pub cardStatus : CardAnswer → ℕ
+cardStatus (Sound s) = 0
+cardStatus (CardRefused refusal) = refusal
+
+unfoldable pub cardValues : CardAnswer → List ℕ
+cardValues (Sound s) = s .n ∷ s .k ∷ s .track ∷ s .distance ∷ s .radius ∷ s .bits ∷ s .last ∷ []
+cardValues (CardRefused refusal) = []
+
+-- a write: no values; what it leaves in the lent word is `lentAfterWrite`
+unfoldable pub writeStatus : WriteAnswer → ℕ
+writeStatus Written = 0
+writeStatus (WriteRefused refusal) = refusal
+
+unfoldable pub writeValues : WriteAnswer → List ℕ
+writeValues Written = []
+writeValues (WriteRefused refusal) = []
+
+-- a read: position, residual and rule
+unfoldable pub readStatus : ReadAnswer → ℕ
+readStatus (At position residual rule) = 0
+readStatus (ReadRefused refusal) = refusal
+
+unfoldable pub readValues : ReadAnswer → List ℕ
+readValues (At position residual rule) = position ∷ residual ∷ rule ∷ []
+readValues (ReadRefused refusal) = []
+
+-- a call that asks for one number: a block's start, or a distance in millimetres
+unfoldable pub numberStatus : NumberAnswer → ℕ
+numberStatus (Number number) = 0
+numberStatus (NumberRefused refusal) = refusal
+
+unfoldable pub numberValues : NumberAnswer → List ℕ
+numberValues (Number number) = number ∷ []
+numberValues (NumberRefused refusal) = []

@@ -1,0 +1,34 @@
+-- What a check of a card answers, from what decoding the card gave: a law for a card that is refused, and one for a sound card.
+-- Assumes nothing.
+use mathlib.Core.Path.{_≡_, sym, _∙_}
+use mathlib.Core.List.{List}
+use Prim.Native.Nat.{ℕ}
+use borrow.Author.Tests.{eq-eqb, ne-eqb}
+use Rattle.model.specs.Card.{cardRefusal, radius}
+use Rattle.model.specs.Decoded.{meaning}
+use Rattle.model.specs.Order.{lastPosition}
+use Rattle.model.specs.Words.{wordBits}
+use Rattle.model.specs.Answers.{summaryOf, cardAnswer}
+use Rattle.model.specs.declared.CardAnswer.the-variants.{Sound, Refused}
+use Rattle.model.specs.declared.Decoded.{Decoded}
+use Rattle.chunk.specs.DecodedFrom.{DecodedFrom}
+
+module _ (card : List ℕ) (decoded : Decoded) (from : DecodedFrom card decoded) where
+  pub card-refused : (decoded .refusal ≡ 0 → ⊥) → Refused (decoded .refusal) ≡ cardAnswer card
+  unfolding cardAnswer
+  card-refused refused = rw (← (from .refusal), ne-eqb (decoded .refusal) 0 refused)
+
+  pub card-sound : decoded .refusal ≡ 0
+      → (bits last : ℕ) → bits ≡ wordBits (meaning (decoded .code)) → last ≡ lastPosition (meaning (decoded .code))
+      → Sound (record {
+        n = decoded .code .n;
+        k = decoded .code .k;
+        track = decoded .track;
+        distance = decoded .code .distance;
+        radius = radius (meaning (decoded .code));
+        bits = bits;
+        last = last;
+      }) ≡ cardAnswer card
+  unfolding cardAnswer summaryOf
+  card-sound sound bits last is-bits is-last =
+      rw (eq-eqb (cardRefusal card) 0 (sym (from .refusal) ∙ sound), ← (from .code sound), ← (from .track sound), is-bits, is-last)
