@@ -1,8 +1,8 @@
--- `compare::shapes` is safe and ends: it counts up to the number of shapes. Assumes nothing.
+-- `compare::every_shape` is safe and ends: it counts up to the number of shapes. Assumes nothing.
 use Prim.Native.Nat.{_-_, _≤_}
 use borrow.Author.Needs.{needs}
-use Rattle.compare.proofs.shapes.Statement.{statement}
-use Rattle.compare.proofs.shapes.Tie as tie
+use Rattle.compare.proofs.every_shape.Statement.{statement}
+use Rattle.compare.proofs.every_shape.Tie as tie
 
 abbrev Inv-loop : tie.InvT-loop
 Inv-loop t₀ i₀ t i = i ≤ 268
@@ -37,8 +37,8 @@ loop-again c = search needs
 returns : tie.Need-returns Inv-loop μ-loop
 returns c = search needs
 
-pub shapes-spec : {M : Type 1} → statement M
-shapes-spec =
+pub every-shape-spec : {M : Type 1} → statement M
+every-shape-spec =
     tie.close
     (tie.spec
     Inv-loop
