@@ -14,7 +14,6 @@ mod tour;
 use trials::cards;
 use trials::faults;
 use trials::layout;
-use trials::numbers;
 use trials::shapes;
 
 // A card of any bytes.
@@ -80,15 +79,14 @@ fn length(t: &mut [u64; 38], card: &[u8], position: u32, len: usize) {
 fn every_shape(t: &mut [u64; 38]) {
     let mut i: u64 = 0;
     while i < shapes::SHAPES {
-        let shape = shapes::shape_number(i);
-        whole(t, cards::card_of(shape, numbers::random(i, 0)), i);
+        whole(t, i);
         i += 1;
     }
 }
 
-fn whole(t: &mut [u64; 38], bytes: [u8; 513], i: u64) {
-    let right = cards::sealed(bytes);
-    card(t, &right[0..512], i);
+fn whole(t: &mut [u64; 38], i: u64) {
+    let bytes = cards::of_shape(i);
+    card(t, &bytes[0..512], i);
 }
 
 // Every two faults at once, of the card of shape i.
@@ -102,12 +100,9 @@ fn every_two_faults(t: &mut [u64; 38], i: u64) {
 }
 
 fn faulty(t: &mut [u64; 38], right: [u8; 513], a: u64, b: u64) {
-    let bytes = faults::faulty(faults::faulty(right, a), b);
-    let sealed = faults::check_with(faults::check_with(cards::sealed(bytes), a), b);
-    let len = faults::length_with(a, faults::length_with(b, 512));
-    if len <= 513 {
-        card(t, &sealed[0..len], shapes::SHAPES);
-    }
+    let bytes = faults::two(right, a, b);
+    let len = faults::length_of_two(a, b);
+    card(t, &bytes[0..len], shapes::SHAPES);
 }
 
 fn main() {

@@ -1,5 +1,4 @@
 // A sound card: its block starts, and its track from end to end.
-ghost use Prim.Native.Nat.{_≤_};
 use crate::calls;
 use crate::library;
 use crate::tally;
@@ -114,28 +113,12 @@ fn read(
     here: second::Walk,
     id: u64,
 ) {
-    let code = p.card;
     let at = here.position as u64;
-    let sent = second::walk_bytes(here);
     let mut q: u64 = 0;
     while q < words::COUNT {
-        let seed = numbers::random(numbers::random(id, at), q);
-        let word = words::received(code, s, behind, here, q, seed);
-        let turned = if q < words::COUNT - 1 {
-            damage::turned_within(s, sent, word)
-        } else {
-            damage::TOO_MANY
-        };
-        read_one(
-            t,
-            card,
-            p,
-            behind,
-            word,
-            layout::length_of(s.bits),
-            at,
-            turned,
-        );
+        let received = words::word_number(s, behind, here, q, id);
+        let word = received.word;
+        read_one(t, card, p, behind, at, s.bits, word, received.turned);
         q += 1;
     }
 }
@@ -146,13 +129,12 @@ fn read_one(
     card: &[u8],
     p: second::Prepared,
     behind: second::Walk,
-    word: [u8; 40],
-    len: usize,
     at: u64,
+    bits: usize,
+    word: [u8; 40],
     turned: u64,
-)
-    requires { ⌜ len ≤ 40 ⌝ }
-{
+) {
+    let len = layout::length_of(bits);
     let answer = library::read(card, &word[0..len]);
     let plain = second::read_along(p, behind, &word[0..len]);
     calls::read(t, answer, plain);

@@ -1,5 +1,7 @@
 // The bytes of a card of a shape, and its check.
+use crate::numbers;
 use crate::rows;
+use crate::shapes;
 use crate::shapes::Shape;
 use second::code;
 
@@ -27,6 +29,11 @@ fn card_byte(s: Shape, track: u64, b: u64) -> u8 {
         return (track % 256) as u8;
     }
     row_byte(s, b - 4)
+}
+
+// The card of shape i, for some track.
+pub fn of_shape(i: u64) -> [u8; 513] {
+    sealed(card_of(shapes::shape_number(i), numbers::random(i, 0)))
 }
 
 // A card of a shape, with a zero byte after its 512 and no check yet.

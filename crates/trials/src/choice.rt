@@ -1,6 +1,7 @@
 // Which positions of a track are written, and at which of them words are read. `id` is the card's number.
 ghost use Prim.Native.Nat.{_≤_};
 use crate::numbers;
+use crate::numbers::plus;
 
 // Up to this last position every position is written; on longer tracks about 2,000 are.
 const WRITE_ALL: u64 = 25000;
@@ -46,24 +47,21 @@ fn read_of(k: usize) -> u64
     if k < 9 { 20 } else { 8 }
 }
 
-// Whether the place to which a walk has come is next to the start of a block, or begins a chunk.
+// Whether the place to which a walk has come is next to the start of a block, or begins a chunk. A word is a separator and
+// a code chunk, the same again, and a separator, so that chunks begin at multiples of D + n and D after them.
 fn at_border(n: usize, distance: usize, place: usize) -> bool {
+    let two = plus(distance, n);
+    if two == 0 {
+        return true;
+    }
     if place < 2 {
         return true;
     }
-    if 64 < n {
-        return false;
-    }
-    if 64 < distance {
-        return false;
-    }
-    if place == distance || place == distance + n {
+    let rest = place % two;
+    if rest == 0 || rest == distance {
         return true;
     }
-    if place == 2 * distance + n || place == 2 * distance + 2 * n {
-        return true;
-    }
-    2 * n + 3 * distance <= std::num::wrapping_add_usize(place, 1)
+    plus(plus(two, two), distance) <= plus(place, 1)
 }
 
 // Whether a number is one of some `many` from 0 to `last`: all of them if there are no more, else the first and the last

@@ -1,11 +1,29 @@
 // Cards with faults.
+ghost use Prim.Native.Nat.{_≤_};
+use crate::cards;
 
 // How many faults there are. Fault 0 is none, 1 to 3 are of the length, 4 and 5 of the check, 6 to 10 of n and k, 11 to 14
 // of the rows and bytes, 15 and 16 make the rows of a small card dependent.
 pub const FAULTS: u64 = 17;
 
-// The length of a card with a fault.
-pub fn length_with(fault: u64, len: usize) -> usize {
+// A card of which the check is not yet made, with two faults, and then with a check that is right but for those faults.
+pub fn two(card: [u8; 513], a: u64, b: u64) -> [u8; 513] {
+    let bytes = faulty(faulty(card, a), b);
+    check_with(check_with(cards::sealed(bytes), a), b)
+}
+
+// The length of a card with two faults. Where both are of the length, it is the first one's.
+pub fn length_of_two(a: u64, b: u64) -> usize
+    ensures { λ r. ⌜ r ≤ 513 ⌝ }
+{
+    length_with(a, length_with(b, 512))
+}
+
+// The length of a card with a fault, where it is `len` without.
+fn length_with(fault: u64, len: usize) -> usize
+    requires { ⌜ len ≤ 513 ⌝ }
+    ensures { λ r. ⌜ r ≤ 513 ⌝ }
+{
     if fault == 1 {
         return 511;
     }
@@ -19,7 +37,7 @@ pub fn length_with(fault: u64, len: usize) -> usize {
 }
 
 // A sealed card with a fault of the check.
-pub fn check_with(card: [u8; 513], fault: u64) -> [u8; 513] {
+fn check_with(card: [u8; 513], fault: u64) -> [u8; 513] {
     if fault == 4 {
         return changed(card, 510, card[510] ^ 1);
     }
@@ -30,7 +48,7 @@ pub fn check_with(card: [u8; 513], fault: u64) -> [u8; 513] {
 }
 
 // A card, with no check yet, with a fault.
-pub fn faulty(card: [u8; 513], fault: u64) -> [u8; 513] {
+fn faulty(card: [u8; 513], fault: u64) -> [u8; 513] {
     if fault < 11 {
         return sizes_with(card, fault);
     }

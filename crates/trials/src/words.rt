@@ -3,8 +3,8 @@ use crate::damage;
 use crate::layout;
 use crate::layout::Sizes;
 use crate::made_up;
+use crate::numbers;
 use crate::numbers::plus;
-use second::code;
 
 // How many words are read at a position. The last of them has a spare bit set, if there is one.
 pub const COUNT: u64 = 28;
@@ -14,15 +14,33 @@ const MOVED: u64 = 18;
 
 const MADE: u64 = 22;
 
-// Word q of the position at which `here` stands. The walk `behind` stands further back.
-pub fn received(
-    card: code::Checked,
+// A word that is received, and how many of its bits are turned if no chunk has more of them than the radius, else
+// damage::TOO_MANY.
+pub struct Received {
+    pub word: [u8; 40],
+    pub turned: u64,
+}
+
+// Word q of the position at which `here` stands, of card `id`. The walk `behind` stands further back. The word with a spare
+// bit set counts as damaged beyond the radius.
+pub fn word_number(
     s: Sizes,
     behind: second::Walk,
     here: second::Walk,
     q: u64,
-    seed: u64,
-) -> [u8; 40] {
+    id: u64,
+) -> Received {
+    let seed = numbers::random(numbers::random(id, here.position as u64), q);
+    let word = bytes_of(s, behind, here, q, seed);
+    let turned = if q < COUNT - 1 {
+        damage::turned_within(s, second::walk_bytes(here), word)
+    } else {
+        damage::TOO_MANY
+    };
+    Received { word, turned }
+}
+
+fn bytes_of(s: Sizes, behind: second::Walk, here: second::Walk, q: u64, seed: u64) -> [u8; 40] {
     if q < MOVED {
         return damaged(second::walk_bytes(here), s, q, seed);
     }
@@ -30,6 +48,7 @@ pub fn received(
         return moved(behind, here, s.radius as u64, q);
     }
     if q < COUNT - 1 {
+        let card = here.card;
         return made_up::made(card, s, q, seed);
     }
     damage::turned(second::walk_bytes(here), s.bits)

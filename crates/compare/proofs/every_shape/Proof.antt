@@ -13,15 +13,6 @@ abbrev μ-loop : tie.MeasureT-loop
 loop-holds : tie.Need-loop-holds Inv-loop μ-loop
 loop-holds c = search needs
 
-shape-number-requires : tie.Need-shape-number-requires Inv-loop μ-loop
-shape-number-requires c κs = search needs
-
-random-requires : tie.Need-random-requires Inv-loop μ-loop
-random-requires c κs = search needs
-
-card-of-requires : tie.Need-card-of-requires Inv-loop μ-loop
-card-of-requires c κs = search needs
-
 whole-requires : tie.Need-whole-requires Inv-loop μ-loop
 whole-requires c κs = search needs
 
@@ -44,9 +35,6 @@ every-shape-spec =
     Inv-loop
     μ-loop
     loop-holds
-    shape-number-requires
-    random-requires
-    card-of-requires
     whole-requires
     add-i
     loop-less
