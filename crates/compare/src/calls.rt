@@ -2,8 +2,8 @@
 use crate::library;
 use crate::tally;
 
-// An answer of the library: what the second reader answered to the same call, as a group of counts and its number there,
-// and whether the library's answer differs, with the place where those are counted.
+// Counts a call: by what the second reader answered, as number `which` of a group of counts, and at `place` if the
+// library's answer is unlike that.
 fn answered(t: &mut [u64; 38], group: usize, which: u8, place: usize, unlike: bool) {
     tally::one_of(t, group, which);
     tally::one_more(t, tally::COMPARED);

@@ -6,7 +6,7 @@ use crate::cards;
 // of the rows and bytes, 15 and 16 make the rows of a small card dependent.
 pub const FAULTS: u64 = 17;
 
-// A card of which the check is not yet made, with two faults, and then with a check that is right but for those faults.
+// A card, with no check yet, with two faults, and with its check, which is right unless one of them is a fault of the check.
 pub fn two(card: [u8; 513], a: u64, b: u64) -> [u8; 513] {
     let bytes = faulty(faulty(card, a), b);
     check_with(check_with(cards::sealed(bytes), a), b)
