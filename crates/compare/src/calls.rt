@@ -2,37 +2,33 @@
 use crate::library;
 use crate::tally;
 
-// A check of a card.
-pub fn check(t: &mut [u64; 38], card: &[u8], plain: second::CardFacts) {
-    tally::one_of(t, tally::CARDS, plain.refusal);
-    compared(
-        t,
-        tally::CARDS_UNLIKE,
-        facts_unlike(library::check(card), plain),
-    );
-}
-
-// An answer that was compared with the second reader's, and whether the two differ.
-fn compared(t: &mut [u64; 38], place: usize, unlike: bool) {
+// Counts a call: by what the second reader answered, as number `which` of a group of counts, and at `place` if the
+// library's answer is unlike that.
+fn answered(t: &mut [u64; 38], group: usize, which: u8, place: usize, unlike: bool) {
+    tally::one_of(t, group, which);
     tally::one_more(t, tally::COMPARED);
     tally::one_more_if(t, place, unlike);
 }
 
+// A check of a card.
+pub fn check(t: &mut [u64; 38], card: &[u8], plain: second::CardFacts) {
+    let unlike = facts_unlike(library::check(card), plain);
+    answered(t, tally::CARDS, plain.refusal, tally::CARDS_UNLIKE, unlike);
+}
+
+// Whether two answers to a check differ: some bit of some field does.
 fn facts_unlike(a: library::Facts, b: second::CardFacts) -> bool {
-    if a.refusal != b.refusal as u32 || a.n != b.n as u32 || a.k != b.k as u32 {
-        return true;
-    }
-    if a.track != b.track as u32 || a.distance != b.distance {
-        return true;
-    }
-    a.radius != b.radius || a.bits != b.bits || a.last != b.last
+    let sizes = (a.n ^ b.n as u32) | (a.k ^ b.k as u32) | (a.distance ^ b.distance);
+    let words = (a.radius ^ b.radius) | (a.bits ^ b.bits) | (a.last ^ b.last);
+    let others = (a.refusal ^ b.refusal as u32) | (a.track ^ b.track as u32);
+    (sizes | words | others) != 0
 }
 
 // A block start or a distance.
 pub fn number(t: &mut [u64; 38], answer: library::Number, plain: second::Number) {
-    tally::one_of(t, tally::NUMBERS, tally::kind(plain.refusal));
     let unlike = answer.refusal != plain.refusal as u32 || answer.value != plain.value;
-    compared(t, tally::NUMBERS_UNLIKE, unlike);
+    let kind = tally::kind(plain.refusal);
+    answered(t, tally::NUMBERS, kind, tally::NUMBERS_UNLIKE, unlike);
 }
 
 // A number as a block, whose start is asked for, and as a position, whose distance is.
@@ -63,9 +59,9 @@ pub fn written(t: &mut [u64; 38], answer: library::Wrote, plain: second::Word) {
     let wrote = answer.lent;
     let bytes = plain.bytes;
     let right = left(bytes, plain.len);
-    tally::one_of(t, tally::WRITES, tally::kind(plain.refusal));
     let unlike = answer.refusal != plain.refusal as u32 || !check::same(&wrote, &right);
-    compared(t, tally::WRITES_UNLIKE, unlike);
+    let kind = tally::kind(plain.refusal);
+    answered(t, tally::WRITES, kind, tally::WRITES_UNLIKE, unlike);
 }
 
 // What a write leaves in 48 lent bytes that held 170: a word of `len` bytes, or none, and 170 after it.
@@ -81,16 +77,17 @@ fn left(word: [u8; 40], len: usize) -> [u8; 48] {
 
 // What both read.
 pub fn read(t: &mut [u64; 38], answer: library::Reading, plain: second::Reading) {
-    tally::one_of(t, tally::WORDS, tally::kind(plain.refusal));
+    let unlike = reading_unlike(answer, plain);
+    let kind = tally::kind(plain.refusal);
+    answered(t, tally::WORDS, kind, tally::WORDS_UNLIKE, unlike);
     if plain.refusal == 0 {
         tally::one_of(t, tally::RULES, std::num::wrapping_sub_u8(plain.rule, 1));
     }
-    compared(t, tally::WORDS_UNLIKE, reading_unlike(answer, plain));
 }
 
+// Whether two readings differ: some bit of some field does.
 fn reading_unlike(a: library::Reading, b: second::Reading) -> bool {
-    if a.refusal != b.refusal as u32 || a.rule != b.rule as u32 {
-        return true;
-    }
-    a.position != b.position || a.residual != b.residual
+    let place = (a.position ^ b.position) | (a.residual ^ b.residual);
+    let kind = (a.refusal ^ b.refusal as u32) | (a.rule ^ b.rule as u32);
+    (place | kind) != 0
 }

@@ -6,13 +6,15 @@
 // right. So the file has the former as the program printed them with a library that refused every call, and 0 for each
 // of the latter.
 mod calls;
-mod cards;
-mod damage;
 mod library;
 mod report;
 mod tally;
 mod tour;
-mod words;
+
+use trials::cards;
+use trials::faults;
+use trials::layout;
+use trials::shapes;
 
 // A card of any bytes.
 fn card(t: &mut [u64; 38], bytes: &[u8], id: u64) {
@@ -46,7 +48,7 @@ fn ends(t: &mut [u64; 38], card: &[u8], k: u64, last: u32, bits: usize) {
     calls::numbers(t, card, last);
     calls::numbers(t, card, std::num::wrapping_add_u32(last, 1));
     calls::numbers(t, card, u32::MAX);
-    lengths(t, card, last, words::length_of(bits));
+    lengths(t, card, last, layout::length_of(bits));
 }
 
 // Lent words and received words of other lengths, and positions past the last, with a right and a wrong length.
@@ -74,45 +76,41 @@ fn length(t: &mut [u64; 38], card: &[u8], position: u32, len: usize) {
 }
 
 // The cards of every shape.
-fn shapes(t: &mut [u64; 38]) {
+fn every_shape(t: &mut [u64; 38]) {
     let mut i: u64 = 0;
-    while i < cards::SHAPES {
-        let shape = cards::shape_number(i);
-        whole(t, cards::card_of(shape, cards::random(i, 0)), i);
+    while i < shapes::SHAPES {
+        whole(t, i);
         i += 1;
     }
 }
 
-fn whole(t: &mut [u64; 38], bytes: [u8; 513], i: u64) {
-    let right = cards::sealed(bytes);
-    card(t, &right[0..512], i);
+fn whole(t: &mut [u64; 38], i: u64) {
+    let bytes = cards::of_shape(i);
+    card(t, &bytes[0..512], i);
 }
 
 // Every two faults at once, of the card of shape i.
-fn faults(t: &mut [u64; 38], i: u64) {
-    let right = cards::card_of(cards::shape_number(i), i);
+fn every_two_faults(t: &mut [u64; 38], i: u64) {
+    let right = cards::card_of(shapes::shape_number(i), i);
     let mut f: u64 = 0;
-    while f < cards::FAULTS * cards::FAULTS {
-        faulty(t, right, f / cards::FAULTS, f % cards::FAULTS);
+    while f < faults::FAULTS * faults::FAULTS {
+        faulty(t, right, f / faults::FAULTS, f % faults::FAULTS);
         f += 1;
     }
 }
 
 fn faulty(t: &mut [u64; 38], right: [u8; 513], a: u64, b: u64) {
-    let bytes = cards::faulty(cards::faulty(right, a), b);
-    let sealed = cards::check_with(cards::check_with(cards::sealed(bytes), a), b);
-    let len = cards::length_with(a, cards::length_with(b, 512));
-    if len <= 513 {
-        card(t, &sealed[0..len], cards::SHAPES);
-    }
+    let bytes = faults::two(right, a, b);
+    let len = faults::length_of_two(a, b);
+    card(t, &bytes[0..len], shapes::SHAPES);
 }
 
 fn main() {
     let mut t = [0u64; 38];
-    shapes(&mut t);
-    faults(&mut t, 63);
-    faults(&mut t, 65);
-    faults(&mut t, 77);
-    faults(&mut t, 90);
+    every_shape(&mut t);
+    every_two_faults(&mut t, 63);
+    every_two_faults(&mut t, 65);
+    every_two_faults(&mut t, 77);
+    every_two_faults(&mut t, 90);
     report::print(&t);
 }

@@ -31,8 +31,8 @@ loop-holds c = search needs
 write-requires : tie.Need-write-requires Inv-loop μ-loop
 write-requires c κs = search needs
 
-chosen-requires : tie.Need-chosen-requires Inv-loop μ-loop
-chosen-requires c κs = search needs
+is-read-requires : tie.Need-is-read-requires Inv-loop μ-loop
+is-read-requires c κs = search needs
 
 follow-requires : tie.Need-follow-requires Inv-loop μ-loop
 follow-requires c κs = search needs
@@ -68,7 +68,7 @@ track-spec =
     nothing-requires
     loop-holds
     write-requires
-    chosen-requires
+    is-read-requires
     follow-requires
     read-requires
     walk-step-requires

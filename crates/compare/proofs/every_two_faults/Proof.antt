@@ -1,8 +1,8 @@
--- `compare::faults` is safe and ends: it counts up to the number of pairs of faults. Assumes nothing.
+-- `compare::every_two_faults` is safe and ends: it counts up to the number of pairs of faults. Assumes nothing.
 use Prim.Native.Nat.{_-_, _≤_}
 use borrow.Author.Needs.{needs}
-use Rattle.compare.proofs.faults.Statement.{statement}
-use Rattle.compare.proofs.faults.Tie as tie
+use Rattle.compare.proofs.every_two_faults.Statement.{statement}
+use Rattle.compare.proofs.every_two_faults.Tie as tie
 
 abbrev Inv-loop : tie.InvT-loop
 Inv-loop t₀ i right f₀ t f = f ≤ 289
@@ -37,8 +37,8 @@ loop-again c = search needs
 returns : tie.Need-returns Inv-loop μ-loop
 returns c = search needs
 
-pub faults-spec : {M : Type 1} → statement M
-faults-spec =
+pub every-two-faults-spec : {M : Type 1} → statement M
+every-two-faults-spec =
     tie.close
     (tie.spec
     Inv-loop

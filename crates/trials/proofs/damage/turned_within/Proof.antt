@@ -1,8 +1,8 @@
--- `compare::words::turned_within` is safe and ends: it goes through five chunks. Assumes nothing.
+-- `trials::damage::turned_within` is safe and ends: it goes through five chunks. Assumes nothing.
 use Prim.Native.Nat.{_-_, _≤_}
 use borrow.Author.Needs.{needs}
-use Rattle.compare.proofs.words.turned_within.Statement.{statement}
-use Rattle.compare.proofs.words.turned_within.Tie as tie
+use Rattle.trials.proofs.damage.turned_within.Statement.{statement}
+use Rattle.trials.proofs.damage.turned_within.Tie as tie
 
 abbrev Inv-loop : tie.InvT-loop
 Inv-loop s sent word t sum₀ c₀ sum c = c ≤ 5

@@ -1,5 +1,7 @@
 // Bits of a word turned, and bits turned counted.
-use crate::cards;
+use crate::layout;
+use crate::layout::Sizes;
+use crate::numbers;
 use second::code;
 
 // Which of a chunk's places are turned: the first ones, the last ones, ones that follow each other, or scattered ones, of
@@ -11,6 +13,9 @@ pub const LAST: u64 = 1;
 pub const RUN: u64 = 2;
 
 pub const SCATTERED: u64 = 3;
+
+// More bits than a word has.
+pub const TOO_MANY: u64 = 1000;
 
 // The word with the bit at a place turned.
 pub fn turned(word: [u8; 40], place: usize) -> [u8; 40] {
@@ -41,7 +46,7 @@ fn place_of(i: usize, size: usize, which: u64, seed: u64) -> usize {
     if which == RUN {
         return std::num::wrapping_add_usize(i, (seed % 64) as usize) % size;
     }
-    (cards::random(seed, i as u64) % (size as u64)) as usize
+    (numbers::random(seed, i as u64) % (size as u64)) as usize
 }
 
 // The word with so many of the `size` bits from place `low` on turned.
@@ -66,6 +71,27 @@ pub fn damaged(
     next
 }
 
+// The word with so many bits of chunk c turned.
+pub fn in_chunk(word: [u8; 40], s: Sizes, c: u64, count: usize, which: u64, seed: u64) -> [u8; 40] {
+    damaged(
+        word,
+        layout::low(s, c),
+        layout::size(s, c),
+        count,
+        which,
+        numbers::random(seed, c),
+    )
+}
+
+// The word with so many bits of every chunk turned.
+pub fn in_all(word: [u8; 40], s: Sizes, count: usize, which: u64, seed: u64) -> [u8; 40] {
+    let one = in_chunk(word, s, 0, count, which, seed);
+    let two = in_chunk(one, s, 1, count, which, seed);
+    let three = in_chunk(two, s, 2, count, which, seed);
+    let four = in_chunk(three, s, 3, count, which, seed);
+    in_chunk(four, s, 4, count, which, seed)
+}
+
 // Whether two words differ at a place, as a number.
 fn unlike_at(a: [u8; 40], b: [u8; 40], place: usize) -> u64 {
     if place < 320 {
@@ -88,6 +114,23 @@ pub fn unlike(a: [u8; 40], b: [u8; 40], low: usize, size: usize) -> u64 {
         i += 1;
     }
     count
+}
+
+// The bits turned between two words, if no chunk has more of them than the radius, else TOO_MANY.
+pub fn turned_within(s: Sizes, sent: [u8; 40], word: [u8; 40]) -> u64 {
+    let t = s.radius as u64;
+    let mut sum: u64 = 0;
+    let mut c: u64 = 0;
+    while c < 5 {
+        let here = unlike(sent, word, layout::low(s, c), layout::size(s, c));
+        if t < here {
+            return TOO_MANY;
+        }
+        let next = std::num::wrapping_add_u64(sum, here);
+        sum = next;
+        c += 1;
+    }
+    sum
 }
 
 // The sum, modulo 2, of three words.

@@ -1,10 +1,10 @@
--- `compare::cards::card_of` is safe and ends: its places stay below 100. Assumes nothing.
+-- `trials::cards::card_of` is safe and ends: its places stay below 100. Assumes nothing.
 use Prim.Native.Nat.{_-_, _≤_}
 use mathlib.Core.Path.{_≡_}
 use lib.ListN.{length}
 use borrow.Author.Needs.{needs}
-use Rattle.compare.proofs.cards.card_of.Statement.{statement}
-use Rattle.compare.proofs.cards.card_of.Tie as tie
+use Rattle.trials.proofs.cards.card_of.Statement.{statement}
+use Rattle.trials.proofs.cards.card_of.Tie as tie
 
 abbrev Inv-loop : tie.InvT-loop
 Inv-loop s track card₀ b₀ card b = (b ≤ 100) × (length card ≡ 513)

@@ -1,10 +1,10 @@
--- `compare::damage::front` is safe and ends: its places stay below 40. Assumes nothing.
+-- `trials::damage::front` is safe and ends: its places stay below 40. Assumes nothing.
 use Prim.Native.Nat.{_-_, _≤_}
 use mathlib.Core.Path.{_≡_}
 use lib.ListN.{length}
 use borrow.Author.Needs.{needs}
-use Rattle.compare.proofs.damage.front.Statement.{statement}
-use Rattle.compare.proofs.damage.front.Tie as tie
+use Rattle.trials.proofs.damage.front.Statement.{statement}
+use Rattle.trials.proofs.damage.front.Tie as tie
 
 abbrev Inv-loop : tie.InvT-loop
 Inv-loop bytes word₀ j₀ word j = (j ≤ 40) × (length word ≡ 40)

@@ -1,8 +1,8 @@
--- `compare::shapes` is safe and ends: it counts up to the number of shapes. Assumes nothing.
+-- `compare::every_shape` is safe and ends: it counts up to the number of shapes. Assumes nothing.
 use Prim.Native.Nat.{_-_, _≤_}
 use borrow.Author.Needs.{needs}
-use Rattle.compare.proofs.shapes.Statement.{statement}
-use Rattle.compare.proofs.shapes.Tie as tie
+use Rattle.compare.proofs.every_shape.Statement.{statement}
+use Rattle.compare.proofs.every_shape.Tie as tie
 
 abbrev Inv-loop : tie.InvT-loop
 Inv-loop t₀ i₀ t i = i ≤ 268
@@ -12,15 +12,6 @@ abbrev μ-loop : tie.MeasureT-loop
 
 loop-holds : tie.Need-loop-holds Inv-loop μ-loop
 loop-holds c = search needs
-
-shape-number-requires : tie.Need-shape-number-requires Inv-loop μ-loop
-shape-number-requires c κs = search needs
-
-random-requires : tie.Need-random-requires Inv-loop μ-loop
-random-requires c κs = search needs
-
-card-of-requires : tie.Need-card-of-requires Inv-loop μ-loop
-card-of-requires c κs = search needs
 
 whole-requires : tie.Need-whole-requires Inv-loop μ-loop
 whole-requires c κs = search needs
@@ -37,16 +28,13 @@ loop-again c = search needs
 returns : tie.Need-returns Inv-loop μ-loop
 returns c = search needs
 
-pub shapes-spec : {M : Type 1} → statement M
-shapes-spec =
+pub every-shape-spec : {M : Type 1} → statement M
+every-shape-spec =
     tie.close
     (tie.spec
     Inv-loop
     μ-loop
     loop-holds
-    shape-number-requires
-    random-requires
-    card-of-requires
     whole-requires
     add-i
     loop-less

@@ -1,10 +1,10 @@
--- `compare::words::patched` is safe and ends: it counts up to the word's bits. Assumes nothing.
+-- `trials::made_up::patched` is safe and ends: it counts up to the word's bits. Assumes nothing.
 use Prim.Native.Nat.{_-_, _≤_}
 use mathlib.Core.Path.{_≡_}
 use lib.ListN.{length}
 use borrow.Author.Needs.{needs}
-use Rattle.compare.proofs.words.patched.Statement.{statement}
-use Rattle.compare.proofs.words.patched.Tie as tie
+use Rattle.trials.proofs.made_up.patched.Statement.{statement}
+use Rattle.trials.proofs.made_up.patched.Tie as tie
 
 abbrev Inv-loop : tie.InvT-loop
 Inv-loop s a b seed first second count word₀ p₀ word p = (p ≤ count) × (length word ≡ 40)

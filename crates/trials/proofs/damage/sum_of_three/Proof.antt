@@ -1,10 +1,10 @@
--- `compare::damage::sum_of_three` is safe and ends: its places stay below 40. Assumes nothing.
+-- `trials::damage::sum_of_three` is safe and ends: its places stay below 40. Assumes nothing.
 use Prim.Native.Nat.{_-_, _≤_}
 use mathlib.Core.Path.{_≡_}
 use lib.ListN.{length}
 use borrow.Author.Needs.{needs}
-use Rattle.compare.proofs.damage.sum_of_three.Statement.{statement}
-use Rattle.compare.proofs.damage.sum_of_three.Tie as tie
+use Rattle.trials.proofs.damage.sum_of_three.Statement.{statement}
+use Rattle.trials.proofs.damage.sum_of_three.Tie as tie
 
 abbrev Inv-loop : tie.InvT-loop
 Inv-loop a b c sum₀ j₀ sum j = (j ≤ 40) × (length sum ≡ 40)

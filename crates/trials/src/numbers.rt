@@ -1,0 +1,30 @@
+// Numbers that look random, the lowest bits of a number, and sums.
+
+// A number that looks random, of two numbers: four steps of a multiply-with-carry generator.
+pub fn random(a: u64, b: u64) -> u64 {
+    let x = stirred(stirred(a ^ 0x9E3779B97F4A7C15) ^ b);
+    let y = stirred(stirred(x));
+    y ^ (y >> 32)
+}
+
+fn stirred(x: u64) -> u64 {
+    std::num::wrapping_add_u64(x % 4294967296 * 4294957665, x / 4294967296)
+}
+
+// The bits of a number below bit n.
+pub fn cut(n: u64, x: u64) -> u64 {
+    if n == 0 {
+        return 0;
+    }
+    if 64 <= n {
+        return x;
+    }
+    let above = 64 - n;
+    (x << above) >> above
+}
+
+// A sum of two sizes. No card's sizes come near to the greatest number, so the sum may be the one that wraps, which asks
+// no proof that it doesn't.
+pub fn plus(a: usize, b: usize) -> usize {
+    std::num::wrapping_add_usize(a, b)
+}
