@@ -1,8 +1,11 @@
 -- The start of a block as a sum that goes row by row: no partial sum exceeds the whole, which is bounded, so each of them fits.
 -- Assumes nothing.
-use mathlib.Core.Path.{_≡_, refl}
-use Prim.Native.Nat.{ℕ, _+_, _*_, _/_, _^_, _≤_}
+use mathlib.Core.Path.{_≡_, refl, sym}
+use Prim.Native.Nat.{ℕ, _+_, _-_, _*_, _/_, _^_, _≤_, _<_}
+use native.Mathlib.Nat.{add-mul-div-right, div-eq-of-lt}
+use native.Mathlib.Numerals.{add-one}
 use native.Mathlib.Omega.{arith}
+use lib.Pow.{pow-pos}
 use Rattle.bits.specs.Sums.{sumBelow}
 use Rattle.bits.specs.Places.{weight}
 use Rattle.bits.proofs.Sums.{sum-longer, sum-more}
@@ -10,6 +13,16 @@ use Rattle.model.specs.Card.{Code}
 use Rattle.model.specs.Order.{lastCodeword, start}
 use Rattle.code_theory.specs.Promise.{Sound}
 use Rattle.code_theory.proofs.Starts.{start-bound, last-codeword-bound}
+
+-- row z is added for the first time at codeword 2^z, and again each 2^(z+1) codewords
+module _ (i z : ℕ) where
+  pub not-added : i < 2 ^ z → 0 ≡ (i + 2 ^ z) / 2 ^ (z + 1)
+  not-added before = rw (add-one z) (sym (div-eq-of-lt (omega arith)))
+
+  pub added-again : 2 ^ z ≤ i → (i - 2 ^ z) / 2 ^ (z + 1) + 1 ≡ (i + 2 ^ z) / 2 ^ (z + 1)
+  added-again since =
+      let once-more : i + 2 ^ z ≡ i - 2 ^ z + 1 * 2 ^ (z + 1) = rw (add-one z) (omega arith) in
+      rw once-more (sym (add-mul-div-right (i - 2 ^ z) 1 (pow-pos (z + 1))))
 
 -- what row z adds to the start of block i, apart from the factor 2
 abbrev pub rowPart : Code → ℕ → ℕ → ℕ

@@ -17,12 +17,16 @@ pub fn last_codeword(code: DecodedCode) -> u32
     order::two_to(code.k) - 1
 }
 
-// How often row z has been added on the way from codeword 0 to codeword i.
+// How often row z has been added on the way from codeword 0 to codeword i: at codeword 2^z, and again each 2^(z+1) codewords.
 fn times_added(i: u32, z: u32) -> u32
-    requires { ⌜ (i < 4096) × (z < 12) ⌝ }
+    requires { ⌜ z < 12 ⌝ }
     ensures { λ r. ⌜ r ≡ (i + 2 ^ z) / 2 ^ (z + 1) ⌝ }
 {
-    (i + order::two_to(z)) >> (z + 1)
+    let first = order::two_to(z);
+    if i < first {
+        return 0;
+    }
+    ((i - first) >> (z + 1)) + 1
 }
 
 // The start of block i. The rows are added in order, from row 0 on.

@@ -1,24 +1,36 @@
 -- `position::blocks::times_added` meets its contract: a shift down divides by a power of two. Assumes nothing.
-use borrow.Author.Needs.{needs}
+use Prim.Native.Nat.{_-_, _/_, _^_, _+_, _≤_}
+use native.Mathlib.Nat.{div-le-self}
 use native.Mathlib.Omega.{arith}
-use lib.Pow.{pow-mono}
+use borrow.Author.Needs.{needs}
+use lib.Pow.{pow-pos}
+use Rattle.position.proofs.StartSum.{not-added, added-again}
 use Rattle.position.proofs.blocks.times_added.Statement.{statement}
 use Rattle.position.proofs.blocks.times_added.Tie as tie
 
 two-to-requires : tie.Need-two-to-requires
 two-to-requires c κs = search needs
 
-add-result : tie.Need-add-result
-add-result c = omega (arith, pow-mono {i = c .before .args .z} {j = 12} (omega arith))
+returns : tie.Need-returns
+returns c = not-added _ _ (rw (c .before .two-to .ensures) at (c .if1 .taken))
 
-add-result-2 : tie.Need-add-result-2
-add-result-2 c = search needs
+add-result : tie.Need-add-result
+add-result c = search needs
 
 shr-result : tie.Need-shr-result
 shr-result c = search needs
 
-returns : tie.Need-returns
-returns c = rw (c .two-to .ensures)
+add-result-2 : tie.Need-add-result-2
+add-result-2 c =
+    let first = c .before .two-to .result in
+    let i = c .before .before .args .i in
+    let less : (i - first) / 2 ^ (c .before .before .args .z + 1) ≤ i - first = div-le-self _ _ in
+    omega (arith, c .before .two-to .ensures, pow-pos (c .before .before .args .z))
+
+returns-2 : tie.Need-returns-2
+returns-2 c =
+    rw (c .before .two-to .ensures) (added-again _ _ (rw (c .before .two-to .ensures) at (c .if1 .left)))
 
 pub times-added-spec : {M : Type 1} → statement M
-times-added-spec = tie.close (tie.spec two-to-requires add-result add-result-2 shr-result returns)
+times-added-spec =
+    tie.close (tie.spec two-to-requires returns add-result shr-result add-result-2 returns-2)
