@@ -38,8 +38,9 @@ unfolding ones
 counted-all t d count rest all none =
     let same : count ≡ ones d = omega (arith, ap ones none) in record { whole = λ l. same; past = λ l. omega arith }
 
-pub counted-past : (t d count rest : ℕ) → count + ones rest ≡ ones d → t < count → Counted t d count
-counted-past t d count rest all far = record { whole = λ l. absurd (omega arith); past = λ l. omega arith }
+pub counted-past : (t d count rest : ℕ) → count + ones rest ≡ ones d → (rest ≡ 0 → ⊥) → t < count + 1 → Counted t d (count + 1)
+counted-past t d count rest all more far =
+    record { whole = λ l. absurd (omega arith); past = λ l. omega (arith, one-fewer rest (omega arith)) }
 
 -- ---- the codewords
 
