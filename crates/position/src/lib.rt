@@ -1,5 +1,6 @@
 // The position code: words of positions, and positions of words. It knows the chunk code through its contracts alone.
 pub mod blocks;
+pub mod hamming;
 pub mod layout;
 pub mod places;
 pub mod reading;

@@ -13,6 +13,7 @@ ghost use Rattle.position.specs.Received.{NothingSpare, Begun};
 ghost use Rattle.position.specs.Scanned.{Scanned};
 ghost use Rattle.position.specs.SearchReady.{PassedPlaces};
 use super::blocks;
+use super::hamming;
 use super::layout;
 use super::places;
 use super::scan;
@@ -29,7 +30,7 @@ use model::ReadAnswer;
 fn begin(w: [u8; 40], x: [u8; 40], low: u32) -> Scan
     ensures { λ r. ⌜ (r .low ≡ low) × (r .position ≡ low) × Begun w x low r ⌝ }
 {
-    let residual = words::bits_unlike(w, x);
+    let residual = hamming::bits_unlike(w, x);
     Scan {
         low,
         position: low,
@@ -51,7 +52,7 @@ fn search_block(code: DecodedCode, x: [u8; 40], i: u32, at: u32, to: u32) -> Sca
     let first = begin(
         w,
         x,
-        blocks::block_start(code, i) + words::bits_unlike(u, w),
+        blocks::block_start(code, i) + hamming::bits_unlike(u, w),
     );
     scan::pass_places(&u, &v, &x, at, to, first)
 }
