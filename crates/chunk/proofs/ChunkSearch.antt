@@ -1,14 +1,14 @@
 -- The search for a chunk's codeword: what holds as it stands at codeword i, that a codeword that is too far is passed, and
 -- what the two ways out of the search have found. The places in which codeword and chunk differ are the ones of their
 -- exclusive-or, and these are met one after the other. Assumes nothing.
-use mathlib.Core.Path.{_≡_, refl, sym, ap, _∙_}
+use mathlib.Core.Path.{_≡_, sym, ap, _∙_}
 use mathlib.Core.Logic.{⊎-elim}
 use Prim.Native.Nat.{ℕ, _+_, _-_, _^_, _≤_, _<_}
 use native.Mathlib.Omega.{arith}
 use lib.Bits.{bitAnd, bitXor, xor-lt}
 use lib.Count.{trailingZeros, ones}
 use lib.Pow.{pow-pos}
-use Rattle.bits.specs.Places.{bit, weight}
+use Rattle.bits.specs.Places.{bit}
 use Rattle.bits.proofs.Binary.{weight-ones, weight-xor}
 use Rattle.bits.proofs.LowestOne.{one-fewer}
 use Rattle.bits.proofs.Numbers.{eq-or-ne}

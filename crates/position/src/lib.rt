@@ -2,6 +2,7 @@
 pub mod blocks;
 pub mod hamming;
 pub mod layout;
+pub mod nearest;
 pub mod places;
 pub mod reading;
 pub mod scan;

@@ -1,6 +1,6 @@
 -- `position::words::word_in_block` meets its contract: w(i+1) up to a place before which m of its bits differ from w(i), and w(i) from
 -- there on, is the walk of m steps. Assumes nothing.
-use Prim.Native.Nat.{ℕ, _+_, _≤_}
+use Prim.Native.Nat.{_+_}
 use mathlib.Core.Path.{_≡_, sym, _∙_, fun-ext}
 use borrow.Author.Needs.{needs}
 use native.Mathlib.Omega.{arith}
