@@ -1,12 +1,12 @@
 // The nearest of the positions that a rule allows: the search through the part of a block that the rule names.
 ghost use mathlib.Core.Path.{_≡_};
-ghost use Prim.Native.Nat.{_+_, _-_, _*_, _≤_, _<_, min};
+ghost use Prim.Native.Nat.{_+_, _-_, _≤_, _<_};
 ghost use Rattle.bits.specs.Sums.{distance};
 ghost use Rattle.bits.specs.Places.{place};
 ghost use Rattle.model.specs.Decoded.{meaning};
-ghost use Rattle.model.specs.Order.{lastCodeword, changedWeight, start, lastPosition};
+ghost use Rattle.model.specs.Order.{lastCodeword, start};
 ghost use Rattle.model.specs.Words.{wordBits, word};
-ghost use Rattle.model.specs.Reading.{fromTo, residual, nearest};
+ghost use Rattle.model.specs.Reading.{range₁, range₂, range₃, residual, nearest};
 ghost use Rattle.code_theory.specs.Promise.{Sound};
 ghost use Rattle.position.specs.Received.{NothingSpare, Begun};
 ghost use Rattle.position.specs.Scanned.{Scanned};
@@ -66,7 +66,7 @@ fn found(s: Scan, rule: u32) -> ReadAnswer
 // Rule 1, chunk 1 reading p: the nearest from r(p-1) + D + A(p-1), where separator 2 begins to change, to r(p).
 pub fn nearest_before(code: DecodedCode, x: [u8; 40], p: u32) -> ReadAnswer
     requires { ⌜ Sound (meaning code) × NothingSpare (meaning code) x × (1 ≤ p) × (p ≤ lastCodeword (meaning code)) ⌝ }
-    ensures { λ r. ⌜ r ≡ nearest (meaning code) (place x) (fromTo 1 (start (meaning code) (p - 1) + code .distance + changedWeight (meaning code) (p - 1)) (start (meaning code) p)) ⌝ }
+    ensures { λ r. ⌜ r ≡ nearest (meaning code) (place x) (range₁ (meaning code) p) ⌝ }
 {
     let at = layout::layout_of(code);
     found(search_block(code, x, p - 1, at.separator2, at.bits), 1)
@@ -75,7 +75,7 @@ pub fn nearest_before(code: DecodedCode, x: [u8; 40], p: u32) -> ReadAnswer
 // Rule 2, chunk 2 reading p: the nearest from r(p) to r(p) + 2D + A(p), where separator 2 has changed.
 pub fn nearest_after(code: DecodedCode, x: [u8; 40], p: u32) -> ReadAnswer
     requires { ⌜ Sound (meaning code) × NothingSpare (meaning code) x × (p < lastCodeword (meaning code)) ⌝ }
-    ensures { λ r. ⌜ r ≡ nearest (meaning code) (place x) (fromTo 2 (start (meaning code) p) (start (meaning code) p + 2 * code .distance + changedWeight (meaning code) p)) ⌝ }
+    ensures { λ r. ⌜ r ≡ nearest (meaning code) (place x) (range₂ (meaning code) p) ⌝ }
 {
     let at = layout::layout_of(code);
     found(search_block(code, x, p, 0, at.chunk2), 2)
@@ -106,7 +106,7 @@ fn go_on(code: DecodedCode, x: [u8; 40], p: u32, s: Scan) -> Scan
 // Rule 3, both chunks reading p: the nearest from r(p) - D to r(p) + D, cut to the track.
 pub fn nearest_around(code: DecodedCode, x: [u8; 40], p: u32) -> ReadAnswer
     requires { ⌜ Sound (meaning code) × NothingSpare (meaning code) x × (p ≤ lastCodeword (meaning code)) ⌝ }
-    ensures { λ r. ⌜ r ≡ nearest (meaning code) (place x) (fromTo 3 (start (meaning code) p - code .distance) (min (start (meaning code) p + code .distance) (lastPosition (meaning code)))) ⌝ }
+    ensures { λ r. ⌜ r ≡ nearest (meaning code) (place x) (range₃ (meaning code) p) ⌝ }
 {
     let before = approach(code, x, p);
     if p == blocks::last_codeword(code) {
