@@ -6,5 +6,7 @@ pub mod Refusals
 pub mod Rows
 pub mod Decoding
 pub mod GrayStep
+pub mod SplitRows
+pub mod LeastOf
 pub mod LeastWeightLoop
 pub mod ChunkSearch
