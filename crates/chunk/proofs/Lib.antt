@@ -7,6 +7,7 @@ pub mod Rows
 pub mod Decoding
 pub mod GrayStep
 pub mod SplitRows
+pub mod LowSums
 pub mod LeastOf
 pub mod LeastWeightLoop
 pub mod ChunkSearch
