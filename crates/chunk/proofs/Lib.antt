@@ -6,5 +6,8 @@ pub mod Refusals
 pub mod Rows
 pub mod Decoding
 pub mod GrayStep
+pub mod SplitRows
+pub mod LowSums
+pub mod LeastOf
 pub mod LeastWeightLoop
 pub mod ChunkSearch

@@ -185,3 +185,45 @@ module _ (n k : ℕ) (row : ℕ → ℕ) where
       absurd (omega
       (arith, least-of-order test, least-positive n (sumOfRows row k) hn (λ g. rows-below n row k g narrow) (2 ^ k))))
       (true-or-false (dependent k row))
+
+  -- the least in order is at most n and each weight met, and no number that is so is above it
+  order-high : (m : ℕ) → leastInOrder n k row m ≤ n
+  unfolding leastInOrder
+  order-high zero = omega arith
+  order-high (suc m) = omega (arith, order-high m)
+
+  order-le : (m i : ℕ) → 0 < i → i ≤ m → leastInOrder n k row m ≤ weight n (c i)
+  unfolding leastInOrder
+  order-le zero i pos l = omega arith
+  order-le (suc m) i pos l =
+      ⊎-elim (λ (last : i ≡ suc m). rw last (omega arith))
+      (λ (other : i ≡ suc m → ⊥).
+      let before : leastInOrder n k row m ≤ weight n (c i) = order-le m i pos (omega arith) in omega arith)
+      (eq-or-ne i (suc m))
+
+  order-greatest : (m b : ℕ) → b ≤ n → ((i : ℕ) → 0 < i → i ≤ m → b ≤ weight n (c i)) → b ≤ leastInOrder n k row m
+  unfolding leastInOrder
+  order-greatest zero b high le = high
+  order-greatest (suc m) b high le =
+      let before : b ≤ leastInOrder n k row m = order-greatest m b high (λ i pos l. le i pos (omega arith)) in
+      let last : b ≤ weight n (c (suc m)) = le (suc m) (omega arith) (omega arith) in
+      omega arith
+
+  -- b is at most the weight of each nonempty set of rows
+  abbrev pub AtMostEach : ℕ → Type 0
+  AtMostEach b = (g : ℕ) → 0 < g → g < 2 ^ k → b ≤ weight n (sumOfRows row k g)
+
+  -- the greatest number that is at most n and the weight of each nonempty set of rows is the least in order
+  pub order-of-sets : (least : ℕ) → least ≤ n → AtMostEach least → ((b : ℕ) → b ≤ n → AtMostEach b → b ≤ least)
+      → least ≡ leastInOrder n k row (2 ^ k - 1)
+  order-of-sets least high le greatest =
+      le-antisymm
+      (order-greatest (2 ^ k - 1) least high
+      (λ i pos l. le (gray i) (gray-positive i pos) (gray-below k i (lt-of-le-ones k l))))
+      (greatest (leastInOrder n k row (2 ^ k - 1)) (order-high (2 ^ k - 1)) (λ g low below. met g low (gray-onto k g below)))
+    where
+      met : (g : ℕ) → 0 < g → (i : ℕ) × (i < 2 ^ k) × (gray i ≡ g) → leastInOrder n k row (2 ^ k - 1) ≤ weight n (sumOfRows row k g)
+      met g low (i, below, is-g) =
+          ⊎-elim (λ (z : i ≡ 0). omega (arith, ap gray z ∙ gray-zero))
+          (λ (up : 0 < i). rw (← is-g) (order-le (2 ^ k - 1) i up (le-ones k below)))
+          (eq-zero-or-pos i)

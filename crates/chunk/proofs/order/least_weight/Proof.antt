@@ -1,39 +1,76 @@
--- `least_weight` meets its contract: the loop steps through the codewords in Gray order, and keeps what `AtCodeword` says.
--- Assumes nothing.
-use Prim.Native.Nat.{_+_, _-_, _<_}
+-- `least_weight` meets its contract: the loop steps through the sums of the rows behind the low ones in Gray order, and keeps what
+-- `AtBehind` says. Assumes nothing.
+use Prim.Native.Nat.{_+_, _-_, _≤_, _<_}
+use native.Mathlib.Omega.{arith}
+use borrow.Author.Needs.{needs}
 use lib.Count.{trailingZeros}
 use lib.ListN.{getD}
-use lib.Pow.{pow-pos}
-use Rattle.chunk.proofs.GrayStep.{row-of-twelve}
-use Rattle.chunk.proofs.LeastWeightLoop.{AtCodeword, at-start, at-next, at-end}
-use borrow.Author.Needs.{needs}
-use native.Mathlib.Omega.{arith}
+use lib.Pow.{pow-pos, pow-mono}
+use Rattle.chunk.proofs.LeastWeightLoop.{AtBehind, row-behind, at-start, at-next, at-end}
 use Rattle.chunk.proofs.order.least_weight.Statement.{statement}
 use Rattle.chunk.proofs.order.least_weight.Tie as tie
 
 abbrev Inv-loop : tie.InvT-loop
-Inv-loop n k rows last word₀ least₀ i₀ word least i = AtCodeword n k (λ z. getD rows z 0) last word least i
+Inv-loop n k rows low size sums least₀ last word₀ h₀ least word h = AtBehind n low (k - low) (λ z. getD rows z 0) last word least h
 
 abbrev μ-loop : tie.MeasureT-loop
-μ-loop n k rows last word₀ least₀ i₀ word least i = last - i
+μ-loop n k rows low size sums least₀ last word₀ h₀ least word h = last - h
+
+low-rows-requires : tie.Need-low-rows-requires Inv-loop μ-loop
+low-rows-requires c κs = search needs
 
 two-to-requires : tie.Need-two-to-requires Inv-loop μ-loop
 two-to-requires c κs = search needs
 
+cast-size : tie.Need-cast-size Inv-loop μ-loop
+cast-size c = search needs
+
+low-sums-requires : tie.Need-low-sums-requires Inv-loop μ-loop
+low-sums-requires c κs = search needs
+
+cast-least-of : tie.Need-cast-least-of Inv-loop μ-loop
+cast-least-of c = search needs
+
+-- the table has room for the sums of the low rows
+room : (c : tie.After-two-to Inv-loop μ-loop) → c .two-to .result ≤ 32
+room c =
+    omega (arith, c .two-to .ensures, pow-mono {i = c .before .low-rows .result} {j = 5} (c .before .low-rows .ensures .0))
+
+least-of-requires : tie.Need-least-of-requires Inv-loop μ-loop
+least-of-requires c κs =
+    let sized = c .before .before in
+    (omega (arith, sized .two-to .ensures, pow-pos (sized .before .low-rows .result)), room sized)
+
+sub-two-to : tie.Need-sub-two-to Inv-loop μ-loop
+sub-two-to c = search needs
+
+two-to-requires-2 : tie.Need-two-to-requires-2 Inv-loop μ-loop
+two-to-requires-2 c κs = search needs
+
 sub-last : tie.Need-sub-last Inv-loop μ-loop
-sub-last c = omega (arith, c .two-to .ensures, pow-pos (c .before .args .k))
+sub-last c =
+    let parted = c .before .before .before .before .before in
+    omega (arith, c .two-to2 .ensures, pow-pos (parted .before .args .k - parted .low-rows .result))
 
 loop-holds : tie.Need-loop-holds Inv-loop μ-loop
-loop-holds c = at-start _ _ _ _ (c .two-to .ensures)
+loop-holds c =
+    let filled = c .before .before .before in
+    let found = c .before .least-of .ensures in
+    at-start _ _ _ _ (filled .low-sums .result) _ _ _ (filled .low-sums .ensures) (c .two-to2 .ensures)
+    (filled .before .two-to .ensures) (found .0, found .1 .0, found .1 .1)
 
-add-i : tie.Need-add-i Inv-loop μ-loop
-add-i c = search needs
+add-h : tie.Need-add-h Inv-loop μ-loop
+add-h c = search needs
 
 -- the number of the row that is added
-row : (c : tie.In-loop Inv-loop μ-loop) → trailingZeros 32 (c .before .loop .i + 1) < 12
+row : (c : tie.In-loop Inv-loop μ-loop)
+    → c .before .before .before .before .before .before .before .low-rows .result + trailingZeros 32 (c .before .loop .h + 1) < 12
 row c =
-    row-of-twelve (c .before .before .before .args .k) (c .before .loop .i) (c .before .before .before .pre .1)
-    (omega (arith, c .before .loop .inv .end))
+    let parted = c .before .before .before .before .before .before .before in
+    row-behind _ _ _ _ (omega (arith, parted .low-rows .ensures, parted .before .pre)) _ _ _ _ (c .before .loop .inv) (c .loop-test .taken)
+
+add-z : tie.Need-add-z Inv-loop μ-loop
+add-z c = omega (arith, row c)
 
 cast-z : tie.Need-cast-z Inv-loop μ-loop
 cast-z c = omega (arith, row c)
@@ -44,22 +81,28 @@ mul-word c = omega (arith, row c)
 array-read-word : tie.Need-array-read-word Inv-loop μ-loop
 array-read-word c = row c
 
+least-of-requires-2 : tie.Need-least-of-requires-2 Inv-loop μ-loop
+least-of-requires-2 c κs = (omega arith, room (c .before .before .before .before .before .before .before))
+
 loop-less : tie.Need-loop-less Inv-loop μ-loop
 loop-less c = search needs
 
 loop-again : tie.Need-loop-again Inv-loop μ-loop
 loop-again c =
-    at-next _ _ _ (c .before .before .before .before .pre .1) _ _ _ _ _ (c .before .before .loop .inv) (c .before .loop-test .taken) (omega arith)
+    let turn = c .before .before in
+    let filled = turn .before .before .before .before .before in
+    let found = c .least-of2 .ensures in
+    at-next _ _ _ _ (omega (arith, filled .before .before .before .pre)) (filled .low-sums .result) _ _ _ _ _ _
+    (filled .low-sums .ensures) (filled .before .two-to .ensures) (turn .before .loop .inv) (turn .loop-test .taken)
+    (found .0, found .1 .0, found .1 .1)
 
-loop-less-2 : tie.Need-loop-less-2 Inv-loop μ-loop
-loop-less-2 c = search needs
-
-loop-again-2 : tie.Need-loop-again-2 Inv-loop μ-loop
-loop-again-2 c =
-    at-next _ _ _ (c .before .before .before .before .pre .1) _ _ _ _ _ (c .before .before .loop .inv) (c .before .loop-test .taken) (omega arith)
+cast-result : tie.Need-cast-result Inv-loop μ-loop
+cast-result c = search needs
 
 returns : tie.Need-returns Inv-loop μ-loop
-returns c = at-end _ _ _ _ _ _ _ (c .before .loop .inv) (c .loop-test .left)
+returns c =
+    let parted = c .before .before .before .before .before .before .before in
+    at-end _ _ _ _ (parted .before .args .k) _ _ _ _ (omega (arith, parted .low-rows .ensures)) (c .before .loop .inv) (c .loop-test .left)
 
 pub least-weight-spec : {M : Type 1} → statement M
 least-weight-spec =
@@ -67,15 +110,23 @@ least-weight-spec =
     (tie.spec
     Inv-loop
     μ-loop
+    low-rows-requires
     two-to-requires
+    cast-size
+    low-sums-requires
+    cast-least-of
+    least-of-requires
+    sub-two-to
+    two-to-requires-2
     sub-last
     loop-holds
-    add-i
+    add-h
+    add-z
     cast-z
     mul-word
     array-read-word
+    least-of-requires-2
     loop-less
     loop-again
-    loop-less-2
-    loop-again-2
+    cast-result
     returns)

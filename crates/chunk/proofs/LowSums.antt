@@ -1,0 +1,64 @@
+-- The table of the sums of the low rows, as its loop fills it: the sets of those rows in Gray order, so that each sum is the one
+-- before it with one row added. Assumes nothing.
+use mathlib.Core.Path.{_≡_, sym, _∙_}
+use mathlib.Core.List.{List}
+use Prim.Native.Nat.{ℕ, _+_, _-_, _^_, _≤_, _<_}
+use native.Mathlib.Omega.{arith}
+use borrow.Author.Count.{below-more}
+use lib.Bits.{bitXor}
+use lib.Count.{trailingZeros}
+use lib.ListN.{length, getD, set, length-set}
+use lib.Pow.{pow-pos, pow-mono}
+use lib.Seq.{getD-set-same, getD-set-other}
+use Rattle.model.specs.Card.{sumOfRows}
+use Rattle.model.specs.Order.{gray}
+use Rattle.code_theory.proofs.Codewords.{rows-start}
+use Rattle.chunk.proofs.GrayStep.{word-next}
+
+-- entry j is the sum of set j of the low rows
+abbrev pub Table : (low : ℕ) (row : ℕ → ℕ) (sums : List ℕ) → Type 0
+Table low row sums = (j : ℕ) → j < 2 ^ low → getD sums j 0 ≡ sumOfRows row low (gray j)
+
+-- the loop stands at entry i of last: the entries up to it stand in sums, and it is in sum
+pub record AtSum (low : ℕ) (row : ℕ → ℕ) (last : ℕ) (sums : List ℕ) (sum i : ℕ) : Type 0 where
+  pub end : last + 1 ≡ 2 ^ low
+  pub within : i ≤ last
+  pub whole : length sums ≡ 32
+  pub current : sum ≡ sumOfRows row low (gray i)
+  pub entries : (j : ℕ) → j < i + 1 → getD sums j 0 ≡ sumOfRows row low (gray j)
+
+module _ (low : ℕ) (row : ℕ → ℕ) where
+  pub sum-start : (two : ℕ) (sums : List ℕ) → two ≡ 2 ^ low → length sums ≡ 32 → getD sums 0 0 ≡ 0
+      → AtSum low row (two - 1) sums 0 0
+  sum-start two sums is-two whole first =
+      record {
+        end = omega (arith, pow-pos low);
+        within = omega arith;
+        whole = whole;
+        current = sym (rows-start row low);
+        entries = λ j l. let none : j ≡ 0 = omega arith in rw none (first ∙ sym (rows-start row low));
+      }
+
+  -- the next entry is one of the table's 32
+  pub sum-room : low ≤ 5 → (last : ℕ) (sums : List ℕ) (sum i : ℕ) → AtSum low row last sums sum i → i < last → i + 1 < 32
+  sum-room five last sums sum i at more = omega (arith, at .end, pow-mono {i = low} {j = 5} five)
+
+  pub sum-next : low ≤ 5 → (last : ℕ) (sums : List ℕ) (sum i : ℕ) → AtSum low row last sums sum i → i < last
+      → let next = bitXor sum (row (trailingZeros 32 (i + 1))) in AtSum low row last (set sums (i + 1) next) next (i + 1)
+  sum-next five last sums sum i at more =
+      let next : ℕ = bitXor sum (row (trailingZeros 32 (i + 1))) in
+      let current : next ≡ sumOfRows row low (gray (i + 1)) =
+      word-next low i (omega arith) (omega (arith, at .end)) row sum (at .current) in
+      let room : i + 1 < length sums = omega (arith, at .whole, sum-room five last sums sum i at more) in
+      record {
+        end = at .end;
+        within = omega arith;
+        whole = simp length-set (at .whole);
+        current = current;
+        entries =
+            below-more _ _ (λ j l. getD-set-other sums (i + 1) j next 0 (omega arith) ∙ at .entries j l)
+            (getD-set-same sums (i + 1) next 0 room ∙ current);
+      }
+
+  pub sum-end : (last : ℕ) (sums : List ℕ) (sum i : ℕ) → AtSum low row last sums sum i → last ≤ i → Table low row sums
+  sum-end last sums sum i at done j below = at .entries j (omega (arith, at .end))

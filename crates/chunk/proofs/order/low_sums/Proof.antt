@@ -1,0 +1,87 @@
+-- `low_sums` meets its contract: the loop fills the table in Gray order, and keeps what `AtSum` says. Assumes nothing.
+use mathlib.Core.Path.{refl}
+use Prim.Native.Nat.{_+_, _-_, _<_}
+use native.Mathlib.Omega.{arith}
+use borrow.Author.Needs.{needs}
+use lib.Count.{trailingZeros}
+use lib.ListN.{getD}
+use lib.Pow.{pow-pos}
+use Rattle.chunk.proofs.GrayStep.{row-of-twelve}
+use Rattle.chunk.proofs.LowSums.{AtSum, sum-start, sum-room, sum-next, sum-end}
+use Rattle.chunk.proofs.order.low_sums.Statement.{statement}
+use Rattle.chunk.proofs.order.low_sums.Tie as tie
+
+abbrev Inv-loop : tie.InvT-loop
+Inv-loop low rows sums₀ last sum₀ i₀ sums sum i = AtSum low (λ z. getD rows z 0) last sums sum i
+
+abbrev μ-loop : tie.MeasureT-loop
+μ-loop low rows sums₀ last sum₀ i₀ sums sum i = last - i
+
+two-to-requires : tie.Need-two-to-requires Inv-loop μ-loop
+two-to-requires c κs = search needs
+
+sub-last : tie.Need-sub-last Inv-loop μ-loop
+sub-last c = omega (arith, c .two-to .ensures, pow-pos (c .before .args .low))
+
+loop-holds : tie.Need-loop-holds Inv-loop μ-loop
+loop-holds c = sum-start _ _ _ _ (c .two-to .ensures) refl refl
+
+add-i : tie.Need-add-i Inv-loop μ-loop
+add-i c = search needs
+
+-- the number of the row that is added
+row : (c : tie.In-loop Inv-loop μ-loop) → trailingZeros 32 (c .before .loop .i + 1) < 12
+row c =
+    row-of-twelve (c .before .before .before .args .low) (c .before .loop .i) (omega (arith, c .before .before .before .pre))
+    (omega (arith, c .before .loop .inv .end))
+
+-- the number of the entry that is written
+room : (c : tie.In-loop Inv-loop μ-loop) → c .before .loop .i + 1 < 32
+room c = sum-room _ _ (c .before .before .before .pre) _ _ _ _ (c .before .loop .inv) (c .loop-test .taken)
+
+cast-z : tie.Need-cast-z Inv-loop μ-loop
+cast-z c = omega (arith, row c)
+
+mul-sum : tie.Need-mul-sum Inv-loop μ-loop
+mul-sum c = omega (arith, row c)
+
+array-read-sum : tie.Need-array-read-sum Inv-loop μ-loop
+array-read-sum c = row c
+
+cast-sums : tie.Need-cast-sums Inv-loop μ-loop
+cast-sums c = search needs
+
+mul-sums : tie.Need-mul-sums Inv-loop μ-loop
+mul-sums c = omega (arith, room c)
+
+array-write-sums : tie.Need-array-write-sums Inv-loop μ-loop
+array-write-sums c = room c
+
+loop-less : tie.Need-loop-less Inv-loop μ-loop
+loop-less c = search needs
+
+loop-again : tie.Need-loop-again Inv-loop μ-loop
+loop-again c = sum-next _ _ (c .before .before .before .pre) _ _ _ _ (c .before .loop .inv) (c .loop-test .taken)
+
+returns : tie.Need-returns Inv-loop μ-loop
+returns c = sum-end _ _ _ _ _ _ (c .before .loop .inv) (c .loop-test .left)
+
+pub low-sums-spec : {M : Type 1} → statement M
+low-sums-spec =
+    tie.close
+    (tie.spec
+    Inv-loop
+    μ-loop
+    two-to-requires
+    sub-last
+    loop-holds
+    add-i
+    cast-z
+    mul-sum
+    array-read-sum
+    cast-sums
+    mul-sums
+    array-write-sums
+    loop-less
+    loop-again
+    returns)
