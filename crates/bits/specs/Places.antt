@@ -6,15 +6,15 @@ use lib.Dec.{ltb}
 use lib.ListN.{length, getD}
 use Rattle.bits.specs.Sums.{sumBelow, distance}
 
--- place p of a number is the bit worth 2^p
+-- place p of the number x: the bit worth 2^p
 abbrev pub bit : ℕ → ℕ → ℕ
 bit x p = x / 2 ^ p % 2
 
--- the weight of a number: how many of its first n places are 1
+-- the weight of the number x: how many of its first n places are 1
 unfoldable pub weight : ℕ → ℕ → ℕ
 weight n x = sumBelow (bit x) n
 
--- place p of a byte list is bit p mod 8, lowest first, of byte p / 8
+-- place p of the byte list b: bit p mod 8, lowest first, of byte p / 8
 unfoldable pub place : List ℕ → ℕ → ℕ
 place b p = bit (getD b (p / 8) 0) (p % 8)
 
@@ -22,11 +22,11 @@ place b p = bit (getD b (p / 8) 0) (p % 8)
 unfoldable pub cut : ℕ → (ℕ → ℕ) → ℕ → ℕ
 cut d u p = cond (ltb p d) (u p) 0
 
--- the bytes that d places take
+-- how many bytes d places take
 abbrev pub bytesFor : ℕ → ℕ
 bytesFor d = (d + 7) / 8
 
--- the byte whose bits are places 8j to 8j + 7
+-- byte j of the bit function u: the one whose bits are places 8j to 8j + 7
 unfoldable pub byteOf : (ℕ → ℕ) → ℕ → ℕ
 byteOf u j = sumBelow (λ q. u (8 * j + q) * 2 ^ q) 8
 

@@ -1,5 +1,5 @@
--- Sums over places, and the Hamming distance of two bit functions. A bit function gives each place 0 or 1.
--- Assumes nothing.
+-- Sums over places, the Hamming distance of two bit functions, and bit functions taken apart and joined. A bit function gives
+-- each place 0 or 1. Assumes nothing.
 use Prim.Native.Nat.{ℕ, zero, suc, _+_, _-_, _%_}
 use mathlib.Core.Bool.{cond}
 use lib.Dec.{ltb}
@@ -17,10 +17,10 @@ unlike a b = (a + b) % 2
 unfoldable pub distance : ℕ → (ℕ → ℕ) → (ℕ → ℕ) → ℕ
 distance d u v = sumBelow (λ p. unlike (u p) (v p)) d
 
--- the part of a bit function that starts at a
+-- the part of a bit function that starts at place a
 abbrev pub from : ℕ → (ℕ → ℕ) → ℕ → ℕ
 from a x p = x (a + p)
 
--- a places of u, then v
+-- the first a places of u, then v
 unfoldable pub joinAt : ℕ → (ℕ → ℕ) → (ℕ → ℕ) → ℕ → ℕ
 joinAt a u v p = cond (ltb p a) (u p) (v (p - a))

@@ -10,7 +10,7 @@ use lib.Dec.{eqb}
 use borrow.Author.Tests.{eqb-false}
 use Rattle.model.specs.Card.{Code}
 use Rattle.model.specs.Order.{lastCodeword, changedWeight, start, lastPosition}
-use Rattle.model.specs.Reading.{ruleNamed, chunkReading, chunk₁, separator₂, chunk₂, separator₃, Allowed, fromTo, refusedBy, rule₁, rule₂, rule₃, allowedBy, allowed}
+use Rattle.model.specs.Reading.{ruleNamed, chunkReading, chunk₁, chunk₂, Allowed, fromTo, refusedBy, rule₁, rule₂, rule₃, allowedBy, allowed}
 use Rattle.model.specs.declared.Chunk.{Chunk}
 use Rattle.model.specs.declared.Chunk.the-variants.{Codeword, Unreadable}
 use Rattle.code_theory.specs.Promise.{ChunkPromise}

@@ -17,7 +17,7 @@ use Rattle.model.specs.Order.{lastCodeword, blockLength, start, lastPosition}
 use Rattle.model.specs.Words.{wordBits, word, blockOf, wordAt}
 use Rattle.code_theory.specs.Promise.{ChunkPromise}
 use Rattle.position_theory.specs.InBlock.{InBlock}
-use Rattle.position_theory.proofs.Words.{word-bits, apart}
+use Rattle.position_theory.proofs.Words.{word-bit, apart}
 
 module _ (C : Code) (promise : ChunkPromise C) where
   -- a later block starts no earlier than where an earlier one ends
@@ -93,7 +93,7 @@ module _ (C : Code) (promise : ChunkPromise C) where
   pub word-at-start : (i : ℕ) → i ≤ lastCodeword C → (p : ℕ) → wordAt C (start C i) p ≡ word C i p
   unfolding wordAt
   word-at-start i h p =
-      rw (block-start i h, sub-self (start C i)) (walk-none (word-bits C i) (word-bits C (i + 1)) p)
+      rw (block-start i h, sub-self (start C i)) (walk-none (word-bit C i) (word-bit C (i + 1)) p)
 
   -- the word m steps into block i, its end included, is the walk of m steps from w(i) to w(i+1)
   pub word-in-block : (i m : ℕ) → i < lastCodeword C → m ≤ blockLength C i
@@ -103,6 +103,6 @@ module _ (C : Code) (promise : ChunkPromise C) where
       ⊎-elim
       (λ (e : m ≡ blockLength C i).
       rw (e, ← (promise .start-next i inside), word-at-start (i + 1) (omega arith) p)
-      (sym (walk-before (word-bits C i) (word-bits C (i + 1)) (blockLength C i) b (omega (arith, apart C promise i inside)))))
+      (sym (walk-before (word-bit C i) (word-bit C (i + 1)) (blockLength C i) b (omega (arith, apart C promise i inside)))))
       (λ (l : m < blockLength C i). rw (block-inside i m inside l, add-sub-cancel-left))
       (eq-or-lt-of-le h)

@@ -13,8 +13,8 @@ use borrow.Author.Tests.{eq-eqb}
 use Rattle.bits.specs.Sums.{distance, from}
 use Rattle.bits.specs.Places.{place}
 use Rattle.bits.proofs.Distance.{distance-ext}
-use Rattle.bits.proofs.Places.{place-pack, place-bit, cut-below}
-use Rattle.bits.proofs.Walk.{walk-bits}
+use Rattle.bits.proofs.Places.{place-bit, place-packed}
+use Rattle.bits.proofs.Walk.{walk-bit}
 use Rattle.model.specs.Card.{Code, radius}
 use Rattle.model.specs.Order.{lastCodeword, blockLength, start, lastPosition}
 use Rattle.model.specs.Words.{wordBits, blockOf, wordAt, wordBytes}
@@ -25,22 +25,22 @@ use Rattle.model.specs.declared.ReadAnswer.the-variants.{At, Refused}
 use Rattle.code_theory.specs.Promise.{ChunkPromise}
 use Rattle.position_theory.specs.Ranges.{Allows}
 use Rattle.position_theory.specs.Damage.{ChunksWithin, WithinRadius, turnedInAll, turned, Near, residualOf}
-use Rattle.position_theory.proofs.Words.{five-distance, word-bits}
+use Rattle.position_theory.proofs.Words.{five-distance, word-bit}
 use Rattle.position_theory.proofs.Blocks.{in-its-block, block-le, block-low}
 use Rattle.position_theory.proofs.TrueAllowed.{start-allowed, inside-allowed}
 use Rattle.position_theory.proofs.WholeChunks.{whole-at-start, whole-in-block}
 use Rattle.position_theory.proofs.Nearest.{answer-near}
 
-pub word-at-bits : (C : Code) (position p : ℕ) → wordAt C position p < 2
+pub word-at-bit : (C : Code) (position p : ℕ) → wordAt C position p < 2
 unfolding wordAt
-word-at-bits C position p = walk-bits (word-bits C (blockOf C position)) (word-bits C (blockOf C position + 1)) _ p
+word-at-bit C position p = walk-bit (word-bit C (blockOf C position)) (word-bit C (blockOf C position + 1)) _ p
 
 module _ (C : Code) where
   -- the places of a position's word as bytes
   pub place-of-word : (position p : ℕ) → p < wordBits C → place (wordBytes C position) p ≡ wordAt C position p
   unfolding wordBytes
   place-of-word position p b =
-      place-pack (wordBits C) (wordAt C position) (word-at-bits C position) p ∙ cut-below (wordBits C) (wordAt C position) p b
+      place-packed (wordBits C) (wordAt C position) (word-at-bit C position) p b
 
   -- so of any part of it, the bits turned are those of its bytes
   turned-in-part : (position : ℕ) (x : ℕ → ℕ) (a m : ℕ) → a + m ≤ wordBits C

@@ -9,13 +9,11 @@ use native.Mathlib.Nat.{le-dest}
 use native.Mathlib.Omega.{arith}
 use borrow.Author.Tests.{eq-eqb, eqb-false}
 use lib.Dec.{eqb}
-use lib.ListN.{length}
-use Rattle.bits.specs.Sums.{distance, from}
 use Rattle.bits.specs.Places.{place, differingBits}
-use Rattle.bits.proofs.Distance.{distance-comm, distance-ext, distance-self, distance-split}
-use Rattle.bits.proofs.Places.{length-pack, place-bit, place-pack, cut-above}
+use Rattle.bits.proofs.Distance.{distance-comm, distance-ext}
+use Rattle.bits.proofs.Places.{length-pack, place-bit, place-spare}
 use Rattle.bits.proofs.Searches.{none-of-any}
-use Rattle.bits.proofs.PackedDistance.{packed-distance}
+use Rattle.bits.proofs.PackedDistance.{differing-below, packed-distance}
 use Rattle.model.specs.Card.{Code, cardRefusal, codeOf}
 use Rattle.model.specs.Order.{lastPosition}
 use Rattle.model.specs.Words.{wordBits, wordAt, wordBytes}
@@ -27,7 +25,7 @@ use Rattle.code_theory.proofs.SoundCard.{sound-card}
 use Rattle.position_theory.specs.Damage.{turned, residualOf}
 use Rattle.position_theory.specs.Demands.{NeighboursDifferInOneBit, NoOtherPositionsWord, NearestOfAllowed, OffByAtMostTwiceTurned, OffByAtMostTurnedAndResidual}
 use Rattle.position_theory.proofs.Nearest.{reading-is-nearest}
-use Rattle.position_theory.proofs.BoundedError.{word-at-bits, place-of-word, read-word, error-bounded, near-loosen}
+use Rattle.position_theory.proofs.BoundedError.{word-at-bit, place-of-word, read-word, error-bounded, near-loosen}
 use Rattle.position_theory.proofs.DistinctWords.{neighbours-differ, words-differ}
 
 kept : (card : List ℕ) → cardRefusal card ≡ 0 → ChunkPromise (codeOf card)
@@ -37,9 +35,9 @@ kept card sound = promise (codeOf card) (sound-card card sound)
 differing-comm : (C : Code) (p q : ℕ) → differingBits (wordBytes C p) (wordBytes C q) ≡ differingBits (wordBytes C q) (wordBytes C p)
 unfolding wordBytes
 differing-comm C p q =
-    packed-distance (wordBits C) (word-at-bits C p) (word-at-bits C q)
+    packed-distance (wordBits C) (word-at-bit C p) (word-at-bit C q)
     ∙ distance-comm (wordBits C) (wordAt C p) (wordAt C q)
-    ∙ sym (packed-distance (wordBits C) (word-at-bits C q) (word-at-bits C p))
+    ∙ sym (packed-distance (wordBits C) (word-at-bit C q) (word-at-bit C p))
 
 -- demand 2, writing
 pub neighbours-differ-in-one-bit : (card : List ℕ) (position : ℕ) → cardRefusal card ≡ 0 → position ≤ lastPosition (codeOf card)
@@ -65,33 +63,23 @@ read-sound card received sound = rw (eq-eqb (cardRefusal card) 0 sound)
 
 -- the spare bits of a received word that has none set are zero
 spare-bits-zero : (C : Code) (received : List ℕ) → spareSet C received ≡ false
-    → (q : ℕ) → q < 8 * wordLength C - wordBits C → place received (wordBits C + q) ≡ 0
+    → (p : ℕ) → wordBits C ≤ p → p < 8 * wordLength C → place received p ≡ 0
 unfolding spareSet
-spare-bits-zero C received spare q b =
-    let not-one = eqb-false (place received (wordBits C + q)) 1 (none-of-any (λ q. eqb (place received (wordBits C + q)) 1) _ spare q b) in
-    omega (arith, place-bit received (wordBits C + q), not-one)
+spare-bits-zero C received spare p h b =
+    let rest : (q : ℕ) × (wordBits C + q ≡ p) = le-dest h in
+    let test = none-of-any (λ q. eqb (place received (wordBits C + q)) 1) (8 * wordLength C - wordBits C) spare (rest .0) (omega arith) in
+    let not-one = eqb-false (place received (wordBits C + rest .0)) 1 test in
+    rw (← (rest .1)) (omega (arith, place-bit received (wordBits C + rest .0), not-one))
 
 -- so the residual of a position, taken over the d bits of a word, is the count of bits in which the bytes differ
-residual-counts : (C : Code) (received : List ℕ) → length received ≡ wordLength C → spareSet C received ≡ false
+residual-counts : (C : Code) (received : List ℕ) → spareSet C received ≡ false
     → (position : ℕ) → residual C (place received) position ≡ differingBits (wordBytes C position) received
-unfolding residual differingBits wordBytes
-residual-counts C received h spare position =
-    let rest : (m : ℕ) × (wordBits C + m ≡ 8 * wordLength C) = le-dest (omega arith) in
-    let alike : distance (rest .0) (from (wordBits C) (place (wordBytes C position))) (from (wordBits C) (place received)) ≡ 0 =
-    distance-ext (rest .0)
-    (λ p b. place-pack (wordBits C) (wordAt C position) (word-at-bits C position) (wordBits C + p)
-    ∙ cut-above (wordBits C) (wordAt C position) (wordBits C + p) (omega arith))
-    (λ p b. spare-bits-zero C received spare p (omega arith))
-    ∙ distance-self (rest .0) (λ p. 0)
-    in
-    let same : distance (wordBits C) (place (wordBytes C position)) (place received) ≡ residual C (place received) position =
-    distance-ext (wordBits C) (place-of-word C position) (λ p b. refl)
-    in
-    rw (
-      length-pack (wordBits C) (wordAt C position),
-      ← (rest .1),
-      distance-split (wordBits C) (rest .0) (place (wordBytes C position)) (place received),
-    ) (omega arith)
+unfolding residual wordBytes
+residual-counts C received spare position =
+    sym (distance-ext (wordBits C) (place-of-word C position) (λ p b. refl))
+    ∙ sym (differing-below (wordBits C) (wordBytes C position) received (length-pack (wordBits C) (wordAt C position))
+    (λ p h b.
+    place-spare (wordBits C) (wordAt C position) (word-at-bit C position) p h ∙ sym (spare-bits-zero C received spare p h b)))
 
 -- demand 2, reading
 pub nearest-of-allowed : (card received : List ℕ) → NearestOfAllowed card received (readAnswer card received)
@@ -99,7 +87,7 @@ unfolding NearestOfAllowed
 nearest-of-allowed card received sound h spare = (
   rw (read-sound card received sound, read-word (codeOf card) received h spare)
       (reading-is-nearest (codeOf card) (kept card sound) (place received)),
-  residual-counts (codeOf card) received h spare,
+  residual-counts (codeOf card) received spare,
 )
 
 -- the sharper bound, and demand 3 as its corollary, since the answer's residual is at most the bits turned

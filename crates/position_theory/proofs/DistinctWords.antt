@@ -11,7 +11,7 @@ use Rattle.bits.specs.Sums.{distance}
 use Rattle.bits.specs.Places.{differingBits}
 use Rattle.bits.proofs.Distance.{distance-self}
 use Rattle.bits.proofs.Searches.{any-none}
-use Rattle.bits.proofs.Places.{length-pack, place-pack, cut-above}
+use Rattle.bits.proofs.Places.{length-pack, place-spare}
 use Rattle.bits.proofs.PackedDistance.{packed-distance}
 use Rattle.model.specs.Card.{Code}
 use Rattle.model.specs.Order.{lastCodeword, lastPosition}
@@ -24,7 +24,7 @@ use Rattle.position_theory.specs.Ranges.{Isometric}
 use Rattle.position_theory.specs.Damage.{WithinRadius, turnedInAll, turned, Near}
 use Rattle.position_theory.proofs.Blocks.{block-le, block-low, block-high}
 use Rattle.position_theory.proofs.Isometry.{isometric-block}
-use Rattle.position_theory.proofs.BoundedError.{word-at-bits, error-bounded, near-loosen}
+use Rattle.position_theory.proofs.BoundedError.{word-at-bit, error-bounded, near-loosen}
 
 module _ (C : Code) (promise : ChunkPromise C) where
   -- a position before the last is in a block that is not the last
@@ -52,16 +52,14 @@ module _ (C : Code) (promise : ChunkPromise C) where
       → differingBits (wordBytes C position) (wordBytes C (position + 1)) ≡ 1
   unfolding wordBytes
   neighbours-differ position h =
-      packed-distance (wordBits C) (word-at-bits C position) (word-at-bits C (position + 1)) ∙ step-turns-one-bit position h
+      packed-distance (wordBits C) (word-at-bit C position) (word-at-bit C (position + 1)) ∙ step-turns-one-bit position h
 
   -- an undamaged word is within the radius, with nothing turned
   spare-zero : (position : ℕ) → spareSet C (wordBytes C position) ≡ false
   unfolding spareSet wordBytes
   spare-zero position =
-      any-none _ _ (λ q b. rw (
-        place-pack (wordBits C) (wordAt C position) (word-at-bits C position) (wordBits C + q),
-        cut-above (wordBits C) (wordAt C position) (wordBits C + q) (omega arith),
-      ))
+      any-none _ _
+      (λ q b. rw (place-spare (wordBits C) (wordAt C position) (word-at-bit C position) (wordBits C + q) (omega arith)))
 
   undamaged : (position : ℕ) → WithinRadius C position (wordBytes C position)
   unfolding wordBytes

@@ -15,7 +15,7 @@ use Rattle.model.specs.Order.{lastCodeword, blockLength, start, lastPosition}
 use Rattle.model.specs.Words.{wordBits, word, wordAt}
 use Rattle.code_theory.specs.Promise.{ChunkPromise}
 use Rattle.position_theory.specs.Ranges.{Isometric}
-use Rattle.position_theory.proofs.Words.{word-bits, apart, apart-separator₁, apart-chunk₂}
+use Rattle.position_theory.proofs.Words.{word-bit, apart, apart-separator₁, apart-chunk₂}
 use Rattle.position_theory.proofs.Blocks.{word-in-block, word-at-start}
 
 -- a part of such a range is one
@@ -29,7 +29,7 @@ module _ (C : Code) (promise : ChunkPromise C) where
       → distance (wordBits C) (wordAt C (start C i + m)) (wordAt C (start C i + m′)) + m ≡ m′
   block-apart i m m′ inside h h′ =
       rw (distance-ext (wordBits C) (word-in-block C promise i m inside (omega arith)) (word-in-block C promise i m′ inside h′))
-      (walk-isometry (word-bits C i) (word-bits C (i + 1)) (wordBits C) m m′ h (rw (apart C promise i inside) h′))
+      (walk-isometry (word-bit C i) (word-bit C (i + 1)) (wordBits C) m m′ h (rw (apart C promise i inside) h′))
 
   -- a block and its end
   pub isometric-block : (i : ℕ) → i < lastCodeword C → Isometric C (start C i) (start C (i + 1))
@@ -46,7 +46,7 @@ module _ (C : Code) (promise : ChunkPromise C) where
   before-start i q inside h h′ p b =
       let offset : (m : ℕ) × (start C i + m ≡ q) = le-dest (omega (arith, promise .start-next i inside)) in
       rw (← (offset .1), word-in-block C promise i (offset .0) inside (omega (arith, promise .start-next i inside)) p (omega arith))
-      (walk-before (word-bits C i) (word-bits C (i + 1)) (offset .0) b
+      (walk-before (word-bit C i) (word-bit C (i + 1)) (offset .0) b
       (rw (apart-chunk₂ C promise i inside) (omega (arith, promise .start-next i inside))))
 
   -- up to D steps after the start of block i, from separator 1 on the word is w(i)
@@ -55,7 +55,7 @@ module _ (C : Code) (promise : ChunkPromise C) where
   after-start i q inside h h′ p b b′ =
       let offset = le-dest h in
       rw (← (offset .1), word-in-block C promise i (offset .0) inside (omega arith) p b′)
-      (walk-after (word-bits C i) (word-bits C (i + 1)) (offset .0) b (rw (apart-separator₁ C promise i inside) (omega arith)))
+      (walk-after (word-bit C i) (word-bit C (i + 1)) (offset .0) b (rw (apart-separator₁ C promise i inside) (omega arith)))
 
   isometric-before : (i : ℕ) → i < lastCodeword C → Isometric C (start C (i + 1) - C .D) (start C (i + 1))
   isometric-before i inside =

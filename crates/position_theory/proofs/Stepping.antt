@@ -20,7 +20,7 @@ use Rattle.model.specs.Order.{lastCodeword, blockLength, start}
 use Rattle.model.specs.Words.{wordBits, word, wordAt}
 use Rattle.model.specs.Reading.{residual}
 use Rattle.code_theory.specs.Promise.{ChunkPromise}
-use Rattle.position_theory.proofs.Words.{word-bits, apart}
+use Rattle.position_theory.proofs.Words.{word-bit, apart}
 use Rattle.position_theory.proofs.Blocks.{word-in-block}
 
 -- the nearest of one position more
@@ -52,7 +52,7 @@ module _ (C : Code) (promise : ChunkPromise C) (i : ℕ) (inside : i < lastCodew
       omega (arith, distance-suc q (word C i) (word C (i + 1)), steps-room (suc q) h)
       in
       rw (add-assoc (start C i) m 1, residual-in-block x (m + 1) room, residual-in-block x m (omega arith))
-      (walk-step (word-bits C i) (word-bits C (i + 1)) x (wordBits C) m q h e differs)
+      (walk-step (word-bit C i) (word-bit C (i + 1)) x (wordBits C) m q h e differs)
 
   -- where the places below a have been passed, the word is w(i+1) below a and w(i) from there on
   pub word-passed : (a p : ℕ) → a ≤ wordBits C → p < wordBits C
@@ -60,6 +60,6 @@ module _ (C : Code) (promise : ChunkPromise C) (i : ℕ) (inside : i < lastCodew
   word-passed a p h b =
       rw (word-in-block C promise i (distance a (word C i) (word C (i + 1))) inside (steps-room a h) p b)
       (⊎-elim
-      (λ (l : p < a). rw (lt-ltb p a l) (walk-before (word-bits C i) (word-bits C (i + 1)) _ l (omega arith)))
-      (λ (l : a ≤ p). rw (le-ltb p a l) (walk-after (word-bits C i) (word-bits C (i + 1)) _ l (omega arith)))
+      (λ (l : p < a). rw (lt-ltb p a l) (walk-before (word-bit C i) (word-bit C (i + 1)) _ l (omega arith)))
+      (λ (l : a ≤ p). rw (le-ltb p a l) (walk-after (word-bit C i) (word-bit C (i + 1)) _ l (omega arith)))
       (lt-or-le p a))

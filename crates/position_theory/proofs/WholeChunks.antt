@@ -19,7 +19,7 @@ use Rattle.model.specs.Reading.{majority, chunkDistance, chunk₁, separator₂
 use Rattle.code_theory.specs.Promise.{ChunkPromise}
 use Rattle.position_theory.specs.WholeChunks.{ReadsAs, WholeChunksRead}
 use Rattle.position_theory.specs.Damage.{ChunksWithin}
-use Rattle.position_theory.proofs.Words.{word-bits, word-separator₁, word-chunk₁, word-separator₂, word-chunk₂, word-separator₃, apart-separator₁, apart-chunk₁, apart-separator₂, apart-chunk₂}
+use Rattle.position_theory.proofs.Words.{word-bit, word-separator₁, word-chunk₁, word-separator₂, word-chunk₂, word-separator₃, apart-separator₁, apart-chunk₁, apart-separator₂, apart-chunk₂}
 use Rattle.position_theory.proofs.Blocks.{word-in-block, word-at-start}
 
 -- the ones of a chunk, counted as places unlike 0 or unlike 1
@@ -129,8 +129,8 @@ whole-in-block C promise i m x inside room hx d =
     -- from the place a on that the walk has not reached, and before the place a that it has passed
     old : (a q : ℕ) → a ≤ q → q < wordBits C → m ≤ distance a (word C i) (word C (i + 1)) → wordAt C (start C i + m) q ≡ word C i q
     old a q l b h =
-        rw (word-in-block C promise i m inside room q b) (walk-after (word-bits C i) (word-bits C (i + 1)) m l h)
+        rw (word-in-block C promise i m inside room q b) (walk-after (word-bit C i) (word-bit C (i + 1)) m l h)
 
     new : (a q : ℕ) → q < a → a ≤ wordBits C → distance a (word C i) (word C (i + 1)) ≤ m → wordAt C (start C i + m) q ≡ word C (i + 1) q
     new a q l b h =
-        rw (word-in-block C promise i m inside room q (omega arith)) (walk-before (word-bits C i) (word-bits C (i + 1)) m l h)
+        rw (word-in-block C promise i m inside room q (omega arith)) (walk-before (word-bit C i) (word-bit C (i + 1)) m l h)

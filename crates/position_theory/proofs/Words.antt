@@ -6,7 +6,8 @@ use native.Mathlib.Nat.{add-assoc, mod-lt}
 use native.Mathlib.Omega.{arith}
 use Rattle.bits.specs.Sums.{distance}
 use Rattle.bits.specs.Places.{bit}
-use Rattle.bits.proofs.Distance.{distance-ext, distance-split, distance-everywhere, join-left, join-right, join-bits}
+use Rattle.bits.proofs.Distance.{distance-ext, distance-split, distance-everywhere}
+use Rattle.bits.proofs.Joins.{join-left, join-right, join-bit}
 use Rattle.model.specs.Card.{Code}
 use Rattle.model.specs.Order.{codeword, lastCodeword, changedWeight, blockLength}
 use Rattle.model.specs.Words.{wordBits, fiveChunks, word}
@@ -56,10 +57,10 @@ module _ (C : Code) (i : ℕ) where
   unfolding word
   word-separator₃ p = five-separator₃ C _ _ _ _ _ p
 
-  pub word-bits : (p : ℕ) → word C i p < 2
+  pub word-bit : (p : ℕ) → word C i p < 2
   unfolding word fiveChunks
-  word-bits =
-      join-bits (C .D) parity-bit (join-bits (C .n) code-bit (join-bits (C .D) parity-bit (join-bits (C .n) code-bit parity-bit)))
+  word-bit =
+      join-bit (C .D) parity-bit (join-bit (C .n) code-bit (join-bit (C .D) parity-bit (join-bit (C .n) code-bit parity-bit)))
     where
       parity-bit : ℕ → i % 2 < 2
       parity-bit p = omega arith
