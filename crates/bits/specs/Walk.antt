@@ -6,5 +6,5 @@ use Rattle.bits.specs.Sums.{distance, unlike}
 
 -- u with the first m places in which u and v differ taken from v: place p is one of them if u and v differ there and in
 -- fewer than m places before it
-unfoldable pub walk : (u v : ℕ → ℕ) → ℕ → ℕ → ℕ
+unfoldable pub walk : (u v : ℕ → ℕ) (m p : ℕ) → ℕ
 walk u v m p = cond (eqb (unlike (u p) (v p)) 1 && ltb (distance p u v) m) (v p) (u p)

@@ -40,7 +40,7 @@ CardNotByZero (CardRefused refusal) = refusal ≡ 0 → ⊥
 
 card-not-by-zero : (card : List ℕ) → CardNotByZero (cardAnswer card)
 unfolding cardAnswer CardNotByZero
-card-not-by-zero card = by-test CardNotByZero (eqb (cardRefusal card) 0) (λ _. tt) (eqb-false (cardRefusal card) 0)
+card-not-by-zero card = unless-test CardNotByZero (eqb (cardRefusal card) 0) (eqb-false (cardRefusal card) 0) (λ _. tt)
 
 pub card-refusal-nonzero : (card : List ℕ) {refusal : ℕ} → cardAnswer card ≡ CardRefused refusal → refusal ≡ 0 → ⊥
 unfolding CardNotByZero
@@ -120,11 +120,10 @@ module _ (C : Code) (x : ℕ → ℕ) where
 read-not-by-zero : (card received : List ℕ) → ReadNotByZero (readAnswer card received)
 unfolding readAnswer readWord ReadNotByZero
 read-not-by-zero card received =
-    by-test ReadNotByZero (eqb (cardRefusal card) 0)
+    unless-test ReadNotByZero (eqb (cardRefusal card) 0) (eqb-false (cardRefusal card) 0)
     (λ _. unless-test ReadNotByZero (eqb (length received) (wordLength (codeOf card))) (λ _ z. omega arith)
     (λ _. by-test ReadNotByZero (spareSet (codeOf card) received) (λ _ z. omega arith)
     (λ _. reading-not-by-zero (codeOf card) (place received))))
-    (eqb-false (cardRefusal card) 0)
 
 pub read-refusal-nonzero : (card received : List ℕ) {refusal : ℕ} → readAnswer card received ≡ ReadRefused refusal
     → refusal ≡ 0 → ⊥

@@ -10,9 +10,9 @@ use Rattle.bits.specs.Places.{weight}
 use Rattle.bits.proofs.Binary.{weight-ones}
 use Rattle.model.specs.Card.{sumOfRows}
 use Rattle.model.specs.Order.{gray}
-use Rattle.code_theory.specs.LeastDistance.{leastInOrder}
+use Rattle.code_theory.specs.LeastInOrder.{leastInOrder}
 use Rattle.code_theory.proofs.Codewords.{rows-start, rows-below}
-use Rattle.code_theory.proofs.LeastWeight.{order-next}
+use Rattle.code_theory.proofs.LeastInOrder.{order-next}
 use Rattle.chunk.proofs.GrayStep.{word-next}
 
 -- no row has a bit at n or above

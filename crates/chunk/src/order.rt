@@ -2,7 +2,7 @@
 ghost use mathlib.Core.Path.{_≡_};
 ghost use Prim.Native.Nat.{ℕ, _-_, _^_, _≤_, _<_};
 ghost use lib.ListN.{getD};
-ghost use Rattle.code_theory.specs.LeastDistance.{leastInOrder};
+ghost use Rattle.code_theory.specs.LeastInOrder.{leastInOrder};
 
 // 2 to the power k.
 pub fn two_to(k: u32) -> u32

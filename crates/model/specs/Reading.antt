@@ -15,20 +15,20 @@ use Rattle.model.specs.declared.ReadAnswer.{ReadAnswer}
 use Rattle.model.specs.declared.ReadAnswer.the-variants.{At, Refused}
 
 -- a separator of D bits reads 1 if more than half its bits are 1, else 0; a tie reads 0
-unfoldable pub majority : ℕ → (ℕ → ℕ) → ℕ
+unfoldable pub majority : (D : ℕ) (x : ℕ → ℕ) → ℕ
 majority D x = cond (ltb D (2 * sumBelow x D)) 1 0
 
 -- in how many places a chunk and c(p) differ
-unfoldable pub chunkDistance : Code → (ℕ → ℕ) → ℕ → ℕ
+unfoldable pub chunkDistance : Code → (x : ℕ → ℕ) (p : ℕ) → ℕ
 chunkDistance C x p = distance (C .n) (bit (codeword C p)) x
 
--- a code chunk reads as p if c(p) lies within t bits of it (the first such p; `one-within-radius` says that there is one at most)
-unfoldable pub chunkReading : Code → (ℕ → ℕ) → Chunk
+-- a code chunk reads as p if c(p) lies within t bits of it (the first such p; there is one at most, by the law `one-within-radius`)
+unfoldable pub chunkReading : Code → (x : ℕ → ℕ) → Chunk
 chunkReading C x =
     let p = first (λ i. leb (chunkDistance C x i) (radius C)) (2 ^ C .k) in
     cond (ltb p (2 ^ C .k)) (Codeword p (chunkDistance C x p)) Unreadable
 
--- where the five chunks of a word start
+-- the chunks of a word after the first, separator 1, which is its first D places
 abbrev pub chunk₁ : Code → (ℕ → ℕ) → ℕ → ℕ
 chunk₁ C = from (C .D)
 
@@ -70,8 +70,8 @@ rule₃ C (Codeword p e) Unreadable = refusedBy 10
 rule₃ C Unreadable (Codeword q f) = refusedBy 10
 rule₃ C Unreadable Unreadable = refusedBy 10
 
--- what the rule with this number allows, or refusal 9 if the separators name none; only the chunks that it names are read
-unfoldable pub allowedBy : Code → (ℕ → ℕ) → ℕ → Allowed
+-- what the rule with this number allows, or refusal 9 if it is 0; only the code chunks that the rule names are read
+unfoldable pub allowedBy : Code → (x : ℕ → ℕ) (rule : ℕ) → Allowed
 allowedBy C x rule =
     cond (eqb rule 1) (rule₁ C (chunkReading C (chunk₁ C x)))
     (cond (eqb rule 2) (rule₂ C (chunkReading C (chunk₂ C x)))
@@ -79,23 +79,23 @@ allowedBy C x rule =
     (refusedBy 9)))
 
 -- the rule that a word's separators name
-unfoldable pub ruleNamed : Code → (ℕ → ℕ) → ℕ
+unfoldable pub ruleNamed : Code → (x : ℕ → ℕ) → ℕ
 ruleNamed C x = ruleOf (majority (C .D) x) (majority (C .D) (separator₂ C x)) (majority (C .D) (separator₃ C x))
 
 -- what the word's separators and chunks allow
-unfoldable pub allowed : Code → (ℕ → ℕ) → Allowed
+unfoldable pub allowed : Code → (x : ℕ → ℕ) → Allowed
 allowed C x = allowedBy C x (ruleNamed C x)
 
 -- the residual of a position: in how many of all d bits its word is unlike the received word
-unfoldable pub residual : Code → (ℕ → ℕ) → ℕ → ℕ
+unfoldable pub residual : Code → (x : ℕ → ℕ) (position : ℕ) → ℕ
 residual C x position = distance (wordBits C) (wordAt C position) x
 
 -- the allowed position whose word has fewest bits unlike the received word, the smallest on a tie; that count; and the rule
-unfoldable pub nearest : Code → (ℕ → ℕ) → Allowed → ReadAnswer
+unfoldable pub nearest : Code → (x : ℕ → ℕ) → Allowed → ReadAnswer
 nearest C x (fromTo rule low high) =
     let position : ℕ = leastAt (residual C x) low (high - low) in At position (residual C x position) rule
 nearest C x (refusedBy refusal) = Refused refusal
 
 -- the reading of a received word, given as a bit function
-unfoldable pub reading : Code → (ℕ → ℕ) → ReadAnswer
+unfoldable pub reading : Code → (x : ℕ → ℕ) → ReadAnswer
 reading C x = nearest C x (allowed C x)

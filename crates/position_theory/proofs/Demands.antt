@@ -14,7 +14,7 @@ use Rattle.bits.proofs.Distance.{distance-comm, distance-ext}
 use Rattle.bits.proofs.Places.{length-pack, place-bit, place-spare}
 use Rattle.bits.proofs.Searches.{none-of-any}
 use Rattle.bits.proofs.PackedDistance.{differing-below, packed-distance}
-use Rattle.model.specs.Card.{Code, cardRefusal, codeOf}
+use Rattle.model.specs.Card.{Code, cardRefusal, codeOf, SoundCard}
 use Rattle.model.specs.Order.{lastPosition}
 use Rattle.model.specs.Words.{wordBits, wordAt, wordBytes}
 use Rattle.model.specs.Reading.{residual}
@@ -28,8 +28,8 @@ use Rattle.position_theory.proofs.Nearest.{reading-is-nearest}
 use Rattle.position_theory.proofs.BoundedError.{word-at-bit, place-of-word, read-word, error-bounded, near-loosen}
 use Rattle.position_theory.proofs.DistinctWords.{neighbours-differ, words-differ}
 
-kept : (card : List ℕ) → cardRefusal card ≡ 0 → ChunkPromise (codeOf card)
-kept card sound = promise (codeOf card) (sound-card card sound)
+card-promise : (card : List ℕ) → SoundCard card → ChunkPromise (codeOf card)
+card-promise card sound = promise (codeOf card) (sound-card card sound)
 
 -- in how many bits two positions' words differ does not go by their order
 differing-comm : (C : Code) (p q : ℕ) → differingBits (wordBytes C p) (wordBytes C q) ≡ differingBits (wordBytes C q) (wordBytes C p)
@@ -40,24 +40,24 @@ differing-comm C p q =
     ∙ sym (packed-distance (wordBits C) (word-at-bit C q) (word-at-bit C p))
 
 -- demand 2, writing
-pub neighbours-differ-in-one-bit : (card : List ℕ) (position : ℕ) → cardRefusal card ≡ 0 → position ≤ lastPosition (codeOf card)
+pub neighbours-differ-in-one-bit : (card : List ℕ) (position : ℕ) → SoundCard card → position ≤ lastPosition (codeOf card)
     → NeighboursDifferInOneBit card position (wordBytes (codeOf card) position)
 unfolding NeighboursDifferInOneBit
 neighbours-differ-in-one-bit card position sound h neighbour h′ =
     ⊎-elim
-    (λ (next : neighbour ≡ position + 1). rw next (neighbours-differ (codeOf card) (kept card sound) position (omega arith)))
+    (λ (next : neighbour ≡ position + 1). rw next (neighbours-differ (codeOf card) (card-promise card sound) position (omega arith)))
     (λ (last : position ≡ neighbour + 1).
     rw (last, differing-comm (codeOf card) (neighbour + 1) neighbour)
-    (neighbours-differ (codeOf card) (kept card sound) neighbour (omega arith)))
+    (neighbours-differ (codeOf card) (card-promise card sound) neighbour (omega arith)))
 
-pub no-other-positions-word : (card : List ℕ) (position : ℕ) → cardRefusal card ≡ 0 → position ≤ lastPosition (codeOf card)
+pub no-other-positions-word : (card : List ℕ) (position : ℕ) → SoundCard card → position ≤ lastPosition (codeOf card)
     → NoOtherPositionsWord card position (wordBytes (codeOf card) position)
 unfolding NoOtherPositionsWord
 no-other-positions-word card position sound h other h′ same =
-    words-differ (codeOf card) (kept card sound) other position h′ h same
+    words-differ (codeOf card) (card-promise card sound) other position h′ h same
 
 -- of a sound card, the public call's answer is that of the inner call, which is handed the card's code
-pub read-sound : (card received : List ℕ) → cardRefusal card ≡ 0 → readAnswer card received ≡ readWord (codeOf card) received
+pub read-sound : (card received : List ℕ) → SoundCard card → readAnswer card received ≡ readWord (codeOf card) received
 unfolding readAnswer
 read-sound card received sound = rw (eq-eqb (cardRefusal card) 0 sound)
 
@@ -86,7 +86,7 @@ pub nearest-of-allowed : (card received : List ℕ) → NearestOfAllowed card re
 unfolding NearestOfAllowed
 nearest-of-allowed card received sound h spare = (
   rw (read-sound card received sound, read-word (codeOf card) received h spare)
-      (reading-is-nearest (codeOf card) (kept card sound) (place received)),
+      (reading-is-nearest (codeOf card) (card-promise card sound) (place received)),
   residual-counts (codeOf card) received spare,
 )
 
@@ -95,12 +95,12 @@ pub off-by-at-most-turned-and-residual : (card received : List ℕ)
     → OffByAtMostTurnedAndResidual card received (readAnswer card received)
 unfolding OffByAtMostTurnedAndResidual
 off-by-at-most-turned-and-residual card received position sound h within =
-    rw (read-sound card received sound) (error-bounded (codeOf card) (kept card sound) position received h within .0)
+    rw (read-sound card received sound) (error-bounded (codeOf card) (card-promise card sound) position received h within .0)
 
 pub off-by-at-most-twice-turned : (card received : List ℕ) → OffByAtMostTwiceTurned card received (readAnswer card received)
 unfolding OffByAtMostTwiceTurned
 off-by-at-most-twice-turned card received position sound h within =
-    let bound = error-bounded (codeOf card) (kept card sound) position received h within in
+    let bound = error-bounded (codeOf card) (card-promise card sound) position received h within in
     rw (read-sound card received sound)
     (near-loosen (readWord (codeOf card) received) position
     (turned (codeOf card) position received + residualOf (readWord (codeOf card) received)) _ (omega arith) (bound .0))
