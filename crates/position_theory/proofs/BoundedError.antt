@@ -23,10 +23,10 @@ use Rattle.model.specs.Answers.{wordLength, spareSet, readWord}
 use Rattle.model.specs.declared.ReadAnswer.{ReadAnswer}
 use Rattle.model.specs.declared.ReadAnswer.the-variants.{At, Refused}
 use Rattle.code_theory.specs.Promise.{ChunkPromise}
-use Rattle.position_theory.specs.Ranges.{Allows}
 use Rattle.position_theory.specs.Damage.{ChunksWithin, WithinRadius, turnedInAll, turned, Near, residualOf}
 use Rattle.position_theory.proofs.Words.{five-distance, word-bit}
 use Rattle.position_theory.proofs.Blocks.{in-its-block, block-le, block-low}
+use Rattle.position_theory.proofs.Allowed.{Allows}
 use Rattle.position_theory.proofs.TrueAllowed.{start-allowed, inside-allowed}
 use Rattle.position_theory.proofs.WholeChunks.{whole-at-start, whole-in-block}
 use Rattle.position_theory.proofs.Nearest.{answer-near}

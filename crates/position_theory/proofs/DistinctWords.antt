@@ -20,10 +20,9 @@ use Rattle.model.specs.Answers.{spareSet, readWord}
 use Rattle.model.specs.declared.ReadAnswer.{ReadAnswer}
 use Rattle.model.specs.declared.ReadAnswer.the-variants.{At, Refused}
 use Rattle.code_theory.specs.Promise.{ChunkPromise}
-use Rattle.position_theory.specs.Ranges.{Isometric}
 use Rattle.position_theory.specs.Damage.{WithinRadius, turnedInAll, turned, Near}
 use Rattle.position_theory.proofs.Blocks.{block-le, block-low, block-high}
-use Rattle.position_theory.proofs.Isometry.{isometric-block}
+use Rattle.position_theory.proofs.Isometry.{Isometric, isometric-block}
 use Rattle.position_theory.proofs.BoundedError.{word-at-bit, error-bounded, near-loosen}
 
 module _ (C : Code) (promise : ChunkPromise C) where

@@ -2,12 +2,12 @@ pub mod Words
 pub mod Blocks
 pub mod Isometry
 pub mod Allowed
-pub mod TrueAllowed
 pub mod WholeChunks
+pub mod TrueAllowed
 pub mod Nearest
 pub mod BoundedError
 pub mod DistinctWords
 pub mod Demands
+pub mod Writing
 pub mod Stepping
 pub mod Bounds
-pub mod Writing

@@ -15,9 +15,8 @@ use Rattle.model.specs.Card.{Code}
 use Rattle.model.specs.Order.{lastCodeword, changedWeight, blockLength, start, lastPosition}
 use Rattle.model.specs.Reading.{majority, ruleOf, ruleNamed, chunk₁, separator₂, chunk₂, separator₃, fromTo, rule₁, rule₂, rule₃, allowedBy, allowed}
 use Rattle.code_theory.specs.Promise.{ChunkPromise}
-use Rattle.position_theory.specs.Ranges.{Allows}
-use Rattle.position_theory.specs.WholeChunks.{ReadsAs, WholeChunksRead}
-use Rattle.position_theory.proofs.Allowed.{start-on-track}
+use Rattle.position_theory.proofs.Allowed.{Allows, start-on-track}
+use Rattle.position_theory.proofs.WholeChunks.{ReadsAs, WholeChunksRead}
 
 -- a separator reads 0 or 1
 majority-bit : (D : ℕ) (y : ℕ → ℕ) → majority D y < 2

@@ -15,14 +15,32 @@ use Rattle.bits.proofs.Walk.{walk-before, walk-after}
 use Rattle.model.specs.Card.{Code, radius}
 use Rattle.model.specs.Order.{codeword, lastCodeword, changedWeight, blockLength, start}
 use Rattle.model.specs.Words.{wordBits, word, wordAt}
-use Rattle.model.specs.Reading.{majority, chunkDistance, chunk₁, separator₂, chunk₂, separator₃}
+use Rattle.model.specs.Reading.{majority, chunkDistance, chunkReading, chunk₁, separator₂, chunk₂, separator₃}
+use Rattle.model.specs.declared.Chunk.the-variants.{Codeword}
 use Rattle.code_theory.specs.Promise.{ChunkPromise}
-use Rattle.position_theory.specs.WholeChunks.{ReadsAs, WholeChunksRead}
 use Rattle.position_theory.specs.Damage.{ChunksWithin}
-use Rattle.position_theory.proofs.Words.{word-bit, word-separator₁, word-chunk₁, word-separator₂, word-chunk₂, word-separator₃, apart-separator₁, apart-chunk₁, apart-separator₂, apart-chunk₂}
+use Rattle.position_theory.proofs.Words.{word-separator₁, word-chunk₁, word-separator₂, word-chunk₂, word-separator₃, word-bit}
+use Rattle.position_theory.proofs.Words.{apart-separator₁, apart-chunk₁, apart-separator₂, apart-chunk₂}
 use Rattle.position_theory.proofs.Blocks.{word-in-block, word-at-start}
 
--- the ones of a chunk, counted as places unlike 0 or unlike 1
+-- a chunk reads as codeword number p
+unfoldable pub ReadsAs : Code → (ℕ → ℕ) → ℕ → Type 0
+ReadsAs C chunk p = (e : ℕ) × (chunkReading C chunk ≡ Codeword p e)
+
+-- m steps into block i, each chunk that is whole, held from w(i) (old) or taken from w(i+1) (new), reads as what it is; of the
+-- chunk that is divided between the two nothing is said
+pub record WholeChunksRead (C : Code) (x : ℕ → ℕ) (i m : ℕ) : Type 0 where
+  pub separator₁-old : m ≡ 0 → majority (C .D) x ≡ i % 2
+  pub separator₁-new : C .D ≤ m → majority (C .D) x ≡ (i + 1) % 2
+  pub chunk₁-old : m ≤ C .D → ReadsAs C (chunk₁ C x) i
+  pub chunk₁-new : C .D + changedWeight C i ≤ m → ReadsAs C (chunk₁ C x) (i + 1)
+  pub separator₂-old : m ≤ C .D + changedWeight C i → majority (C .D) (separator₂ C x) ≡ i % 2
+  pub separator₂-new : 2 * C .D + changedWeight C i ≤ m → majority (C .D) (separator₂ C x) ≡ (i + 1) % 2
+  pub chunk₂-old : m ≤ 2 * C .D + changedWeight C i → ReadsAs C (chunk₂ C x) i
+  pub chunk₂-new : 2 * C .D + 2 * changedWeight C i ≤ m → ReadsAs C (chunk₂ C x) (i + 1)
+  pub separator₃-old : m ≤ 2 * C .D + 2 * changedWeight C i → majority (C .D) (separator₃ C x) ≡ i % 2
+
+-- the ones of a separator, counted as places unlike 0 or unlike 1
 unlike-zeros : (D : ℕ) (y : ℕ → ℕ) → ((p : ℕ) → y p < 2) → distance D (λ p. 0) y ≡ sumBelow y D
 unfolding distance
 unlike-zeros D y hy = sum-ext D (λ p b. omega (arith, hy p))
