@@ -84,9 +84,8 @@ module _ (C : Code) (promise : ChunkPromise C) where
       (λ (inside : (blockOf C position < lastCodeword C) × (position < start C (blockOf C position) + blockLength C (blockOf C position))).
       let offset = le-dest (block-low C promise position) in
       rw (← (offset .1))
-      (inside-allowed C promise x (blockOf C position) (offset .0) (inside .0)
-      (whole-in-block C promise (blockOf C position) (offset .0) x (inside .0) (omega arith) hx (rw (← (offset .1)) at d))
-      (omega arith)))
+      (inside-allowed C promise x (blockOf C position) (offset .0) (inside .0) (omega arith)
+      (whole-in-block C promise (blockOf C position) (offset .0) x (inside .0) (omega arith) hx (rw (← (offset .1)) at d))))
       (in-its-block C promise position h)
 
   -- demand 3 and the sharper bound, for a code that keeps the chunk promise
