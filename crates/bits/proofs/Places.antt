@@ -1,19 +1,19 @@
 -- The places of byte lists. Any m bits are the bits of one number below 2^m, the sum of the bits, each times its power of two; so
 -- packing d places into bytes and reading the places back gives the same places, and 0 past them. Assumes nothing.
-use Prim.Native.Nat.{ℕ, zero, suc, _+_, _*_, _/_, _%_, _^_, _≤_, _<_}
 use mathlib.Core.Path.{_≡_, refl, sym, ap, _∙_, fun-ext}
 use mathlib.Core.List.{List, [], _∷_}
 use mathlib.Core.Logic.{⊎-elim}
+use Prim.Native.Nat.{ℕ, zero, suc, _+_, _*_, _/_, _%_, _^_, _≤_, _<_}
 use native.Mathlib.Nat.{eq-or-lt-of-le, le-of-suc-le-suc, le-dest, zero-add, mul-le-mul-right, pow-succ', mod-eq-of-lt, div-eq-of-lt, add-mul-div-right, add-mul-mod-self-right, zero-div}
 use native.Mathlib.Omega.{arith}
 use lib.ListN.{length, getD, length-append, List·getD-append, List·getD-eq-default}
 use lib.Pow.{pow-pos, pow-add}
 use lib.Seq.{ext-getD, getD-at}
 use borrow.Author.Tests.{lt-ltb, le-ltb}
-use Rattle.bits.proofs.Numbers.{lt-or-le}
-use Rattle.bits.proofs.Binary.{bit-ext-below}
 use Rattle.bits.specs.Sums.{sumBelow}
 use Rattle.bits.specs.Places.{bit, place, cut, bytesFor, byteOf, listOf, pack}
+use Rattle.bits.proofs.Numbers.{lt-or-le}
+use Rattle.bits.proofs.Binary.{bit-ext-below}
 
 -- ---- lists by index
 

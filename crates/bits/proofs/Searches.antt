@@ -1,15 +1,15 @@
 -- What the searches find. Each search is known by a few facts: where it lies, what holds there, and what holds of the numbers
 -- that it passed over; whatever has those facts is what it finds. Assumes nothing.
-use Prim.Native.Nat.{ℕ, zero, suc, _+_, _≤_, _<_, zero-le}
 use mathlib.Core.Path.{_≡_, refl, sym, _∙_}
 use mathlib.Core.Bool.{Bool, true, false, _||_, true≢false}
 use mathlib.Core.Logic.{_⊎_, inl, inr, ⊎-elim}
+use Prim.Native.Nat.{ℕ, zero, suc, _+_, _≤_, _<_, zero-le}
 use native.Mathlib.Nat.{eq-or-lt-of-le, lt-of-not-le, le-of-suc-le-suc, le-antisymm, le-refl, le-step, lt-suc-self}
 use native.Mathlib.Omega.{arith}
 use lib.Dec.{ltb}
 use borrow.Author.Tests.{ltb-true, ltb-false}
-use Rattle.bits.proofs.Numbers.{true-or-false, or-false-left, or-false-right}
 use Rattle.bits.specs.Searches.{anyBelow, firstFrom, first, leastAt, greatest}
+use Rattle.bits.proofs.Numbers.{true-or-false, or-false-left, or-false-right}
 
 -- a test that is true is not false
 never : {b : Bool} → b ≡ true → b ≡ false → ⊥

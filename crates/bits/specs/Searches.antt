@@ -1,7 +1,7 @@
 -- Plain searches over numbers: whether a test ever holds, where it first does, and where a count is least.
 -- Assumes nothing.
-use Prim.Native.Nat.{ℕ, zero, suc, _+_}
 use mathlib.Core.Bool.{Bool, false, cond, _||_}
+use Prim.Native.Nat.{ℕ, zero, suc, _+_}
 use lib.Dec.{ltb}
 
 -- whether the test holds of some number below m

@@ -1,7 +1,7 @@
 -- Sums over places, the Hamming distance of two bit functions, and bit functions taken apart and joined. A bit function gives
 -- each place 0 or 1. Assumes nothing.
-use Prim.Native.Nat.{ℕ, zero, suc, _+_, _-_, _%_}
 use mathlib.Core.Bool.{cond}
+use Prim.Native.Nat.{ℕ, zero, suc, _+_, _-_, _%_}
 use lib.Dec.{ltb}
 
 -- f(0) + … + f(d - 1)

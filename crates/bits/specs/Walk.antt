@@ -1,6 +1,6 @@
 -- The walk from one bit function to another, one differing place a step. Assumes nothing.
-use Prim.Native.Nat.{ℕ}
 use mathlib.Core.Bool.{cond, _&&_}
+use Prim.Native.Nat.{ℕ}
 use lib.Dec.{ltb, eqb}
 use Rattle.bits.specs.Sums.{distance, unlike}
 

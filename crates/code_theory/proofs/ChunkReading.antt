@@ -6,12 +6,12 @@ use mathlib.Core.Bool.{Bool, cond}
 use mathlib.Core.Logic.{⊎-elim}
 use Prim.Native.Nat.{ℕ, _^_, _≤_, _<_}
 use native.Mathlib.Omega.{arith}
-use borrow.Author.Tests.{lt-ltb, le-ltb, le-leb, lt-leb, leb-true}
 use lib.Dec.{leb, ltb}
 use lib.Pow.{le-ones}
+use borrow.Author.Tests.{lt-ltb, le-ltb, le-leb, lt-leb, leb-true}
 use Rattle.bits.specs.Searches.{first}
-use Rattle.bits.proofs.Distance.{distance-ext}
 use Rattle.bits.proofs.Numbers.{lt-or-le}
+use Rattle.bits.proofs.Distance.{distance-ext}
 use Rattle.bits.proofs.Searches.{first-is, first-holds, first-none}
 use Rattle.model.specs.Card.{Code, radius}
 use Rattle.model.specs.Order.{lastCodeword}

@@ -7,11 +7,11 @@ use Prim.Native.Nat.{ℕ, zero, suc, _+_, _*_, _^_, _≤_, _<_}
 use native.Mathlib.Nat.{lt-of-le-of-lt, mod-add-mod, add-mod-mod, zero-mul, one-mul, mul-le-mul-right}
 use native.Mathlib.Decide.{ℕ-discrete}
 use native.Mathlib.Omega.{arith}
-use borrow.Author.Tests.{eq-eqb}
 use lib.Bits.{bitXor, xor-lt, xor-self, xor-zero-r}
 use lib.Count.{trailingZeros}
 use lib.Dec.{eqb}
 use lib.Pow.{pow-pos}
+use borrow.Author.Tests.{eq-eqb}
 use Rattle.bits.specs.Sums.{unlike, distance}
 use Rattle.bits.specs.Places.{bit, weight}
 use Rattle.bits.proofs.Binary.{bit-bit, bit-zero, bit-xor, bit-ext, bit-pow-same, bit-pow-other, xor-assoc, weight-xor}

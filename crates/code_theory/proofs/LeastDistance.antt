@@ -10,9 +10,9 @@ use lib.Bits.{bitXor, xor-lt}
 use lib.Pow.{pow-mono, lt-of-le-ones, le-ones}
 use Rattle.bits.specs.Sums.{distance}
 use Rattle.bits.specs.Places.{bit, weight}
-use Rattle.bits.proofs.Binary.{weight-le, weight-xor, eq-of-xor-zero}
-use Rattle.bits.proofs.Distance.{distance-comm, distance-self, distance-triangle}
 use Rattle.bits.proofs.Numbers.{eq-or-ne}
+use Rattle.bits.proofs.Distance.{distance-comm, distance-self, distance-triangle}
+use Rattle.bits.proofs.Binary.{weight-le, weight-xor, eq-of-xor-zero}
 use Rattle.model.specs.Card.{Code, sumOfRows, leastWeight, radius}
 use Rattle.model.specs.Order.{gray, codeword, lastCodeword}
 use Rattle.model.specs.Reading.{chunkDistance}

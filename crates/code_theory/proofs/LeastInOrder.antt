@@ -17,8 +17,8 @@ use Rattle.model.specs.Order.{gray}
 use Rattle.code_theory.specs.LeastInOrder.{leastInOrder}
 use Rattle.code_theory.proofs.Gray.{gray-zero, gray-below, gray-positive, gray-onto}
 use Rattle.code_theory.proofs.Codewords.{rows-start, rows-below}
-use Rattle.code_theory.proofs.LeastWeight.{passed, compared, least-high, least-le, Attained, least-some, least-positive}
 use Rattle.code_theory.proofs.SoundCard.{independent-of-test, test-of-independent}
+use Rattle.code_theory.proofs.LeastWeight.{passed, compared, least-high, least-le, Attained, least-some, least-positive}
 
 module _ (n k : ℕ) (row : ℕ → ℕ) where
   -- c(i) of the code that the rows give

@@ -9,8 +9,8 @@ use native.Mathlib.Omega.{arith}
 use lib.Count.{trailingZeros}
 use lib.Pow.{pow-mono, pow-lt}
 use Rattle.bits.specs.Places.{weight}
-use Rattle.bits.proofs.Binary.{weight-le}
 use Rattle.bits.proofs.Sums.{sum-zero, sum-one-place}
+use Rattle.bits.proofs.Binary.{weight-le}
 use Rattle.model.specs.Card.{Code}
 use Rattle.model.specs.Order.{lastCodeword, changedRow, changedWeight, blockLength, start, lastPosition}
 use Rattle.code_theory.specs.Promise.{Sound}

@@ -1,9 +1,9 @@
 -- Document 01, "Where a call can be turned down": what each of the five public calls answers, for every list of bytes and
 -- every number. The refusals stand in the table's order, as far as the call has the thing, and the first that holds is the
 -- answer. Assumes nothing.
-use Prim.Native.Nat.{ℕ, _+_, _-_, _*_}
 use mathlib.Core.Bool.{Bool, cond, not}
 use mathlib.Core.List.{List}
+use Prim.Native.Nat.{ℕ, _+_, _-_, _*_}
 use lib.Dec.{ltb, eqb}
 use lib.ListN.{length}
 use Rattle.bits.specs.Places.{bytesFor, place}

@@ -2,9 +2,9 @@
 -- Every definition is total: a card that is refused has fields and a code too, and nothing relies on them.
 -- Assumes nothing.
 use mathlib.Core.Path.{_≡_}
-use Prim.Native.Nat.{ℕ, zero, suc, _+_, _-_, _*_, _/_, _%_, _^_, min}
 use mathlib.Core.Bool.{Bool, cond, not, _&&_, _||_}
 use mathlib.Core.List.{List}
+use Prim.Native.Nat.{ℕ, zero, suc, _+_, _-_, _*_, _/_, _%_, _^_, min}
 use lib.Bits.{bitXor}
 use lib.Dec.{leb, ltb, eqb}
 use lib.ListN.{length, getD}

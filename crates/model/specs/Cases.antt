@@ -1,8 +1,8 @@
 -- Document 01, "Two cards to try": every case marked *, and with them the cards' figures and the refused cards and words
 -- that it names, as one table of questions and answers. That the definitions answer so is one theorem, in crate starred_cases.
 -- Assumes nothing.
-use Prim.Native.Nat.{ℕ, zero, suc, _-_, _*_, _/_, _%_}
 use mathlib.Core.List.{List, [], _∷_, _++_}
+use Prim.Native.Nat.{ℕ, zero, suc, _-_, _*_, _/_, _%_}
 use lib.ListN.{length, replicate}
 use Rattle.bits.specs.Sums.{sumBelow}
 use Rattle.bits.specs.Places.{bit, place, listOf, differingBits}

@@ -1,7 +1,7 @@
 -- Document 01, "Reading a word": the separators, the code chunks, the three rules, and the nearest allowed position.
 -- A received word is a bit function here; Answers.antt takes it from bytes. Assumes nothing.
-use Prim.Native.Nat.{ℕ, _+_, _-_, _*_, _^_, min}
 use mathlib.Core.Bool.{cond}
+use Prim.Native.Nat.{ℕ, _+_, _-_, _*_, _^_, min}
 use lib.Dec.{leb, ltb, eqb}
 use Rattle.bits.specs.Sums.{sumBelow, distance, from}
 use Rattle.bits.specs.Places.{bit}

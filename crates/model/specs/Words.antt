@@ -1,6 +1,6 @@
 -- Document 01, "Order and words", second half: the word of a position, its bytes, and millimetres. Assumes nothing.
-use Prim.Native.Nat.{ℕ, _+_, _-_, _*_, _%_}
 use mathlib.Core.List.{List}
+use Prim.Native.Nat.{ℕ, _+_, _-_, _*_, _%_}
 use lib.Dec.{leb}
 use Rattle.bits.specs.Sums.{joinAt}
 use Rattle.bits.specs.Walk.{walk}

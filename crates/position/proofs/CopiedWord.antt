@@ -11,7 +11,7 @@ use Rattle.bits.proofs.Places.{length-pack, place-pack, byte-of-places, same-pl
 use Rattle.model.specs.Answers.{wordLength}
 use Rattle.model.specs.Card.{Code}
 use Rattle.model.specs.Words.{wordBits, wordAt, wordBytes}
-use Rattle.position_theory.proofs.BoundedError.{word-at-bit}
+use Rattle.position_theory.proofs.WordBytes.{word-at-bit}
 
 -- a list of which each byte is one of another's
 module _ (lent word : List ℕ) (copied : (i : ℕ) → i < length lent → getD lent i 0 ≡ getD word i 0) where

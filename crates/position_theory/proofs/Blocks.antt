@@ -10,8 +10,8 @@ use native.Mathlib.Omega.{arith}
 use lib.Dec.{leb}
 use borrow.Author.Tests.{le-leb, lt-leb, leb-true, leb-false}
 use Rattle.bits.specs.Walk.{walk}
-use Rattle.bits.proofs.Searches.{greatest-is, greatest-le, greatest-holds, greatest-above}
 use Rattle.bits.proofs.Walk.{walk-none, walk-before}
+use Rattle.bits.proofs.Searches.{greatest-is, greatest-le, greatest-holds, greatest-above}
 use Rattle.model.specs.Card.{Code}
 use Rattle.model.specs.Order.{lastCodeword, blockLength, start, lastPosition}
 use Rattle.model.specs.Words.{wordBits, word, blockOf, wordAt}

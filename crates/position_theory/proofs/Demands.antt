@@ -1,31 +1,25 @@
 -- Demands 2 and 3 of cards and words as bytes: every sound card's code keeps the chunk promise, and the theorems follow.
 -- Assumes nothing.
-use mathlib.Core.Path.{_≡_, refl, _∙_, sym}
-use mathlib.Core.Bool.{false}
+use mathlib.Core.Path.{_≡_, _∙_, sym}
 use mathlib.Core.List.{List}
 use mathlib.Core.Logic.{⊎-elim}
-use Prim.Native.Nat.{ℕ, _+_, _-_, _*_, _≤_, _<_}
-use native.Mathlib.Nat.{le-dest}
+use Prim.Native.Nat.{ℕ, _+_, _≤_}
 use native.Mathlib.Omega.{arith}
-use borrow.Author.Tests.{eq-eqb, eqb-false}
-use lib.Dec.{eqb}
+use borrow.Author.Tests.{eq-eqb}
 use Rattle.bits.specs.Places.{place, differingBits}
-use Rattle.bits.proofs.Distance.{distance-comm, distance-ext}
-use Rattle.bits.proofs.Places.{length-pack, place-bit, place-spare}
-use Rattle.bits.proofs.Searches.{none-of-any}
-use Rattle.bits.proofs.PackedDistance.{differing-below, packed-distance}
+use Rattle.bits.proofs.Distance.{distance-comm}
 use Rattle.model.specs.Card.{Code, cardRefusal, codeOf, SoundCard}
 use Rattle.model.specs.Order.{lastPosition}
 use Rattle.model.specs.Words.{wordBits, wordAt, wordBytes}
-use Rattle.model.specs.Reading.{residual}
-use Rattle.model.specs.Answers.{wordLength, spareSet, readWord, readAnswer}
+use Rattle.model.specs.Answers.{readWord, readAnswer}
 use Rattle.code_theory.specs.Promise.{ChunkPromise}
-use Rattle.code_theory.proofs.Promise.{promise}
 use Rattle.code_theory.proofs.SoundCard.{sound-card}
+use Rattle.code_theory.proofs.Promise.{promise}
 use Rattle.position_theory.specs.Damage.{turned, residualOf}
 use Rattle.position_theory.specs.Demands.{NeighboursDifferInOneBit, NoOtherPositionsWord, NearestOfAllowed, OffByAtMostTwiceTurned, OffByAtMostTurnedAndResidual}
+use Rattle.position_theory.proofs.WordBytes.{differing-words, residual-counts}
 use Rattle.position_theory.proofs.Nearest.{reading-is-nearest}
-use Rattle.position_theory.proofs.BoundedError.{word-at-bit, place-of-word, read-word, error-bounded, near-loosen}
+use Rattle.position_theory.proofs.BoundedError.{read-word, error-bounded, near-loosen}
 use Rattle.position_theory.proofs.DistinctWords.{neighbours-differ, words-differ}
 
 card-promise : (card : List ℕ) → SoundCard card → ChunkPromise (codeOf card)
@@ -33,11 +27,8 @@ card-promise card sound = promise (codeOf card) (sound-card card sound)
 
 -- in how many bits two positions' words differ does not go by their order
 differing-comm : (C : Code) (p q : ℕ) → differingBits (wordBytes C p) (wordBytes C q) ≡ differingBits (wordBytes C q) (wordBytes C p)
-unfolding wordBytes
 differing-comm C p q =
-    packed-distance (wordBits C) (word-at-bit C p) (word-at-bit C q)
-    ∙ distance-comm (wordBits C) (wordAt C p) (wordAt C q)
-    ∙ sym (packed-distance (wordBits C) (word-at-bit C q) (word-at-bit C p))
+    differing-words C p q ∙ distance-comm (wordBits C) (wordAt C p) (wordAt C q) ∙ sym (differing-words C q p)
 
 -- demand 2, writing
 pub neighbours-differ-in-one-bit : (card : List ℕ) (position : ℕ) → SoundCard card → position ≤ lastPosition (codeOf card)
@@ -60,26 +51,6 @@ no-other-positions-word card position sound h other h′ same =
 pub read-sound : (card received : List ℕ) → SoundCard card → readAnswer card received ≡ readWord (codeOf card) received
 unfolding readAnswer
 read-sound card received sound = rw (eq-eqb (cardRefusal card) 0 sound)
-
--- the spare bits of a received word that has none set are zero
-spare-bits-zero : (C : Code) (received : List ℕ) → spareSet C received ≡ false
-    → (p : ℕ) → wordBits C ≤ p → p < 8 * wordLength C → place received p ≡ 0
-unfolding spareSet
-spare-bits-zero C received spare p h b =
-    let rest : (q : ℕ) × (wordBits C + q ≡ p) = le-dest h in
-    let test = none-of-any (λ q. eqb (place received (wordBits C + q)) 1) (8 * wordLength C - wordBits C) spare (rest .0) (omega arith) in
-    let not-one = eqb-false (place received (wordBits C + rest .0)) 1 test in
-    rw (← (rest .1)) (omega (arith, place-bit received (wordBits C + rest .0), not-one))
-
--- so the residual of a position, taken over the d bits of a word, is the count of bits in which the bytes differ
-residual-counts : (C : Code) (received : List ℕ) → spareSet C received ≡ false
-    → (position : ℕ) → residual C (place received) position ≡ differingBits (wordBytes C position) received
-unfolding residual wordBytes
-residual-counts C received spare position =
-    sym (distance-ext (wordBits C) (place-of-word C position) (λ p b. refl))
-    ∙ sym (differing-below (wordBits C) (wordBytes C position) received (length-pack (wordBits C) (wordAt C position))
-    (λ p h b.
-    place-spare (wordBits C) (wordAt C position) (word-at-bit C position) p h ∙ sym (spare-bits-zero C received spare p h b)))
 
 -- demand 2, reading
 pub nearest-of-allowed : (card received : List ℕ) → NearestOfAllowed card received (readAnswer card received)

@@ -1,4 +1,5 @@
 pub mod Words
+pub mod WordBytes
 pub mod Blocks
 pub mod Isometry
 pub mod Allowed

@@ -15,8 +15,8 @@ use Rattle.model.specs.Order.{lastPosition}
 use Rattle.model.specs.Words.{wordBits, wordAt}
 use Rattle.model.specs.Reading.{Allowed, fromTo, refusedBy, allowed, residual, nearest, reading}
 use Rattle.code_theory.specs.Promise.{ChunkPromise}
-use Rattle.position_theory.specs.Nearest.{NearestAllowed, IsReading}
 use Rattle.position_theory.specs.Damage.{Near, residualOf}
+use Rattle.position_theory.specs.Nearest.{NearestAllowed, IsReading}
 use Rattle.position_theory.proofs.Isometry.{Isometric}
 use Rattle.position_theory.proofs.Allowed.{IsometricOnTrack, Allows, allowed-isometric}
 

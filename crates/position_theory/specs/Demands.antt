@@ -2,10 +2,10 @@
 -- reading call state them of what the call answers and leaves. (Of demand 1, that every call ends is part of every proof, and
 -- that a call is refused by the table's number is the equation with `writeAnswer` or `readAnswer`.) Assumes nothing.
 use mathlib.Core.Path.{_≡_}
+use mathlib.Core.Bool.{false}
 use mathlib.Core.List.{List}
 use mathlib.Core.Logic.{_⊎_}
 use Prim.Native.Nat.{ℕ, _+_, _*_, _≤_}
-use mathlib.Core.Bool.{false}
 use lib.ListN.{length}
 use Rattle.bits.specs.Places.{place, differingBits}
 use Rattle.model.specs.Card.{codeOf, SoundCard}
@@ -16,8 +16,8 @@ use Rattle.model.specs.Answers.{wordLength, spareSet}
 use Rattle.model.specs.declared.WriteAnswer.{WriteAnswer}
 use Rattle.model.specs.declared.WriteAnswer.the-variants.{Written}
 use Rattle.model.specs.declared.ReadAnswer.{ReadAnswer}
-use Rattle.position_theory.specs.Nearest.{IsReading}
 use Rattle.position_theory.specs.Damage.{WithinRadius, turned, Near, residualOf}
+use Rattle.position_theory.specs.Nearest.{IsReading}
 
 -- Demand 1, writing: for a sound card, a position on its track and a lent word of the right length, the word is written
 unfoldable pub WrittenIfServable : (card : List ℕ) (position : ℕ) (lent : List ℕ) → WriteAnswer → Type 0
