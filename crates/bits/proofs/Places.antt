@@ -4,7 +4,8 @@ use mathlib.Core.Path.{_≡_, refl, sym, ap, _∙_, fun-ext}
 use mathlib.Core.List.{List, [], _∷_}
 use mathlib.Core.Logic.{⊎-elim}
 use Prim.Native.Nat.{ℕ, zero, suc, _+_, _*_, _/_, _%_, _^_, _≤_, _<_}
-use native.Mathlib.Nat.{eq-or-lt-of-le, le-of-suc-le-suc, le-dest, zero-add, mul-le-mul-right, pow-succ', mod-eq-of-lt, div-eq-of-lt, add-mul-div-right, add-mul-mod-self-right, zero-div}
+use native.Mathlib.Nat.{eq-or-lt-of-le, le-of-suc-le-suc, le-dest, zero-add, mul-le-mul-right, pow-succ', zero-div, div-eq-of-lt}
+use native.Mathlib.Nat.{add-mul-div-right, mod-eq-of-lt, add-mul-mod-self-right}
 use native.Mathlib.Omega.{arith}
 use lib.ListN.{length, getD, length-append, List·getD-append, List·getD-eq-default}
 use lib.Pow.{pow-pos, pow-add}

@@ -1,10 +1,11 @@
 -- What the searches find. Each search is known by a few facts: where it lies, what holds there, and what holds of the numbers
 -- that it passed over; whatever has those facts is what it finds. Assumes nothing.
 use mathlib.Core.Path.{_≡_, refl, sym, _∙_}
-use mathlib.Core.Bool.{Bool, true, false, _||_, true≢false}
+use mathlib.Core.Bool.{Bool, true, false, cond, _||_, true≢false}
 use mathlib.Core.Logic.{_⊎_, inl, inr, ⊎-elim}
-use Prim.Native.Nat.{ℕ, zero, suc, _+_, _≤_, _<_, zero-le}
-use native.Mathlib.Nat.{eq-or-lt-of-le, lt-of-not-le, le-of-suc-le-suc, le-antisymm, le-refl, le-step, lt-suc-self}
+use Prim.Native.Nat.{ℕ, zero, suc, _+_, _-_, _≤_, _<_, zero-le}
+use native.Mathlib.Nat.{eq-or-lt-of-le, lt-of-not-le, le-of-suc-le-suc, le-antisymm, le-refl, le-step, le-dest, lt-suc-self, add-suc, add-sub-cancel-left}
+use native.Mathlib.Numerals.{add-one}
 use native.Mathlib.Omega.{arith}
 use lib.Dec.{ltb}
 use borrow.Author.Tests.{ltb-true, ltb-false}
@@ -146,6 +147,16 @@ leastAt-first f from (suc m) q l =
     ⊎-elim (λ t. rw (t .0) (λ h. omega (arith, t .1, leastAt-least f from m q l (omega arith))))
     (λ k. rw (k .0) before)
     (taken-or-kept f from m)
+
+-- of the numbers low to m + 1, from what is least of those to m, counted as a program counts
+pub leastAt-next : (f : ℕ → ℕ) (low m : ℕ) → low ≤ m
+    → leastAt f low (m + 1 - low)
+    ≡ cond (ltb (f (m + 1)) (f (leastAt f low (m - low)))) (m + 1) (leastAt f low (m - low))
+unfolding leastAt
+leastAt-next f low m h =
+    let offset = le-dest h in
+    let next : low + (offset .0) + 1 - low ≡ suc (offset .0) = omega arith in
+    rw (← (offset .1), next, add-sub-cancel-left low (offset .0), add-suc low (offset .0), add-one (low + (offset .0)))
 
 -- ---- greatest: the greatest number of which the test holds
 

@@ -10,7 +10,8 @@ use lib.Dec.{eqb}
 use borrow.Author.Tests.{eqb-false}
 use Rattle.model.specs.Card.{Code}
 use Rattle.model.specs.Order.{lastCodeword, changedWeight, start, lastPosition}
-use Rattle.model.specs.Reading.{chunkReading, chunk₁, chunk₂, Allowed, fromTo, refusedBy, rule₁, rule₂, rule₃, allowedBy, ruleNamed, allowed}
+use Rattle.model.specs.Reading.{chunkReading, chunk₁, chunk₂, Allowed, fromTo, refusedBy}
+use Rattle.model.specs.Reading.{rule₁, rule₂, rule₃, allowedBy, ruleNamed, allowed}
 use Rattle.model.specs.declared.Chunk.{Chunk}
 use Rattle.model.specs.declared.Chunk.the-variants.{Codeword, Unreadable}
 use Rattle.code_theory.specs.Promise.{ChunkPromise}

@@ -3,15 +3,13 @@
 use mathlib.Core.Path.{_≡_, refl}
 use mathlib.Core.Bool.{cond}
 use mathlib.Core.Logic.{⊎-elim}
-use Prim.Native.Nat.{ℕ, suc, _+_, _-_, _≤_, _<_}
-use native.Mathlib.Nat.{add-assoc, add-suc, le-dest, add-sub-cancel-left}
-use native.Mathlib.Numerals.{add-one}
+use Prim.Native.Nat.{ℕ, suc, _+_, _≤_, _<_}
+use native.Mathlib.Nat.{add-assoc}
 use native.Mathlib.Omega.{arith}
 use lib.Dec.{ltb}
 use borrow.Author.Tests.{lt-ltb, le-ltb}
 use Rattle.bits.specs.Sums.{distance, unlike}
 use Rattle.bits.specs.Walk.{walk}
-use Rattle.bits.specs.Searches.{leastAt}
 use Rattle.bits.proofs.Numbers.{lt-or-le}
 use Rattle.bits.proofs.Distance.{distance-ext, distance-suc, distance-longer}
 use Rattle.bits.proofs.Walk.{walk-step, walk-before, walk-after}
@@ -22,16 +20,6 @@ use Rattle.model.specs.Reading.{residual}
 use Rattle.code_theory.specs.Promise.{ChunkPromise}
 use Rattle.position_theory.proofs.Words.{word-bit, apart}
 use Rattle.position_theory.proofs.Blocks.{word-in-block}
-
--- the nearest of one position more
-pub leastAt-next : (f : ℕ → ℕ) (low position : ℕ) → low ≤ position
-    → leastAt f low (position + 1 - low)
-    ≡ cond (ltb (f (position + 1)) (f (leastAt f low (position - low)))) (position + 1) (leastAt f low (position - low))
-unfolding leastAt
-leastAt-next f low position h =
-    let offset = le-dest h in
-    let next : low + (offset .0) + 1 - low ≡ suc (offset .0) = omega arith in
-    rw (← (offset .1), next, add-sub-cancel-left low (offset .0), add-suc low (offset .0), add-one (low + (offset .0)))
 
 module _ (C : Code) (promise : ChunkPromise C) (i : ℕ) (inside : i < lastCodeword C) where
   -- no more steps are made below any place than the block has

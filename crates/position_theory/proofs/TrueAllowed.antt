@@ -13,7 +13,8 @@ use Rattle.bits.specs.Sums.{sumBelow}
 use Rattle.bits.proofs.Numbers.{lt-or-le, eq-or-ne}
 use Rattle.model.specs.Card.{Code}
 use Rattle.model.specs.Order.{lastCodeword, changedWeight, blockLength, start, lastPosition}
-use Rattle.model.specs.Reading.{majority, ruleOf, ruleNamed, chunk₁, separator₂, chunk₂, separator₃, rule₁, rule₂, rule₃, allowedBy, allowed}
+use Rattle.model.specs.Reading.{majority, chunk₁, separator₂, chunk₂, separator₃}
+use Rattle.model.specs.Reading.{ruleOf, rule₁, rule₂, rule₃, allowedBy, ruleNamed, allowed}
 use Rattle.code_theory.specs.Promise.{ChunkPromise}
 use Rattle.position_theory.proofs.Allowed.{Allows, start-on-track}
 use Rattle.position_theory.proofs.WholeChunks.{ReadsAs, WholeChunksRead}

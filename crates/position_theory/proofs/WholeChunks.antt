@@ -77,7 +77,8 @@ chunk-reads C promise j u y h hu d =
 module _ (C : Code) (promise : ChunkPromise C) {u x : ℕ → ℕ} (hx : (p : ℕ) → x p < 2) (d : ChunksWithin C (radius C) u x) (j : ℕ) where
   separator₁-reads : ((p : ℕ) → p < C .D → u p ≡ word C j p) → majority (C .D) x ≡ j % 2
   separator₁-reads same =
-      separator-reads (C .D) (j % 2) u x (promise .D-pos) (omega arith) (λ p b. rw (same p b) (word-separator₁ C j p b)) hx (d .in-separator₁)
+      separator-reads (C .D) (j % 2) u x (promise .D-pos) (omega arith)
+      (λ p b. rw (same p b) (word-separator₁ C j p b)) hx (d .in-separator₁)
 
   separator₂-reads : ((p : ℕ) → p < C .D → separator₂ C u p ≡ separator₂ C (word C j) p) → majority (C .D) (separator₂ C x) ≡ j % 2
   separator₂-reads same =
@@ -121,15 +122,33 @@ pub whole-in-block : (C : Code) (promise : ChunkPromise C) (i m : ℕ) (x : ℕ 
     → ((p : ℕ) → x p < 2) → ChunksWithin C (radius C) (wordAt C (start C i + m)) x → WholeChunksRead C x i m
 whole-in-block C promise i m x inside room hx d =
     record {
-      separator₁-old = λ b. separator₁-reads C promise hx d i (λ p l. old 0 p (omega arith) (omega arith) (omega arith));
-      separator₁-new = λ b. separator₁-reads C promise hx d (i + 1) (λ p l. new (C .D) p l (omega arith) (rw apart₁ b));
-      chunk₁-old = λ b. chunk₁-reads C promise hx d i (omega arith) (λ p l. old (C .D) _ (omega arith) (omega arith) (rw apart₁ b));
-      chunk₁-new = λ b. chunk₁-reads C promise hx d (i + 1) (omega arith) (λ p l. new (C .D + C .n) _ (omega arith) (omega arith) (rw apart₂ b));
-      separator₂-old = λ b. separator₂-reads C promise hx d i (λ p l. old (C .D + C .n) _ (omega arith) (omega arith) (rw apart₂ b));
-      separator₂-new = λ b. separator₂-reads C promise hx d (i + 1) (λ p l. new (C .D + C .n + C .D) _ (omega arith) (omega arith) (rw apart₃ b));
-      chunk₂-old = λ b. chunk₂-reads C promise hx d i (omega arith) (λ p l. old (C .D + C .n + C .D) _ (omega arith) (omega arith) (rw apart₃ b));
-      chunk₂-new = λ b. chunk₂-reads C promise hx d (i + 1) (omega arith) (λ p l. new (C .D + C .n + C .D + C .n) _ (omega arith) (omega arith) (rw apart₄ b));
-      separator₃-old = λ b. separator₃-reads C promise hx d i (λ p l. old (C .D + C .n + C .D + C .n) _ (omega arith) (omega arith) (rw apart₄ b));
+      separator₁-old =
+          λ b. separator₁-reads C promise hx d i
+          (λ p l. old 0 p (omega arith) (omega arith) (omega arith));
+      separator₁-new =
+          λ b. separator₁-reads C promise hx d (i + 1)
+          (λ p l. new (C .D) p l (omega arith) (rw apart₁ b));
+      chunk₁-old =
+          λ b. chunk₁-reads C promise hx d i (omega arith)
+          (λ p l. old (C .D) _ (omega arith) (omega arith) (rw apart₁ b));
+      chunk₁-new =
+          λ b. chunk₁-reads C promise hx d (i + 1) (omega arith)
+          (λ p l. new (C .D + C .n) _ (omega arith) (omega arith) (rw apart₂ b));
+      separator₂-old =
+          λ b. separator₂-reads C promise hx d i
+          (λ p l. old (C .D + C .n) _ (omega arith) (omega arith) (rw apart₂ b));
+      separator₂-new =
+          λ b. separator₂-reads C promise hx d (i + 1)
+          (λ p l. new (C .D + C .n + C .D) _ (omega arith) (omega arith) (rw apart₃ b));
+      chunk₂-old =
+          λ b. chunk₂-reads C promise hx d i (omega arith)
+          (λ p l. old (C .D + C .n + C .D) _ (omega arith) (omega arith) (rw apart₃ b));
+      chunk₂-new =
+          λ b. chunk₂-reads C promise hx d (i + 1) (omega arith)
+          (λ p l. new (C .D + C .n + C .D + C .n) _ (omega arith) (omega arith) (rw apart₄ b));
+      separator₃-old =
+          λ b. separator₃-reads C promise hx d i
+          (λ p l. old (C .D + C .n + C .D + C .n) _ (omega arith) (omega arith) (rw apart₄ b));
     }
   where
     apart₁ : distance (C .D) (word C i) (word C (i + 1)) ≡ C .D
