@@ -9,6 +9,7 @@ use lib.Dec.{eqb, ltb}
 use lib.ListN.{length}
 use borrow.Author.Tests.{eqb-false}
 use Rattle.bits.specs.Places.{place}
+use Rattle.bits.proofs.Numbers.{by-test}
 use Rattle.model.specs.Card.{Code, cardRefusal, codeOf}
 use Rattle.model.specs.Order.{lastCodeword, lastPosition, start}
 use Rattle.model.specs.Words.{millimetresOf}
@@ -23,12 +24,7 @@ use Rattle.model.specs.declared.ReadAnswer.the-variants.{At, Refused as ReadRef
 use Rattle.model.specs.declared.NumberAnswer.{NumberAnswer}
 use Rattle.model.specs.declared.NumberAnswer.the-variants.{Number, Refused as NumberRefused}
 
--- what holds on either side of a test holds of what it chooses
-by-test : {A : Type 0} (P : A → Type 0) (t : Bool) {a b : A} → (t ≡ true → P a) → (t ≡ false → P b) → P (cond t a b)
-by-test P true ha hb = ha refl
-by-test P false ha hb = hb refl
-
--- the same of a test turned round
+-- what holds on either side of a test holds of what the test turned round chooses
 unless-test : {A : Type 0} (P : A → Type 0) (t : Bool) {a b : A} → (t ≡ false → P a) → (t ≡ true → P b) → P (cond (not t) a b)
 unless-test P true ha hb = hb refl
 unless-test P false ha hb = ha refl

@@ -1,13 +1,13 @@
 -- Whatever word is received, the positions that it allows are on the track, and their words differ in as many bits as they in
 -- steps: by rules 1 and 2 they lie in one block, by rule 3 within D steps of a start. Assumes nothing.
 use mathlib.Core.Path.{_≡_, refl}
-use mathlib.Core.Bool.{Bool, true, false, cond}
 use mathlib.Core.Logic.{⊎-elim}
 use Prim.Native.Nat.{ℕ, _+_, _≤_, _<_}
 use native.Mathlib.Nat.{eq-or-lt-of-le, le-dest, add-sub-cancel}
 use native.Mathlib.Omega.{arith}
 use lib.Dec.{eqb}
 use borrow.Author.Tests.{eqb-false}
+use Rattle.bits.proofs.Numbers.{by-test}
 use Rattle.model.specs.Card.{Code}
 use Rattle.model.specs.Order.{lastCodeword, changedWeight, start, lastPosition}
 use Rattle.model.specs.Reading.{chunkReading, chunk₁, chunk₂, Allowed, fromTo, refusedBy}
@@ -42,12 +42,6 @@ module _ (C : Code) (promise : ChunkPromise C) where
       (λ (l : i < lastCodeword C). omega (arith, starts-rise C promise i (lastCodeword C) l (omega arith)))
       (eq-or-lt-of-le h)
 
-  -- what holds on either side of a test holds of what it chooses
-  by-test : (t : Bool) (a b : Allowed) → (t ≡ true → IsometricOnTrack C a) → (t ≡ false → IsometricOnTrack C b)
-      → IsometricOnTrack C (cond t a b)
-  by-test true a b ha hb = ha refl
-  by-test false a b ha hb = hb refl
-
   -- rule 1: the part of block i from offset D + A(i) on
   end-of-block : (i : ℕ) → i + 1 ≤ lastCodeword C
       → IsometricOnTrack C (fromTo 1 (start C i + C .D + changedWeight C i) (start C (i + 1)))
@@ -61,7 +55,7 @@ module _ (C : Code) (promise : ChunkPromise C) where
   rule₁-isometric : (c : Chunk) → ((p e : ℕ) → c ≡ Codeword p e → p ≤ lastCodeword C) → IsometricOnTrack C (rule₁ C c)
   unfolding rule₁ IsometricOnTrack
   rule₁-isometric (Codeword p e) h =
-      by-test (eqb p 0) _ _ (λ _. tt)
+      by-test (IsometricOnTrack C) (eqb p 0) (λ _. tt)
       (λ f.
       let low : 1 ≤ p = omega (arith, eqb-false p 0 f) in
       let before : (i : ℕ) × (1 + i ≡ p) = le-dest low in
@@ -73,7 +67,7 @@ module _ (C : Code) (promise : ChunkPromise C) where
   rule₂-isometric : (c : Chunk) → ((p e : ℕ) → c ≡ Codeword p e → p ≤ lastCodeword C) → IsometricOnTrack C (rule₂ C c)
   unfolding rule₂ IsometricOnTrack
   rule₂-isometric (Codeword p e) h =
-      by-test (eqb p (lastCodeword C)) _ _ (λ _. tt)
+      by-test (IsometricOnTrack C) (eqb p (lastCodeword C)) (λ _. tt)
       (λ f.
       let inside : p < lastCodeword C = omega (arith, eqb-false p (lastCodeword C) f, h p e refl) in (
         omega arith,
@@ -87,7 +81,7 @@ module _ (C : Code) (promise : ChunkPromise C) where
   rule₃-isometric : (c c′ : Chunk) → ((p e : ℕ) → c ≡ Codeword p e → p ≤ lastCodeword C) → IsometricOnTrack C (rule₃ C c c′)
   unfolding rule₃ IsometricOnTrack
   rule₃-isometric (Codeword p e) (Codeword q f) h =
-      by-test (eqb p q) _ _
+      by-test (IsometricOnTrack C) (eqb p q)
       (λ _. (omega (arith, start-on-track p (h p e refl)), omega arith, isometric-around C promise p (h p e refl)))
       (λ _. tt)
   rule₃-isometric (Codeword p e) Unreadable h = tt
@@ -96,19 +90,14 @@ module _ (C : Code) (promise : ChunkPromise C) where
 
   pub allowed-isometric : (x : ℕ → ℕ) → IsometricOnTrack C (allowed C x)
   unfolding allowed allowedBy IsometricOnTrack
-  allowed-isometric x = by-rule (eqb rule 1) (eqb rule 2) (eqb rule 3)
+  allowed-isometric x =
+      by-test (IsometricOnTrack C) (eqb rule 1) (λ _. rule₁-isometric _ (codeword-of (chunk₁ C x)))
+      (λ _. by-test (IsometricOnTrack C) (eqb rule 2) (λ _. rule₂-isometric _ (codeword-of (chunk₂ C x)))
+      (λ _. by-test (IsometricOnTrack C) (eqb rule 3) (λ _. rule₃-isometric _ _ (codeword-of (chunk₁ C x)))
+      (λ _. tt)))
     where
       rule : ℕ
       rule = ruleNamed C x
 
       codeword-of : (chunk : ℕ → ℕ) (p e : ℕ) → chunkReading C chunk ≡ Codeword p e → p ≤ lastCodeword C
       codeword-of chunk p e r = promise .chunks .within chunk p e r .0
-
-      by-rule : (first second third : Bool)
-          → IsometricOnTrack C (cond first (rule₁ C (chunkReading C (chunk₁ C x)))
-          (cond second (rule₂ C (chunkReading C (chunk₂ C x)))
-          (cond third (rule₃ C (chunkReading C (chunk₁ C x)) (chunkReading C (chunk₂ C x))) (refusedBy 9))))
-      by-rule true second third = rule₁-isometric _ (codeword-of (chunk₁ C x))
-      by-rule false true third = rule₂-isometric _ (codeword-of (chunk₂ C x))
-      by-rule false false true = rule₃-isometric _ _ (codeword-of (chunk₁ C x))
-      by-rule false false false = tt

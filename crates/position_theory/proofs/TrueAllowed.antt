@@ -2,7 +2,6 @@
 -- rule that reads whole chunks only and allows the position. Five cases by the offset m into block i.
 -- Assumes nothing.
 use mathlib.Core.Path.{_≡_, refl}
-use mathlib.Core.Bool.{Bool, true, false, cond}
 use mathlib.Core.Logic.{_⊎_, inl, inr, ⊎-elim}
 use Prim.Native.Nat.{ℕ, _+_, _-_, _*_, _%_, _≤_, _<_, min}
 use native.Mathlib.Nat.{add-sub-cancel}
@@ -10,7 +9,7 @@ use native.Mathlib.Omega.{arith}
 use lib.Dec.{ltb}
 use borrow.Author.Tests.{eq-eqb, ne-eqb}
 use Rattle.bits.specs.Sums.{sumBelow}
-use Rattle.bits.proofs.Numbers.{lt-or-le, eq-or-ne}
+use Rattle.bits.proofs.Numbers.{lt-or-le, eq-or-ne, by-test}
 use Rattle.model.specs.Card.{Code}
 use Rattle.model.specs.Order.{lastCodeword, changedWeight, blockLength, start, lastPosition}
 use Rattle.model.specs.Reading.{majority, chunk₁, separator₂, chunk₂, separator₃}
@@ -22,11 +21,7 @@ use Rattle.position_theory.proofs.WholeChunks.{ReadsAs, WholeChunksRead
 -- a separator reads 0 or 1
 majority-bit : (D : ℕ) (y : ℕ → ℕ) → majority D y < 2
 unfolding majority
-majority-bit D y = by-test (ltb D (2 * sumBelow y D))
-  where
-    by-test : (t : Bool) → cond t 1 0 < 2
-    by-test true = omega arith
-    by-test false = omega arith
+majority-bit D y = by-test (λ b. b < 2) (ltb D (2 * sumBelow y D)) (λ _. omega arith) (λ _. omega arith)
 
 -- the three separators of the received word x read s₁, s₂ and s₃
 abbrev Separators : Code → (ℕ → ℕ) → (s₁ s₂ s₃ : ℕ) → Type 0
