@@ -97,6 +97,7 @@ length-pack d u = length-listOf (bytesFor d) (byteOf (cut d u))
 past-pack : (d : ℕ) (u : ℕ → ℕ) (i : ℕ) → bytesFor d ≤ i → getD (pack d u) i 0 ≡ 0
 past-pack d u i h = let past : length (pack d u) ≤ i = rw (length-pack d u) h in List·getD-eq-default (pack d u) 0 past
 
+-- each byte is below 256
 pub byte-of-places : (d : ℕ) (u : ℕ → ℕ) → ((p : ℕ) → u p < 2) → (i : ℕ) → getD (pack d u) i 0 < 256
 unfolding pack byteOf
 byte-of-places d u bits i =
@@ -107,6 +108,7 @@ byte-of-places d u bits i =
     (λ h. rw (past-pack d u i h) (omega arith))
     (lt-or-le i (bytesFor d))
 
+-- the places that are read back are those that were packed, and 0 past them
 pub place-pack : (d : ℕ) (u : ℕ → ℕ) → ((p : ℕ) → u p < 2) → (p : ℕ) → place (pack d u) p ≡ cut d u p
 unfolding pack byteOf place
 place-pack d u bits p =
@@ -119,7 +121,7 @@ place-pack d u bits p =
     (λ h. rw (past-pack d u (p / 8) h, cut-above d u p (omega arith), zero-div))
     (lt-or-le (p / 8) (bytesFor d))
 
--- the first d places are those that were packed, and the spare ones are 0
+-- the first d places, and the spare ones
 pub place-packed : (d : ℕ) (u : ℕ → ℕ) → ((p : ℕ) → u p < 2) → (p : ℕ) → p < d → place (pack d u) p ≡ u p
 place-packed d u bits p h = place-pack d u bits p ∙ cut-below d u p h
 

@@ -1,5 +1,5 @@
--- What a code chunk reads as: the first codeword within the radius. Whoever has passed over the codewords before p and
--- finds p within the radius has read it, whatever the search; and the reading looks at the chunk's n places alone.
+-- What a code chunk reads as: the first codeword within the radius. A search that has passed over the codewords before c(p) and
+-- finds c(p) within the radius has read the chunk; and the reading depends on the chunk's n places alone.
 -- Assumes nothing.
 use mathlib.Core.Path.{_≡_, refl, sym, ap, fun-ext, _∙_}
 use mathlib.Core.Bool.{Bool, cond}

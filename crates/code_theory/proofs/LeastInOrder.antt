@@ -18,7 +18,7 @@ use Rattle.code_theory.specs.LeastInOrder.{leastInOrder}
 use Rattle.code_theory.proofs.Gray.{gray-zero, gray-below, gray-positive, gray-onto}
 use Rattle.code_theory.proofs.Codewords.{rows-start, rows-below}
 use Rattle.code_theory.proofs.SoundCard.{independent-of-test, test-of-independent}
-use Rattle.code_theory.proofs.LeastWeight.{passed, compared, least-high, least-le, Attained, least-some, least-positive}
+use Rattle.code_theory.proofs.LeastWeight.{least-passed, least-compared, least-high, least-le, Attained, least-some, least-positive}
 
 module _ (n k : ℕ) (row : ℕ → ℕ) where
   -- c(i) of the code that the rows give
@@ -46,11 +46,11 @@ module _ (n k : ℕ) (row : ℕ → ℕ) where
   -- ... and where there is none, the least in order is the least weight of the codewords in order
   order-is-least : (m : ℕ) → ((i : ℕ) → 0 < i → i ≤ m → c i ≡ 0 → ⊥) → leastInOrder n k row m ≡ leastWeight n c (suc m)
   unfolding leastInOrder leastWeight
-  order-is-least zero ne = sym (passed n c 0 (rows-start row k))
+  order-is-least zero ne = sym (least-passed n c 0 (rows-start row k))
   order-is-least (suc m) ne =
       let before : leastInOrder n k row m ≡ leastWeight n c (suc m) = order-is-least m (λ i pos l. ne i pos (omega arith)) in
       let new : leastWeight n c (suc (suc m)) ≡ min (weight n (c (suc m))) (leastWeight n c (suc m)) =
-      compared n c (suc m) (ne (suc m) (omega arith) (omega arith)) in
+      least-compared n c (suc m) (ne (suc m) (omega arith) (omega arith)) in
       omega arith
 
   -- the Gray order meets each set of rows once, so the order of the codewords does not matter

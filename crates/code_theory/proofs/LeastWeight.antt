@@ -12,31 +12,31 @@ use Rattle.bits.proofs.Binary.{zero-of-weight}
 use Rattle.model.specs.Card.{leastWeight}
 
 module _ (n : ℕ) (word : ℕ → ℕ) where
-  -- one word more: a zero is passed over, any other is compared
-  pub passed : (g : ℕ) → word g ≡ 0 → leastWeight n word (suc g) ≡ leastWeight n word g
+  -- one word more: a zero is least-passed over, any other is least-compared
+  pub least-passed : (g : ℕ) → word g ≡ 0 → leastWeight n word (suc g) ≡ leastWeight n word g
   unfolding leastWeight
-  passed g e = rw (eq-eqb (word g) 0 e)
+  least-passed g e = rw (eq-eqb (word g) 0 e)
 
-  pub compared : (g : ℕ) → (word g ≡ 0 → ⊥) → leastWeight n word (suc g) ≡ min (weight n (word g)) (leastWeight n word g)
+  pub least-compared : (g : ℕ) → (word g ≡ 0 → ⊥) → leastWeight n word (suc g) ≡ min (weight n (word g)) (leastWeight n word g)
   unfolding leastWeight
-  compared g ne = rw (ne-eqb (word g) 0 ne)
+  least-compared g ne = rw (ne-eqb (word g) 0 ne)
 
   pub least-high : (m : ℕ) → leastWeight n word m ≤ n
   unfolding leastWeight
   least-high zero = omega arith
   least-high (suc g) =
       let before : leastWeight n word g ≤ n = least-high g in
-      ⊎-elim (λ e. rw (passed g e) before) (λ ne. rw (compared g ne) (omega arith)) (eq-or-ne (word g) 0)
+      ⊎-elim (λ e. rw (least-passed g e) before) (λ ne. rw (least-compared g ne) (omega arith)) (eq-or-ne (word g) 0)
 
   -- it is at most the weight of each nonzero codeword ...
   pub least-le : (m g : ℕ) → g < m → (word g ≡ 0 → ⊥) → leastWeight n word m ≤ weight n (word g)
   least-le zero g l ne = omega arith
   least-le (suc m) g l ne =
       ⊎-elim
-      (λ (e : g ≡ m). rw (← e, compared g ne) (omega arith))
+      (λ (e : g ≡ m). rw (← e, least-compared g ne) (omega arith))
       (λ (other : g ≡ m → ⊥).
       let before : leastWeight n word m ≤ weight n (word g) = least-le m g (omega arith) ne in
-      ⊎-elim (λ e. rw (passed m e) before) (λ ne′. rw (compared m ne′) (omega arith)) (eq-or-ne (word m) 0))
+      ⊎-elim (λ e. rw (least-passed m e) before) (λ ne′. rw (least-compared m ne′) (omega arith)) (eq-or-ne (word m) 0))
       (eq-or-ne g m)
 
   -- ... and the weight of one, or n
@@ -52,9 +52,9 @@ module _ (n : ℕ) (word : ℕ → ℕ) where
   unfolding leastWeight
   least-some zero = inl refl
   least-some (suc m) =
-      ⊎-elim (λ (e : word m ≡ 0). still m (passed m e) (least-some m))
+      ⊎-elim (λ (e : word m ≡ 0). still m (least-passed m e) (least-some m))
       (λ (ne : word m ≡ 0 → ⊥).
-      let new : leastWeight n word (suc m) ≡ min (weight n (word m)) (leastWeight n word m) = compared m ne in
+      let new : leastWeight n word (suc m) ≡ min (weight n (word m)) (leastWeight n word m) = least-compared m ne in
       ⊎-elim (λ (l : weight n (word m) < leastWeight n word m). inr (m, omega arith, ne, omega arith))
       (λ (l : leastWeight n word m ≤ weight n (word m)). still m (omega arith) (least-some m))
       (lt-or-le (weight n (word m)) (leastWeight n word m)))

@@ -1,4 +1,4 @@
--- What is known of a sound card's code, and what the position code may know of it: the chunk promise.
+-- What is known of a sound card's code, and the chunk promise: what the theory of words and reading may know of it.
 -- Assumes nothing.
 use mathlib.Core.Path.{_≡_}
 use Prim.Native.Nat.{ℕ, _+_, _^_, _≤_, _<_}
@@ -24,14 +24,15 @@ pub record Sound (C : Code) : Type 0 where
 
 -- What a reader of code chunks promises, whatever its search. Two readers that promise it answer alike (`readers-agree`).
 pub record ReadsChunks (C : Code) (read : (ℕ → ℕ) → Chunk) : Type 0 where
-  -- a chunk within the radius of c(p) reads p, in the count of places in which they differ
+  -- a chunk within the radius of c(p) reads p, with the count of places in which the two differ
   pub reads : (x : ℕ → ℕ) (p : ℕ) → p ≤ lastCodeword C → chunkDistance C x p ≤ radius C
       → read x ≡ Codeword p (chunkDistance C x p)
-  -- a chunk that reads p lies within the radius of c(p), a codeword of the code, and the count is as answered
+  -- a chunk that reads p lies within the radius of c(p), a codeword of the code, and the count is theirs
   pub within : (x : ℕ → ℕ) (p e : ℕ) → read x ≡ Codeword p e
       → (p ≤ lastCodeword C) × (e ≡ chunkDistance C x p) × (e ≤ radius C)
 
--- The chunk promise: all that the position theory knows of the chunk code and its order
+-- The chunk promise: all that the laws of words and reading know of the code and its order (only the bounds on the size of numbers,
+-- which code needs, go by the card's limits)
 pub record ChunkPromise (C : Code) : Type 0 where
   pub D-pos : 1 ≤ C .D
   pub chunks : ReadsChunks C (chunkReading C)

@@ -21,7 +21,7 @@ use Rattle.position_theory.specs.Demands.{OffByAtMostTwiceTurned, OffByA
 use Rattle.position_theory.proofs.WordBytes.{differing-words, residual-counts}
 use Rattle.position_theory.proofs.Nearest.{reading-is-nearest}
 use Rattle.position_theory.proofs.BoundedError.{read-word, error-bounded, near-loosen}
-use Rattle.position_theory.proofs.DistinctWords.{neighbours-differ, words-differ}
+use Rattle.position_theory.proofs.DistinctWords.{neighbours-differ, words-distinct}
 
 card-promise : (card : List ℕ) → SoundCard card → ChunkPromise (codeOf card)
 card-promise card sound = promise (codeOf card) (sound-card card sound)
@@ -46,7 +46,7 @@ pub no-other-positions-word : (card : List ℕ) (position : ℕ) → SoundCard c
     → NoOtherPositionsWord card position (wordBytes (codeOf card) position)
 unfolding NoOtherPositionsWord
 no-other-positions-word card position sound h other h′ same =
-    words-differ (codeOf card) (card-promise card sound) other position h′ h same
+    words-distinct (codeOf card) (card-promise card sound) other position h′ h same
 
 -- of a sound card, the public call's answer is that of the inner call, which is handed the card's code
 pub read-sound : (card received : List ℕ) → SoundCard card → readAnswer card received ≡ readWord (codeOf card) received

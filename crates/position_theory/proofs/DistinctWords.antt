@@ -68,17 +68,18 @@ module _ (C : Code) (promise : ChunkPromise C) where
   unfolding turned turnedInAll
   nothing-turned position = simp distance-self
 
-  -- an answer no steps from two positions is one position
+  -- two positions that are no steps from one answer are one
   one-answer : (answer : ReadAnswer) (p q : ℕ) → Near answer p 0 → Near answer q 0 → p ≡ q
   unfolding Near
   one-answer (At a r rule) p q near near′ = omega arith
   one-answer (Refused refusal) p q near near′ = absurd near
 
+  -- so a word that is read with nothing turned gives back its position, and no other has it
   read-as-itself : (position : ℕ) → position ≤ lastPosition C → Near (readWord C (wordBytes C position)) position 0
   read-as-itself position h =
       let bound = error-bounded C promise position (wordBytes C position) h (undamaged position) in
       near-loosen (readWord C (wordBytes C position)) position _ 0 (omega (arith, nothing-turned position)) (bound .0)
 
-  pub words-differ : (p q : ℕ) → p ≤ lastPosition C → q ≤ lastPosition C → wordBytes C p ≡ wordBytes C q → p ≡ q
-  words-differ p q hp hq e =
+  pub words-distinct : (p q : ℕ) → p ≤ lastPosition C → q ≤ lastPosition C → wordBytes C p ≡ wordBytes C q → p ≡ q
+  words-distinct p q hp hq e =
       one-answer (readWord C (wordBytes C q)) p q (rw e at (read-as-itself p hp)) (read-as-itself q hq)

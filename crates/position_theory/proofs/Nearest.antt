@@ -1,6 +1,6 @@
 -- The reading of every word is the nearest allowed position, or the refusal of a word that allows none. Of a word that
--- allows the true position, the answer is off by at most the bits turned and the residual together, since the words of
--- allowed positions are as far apart as the positions. Assumes nothing.
+-- allows the true position, the answer is off by at most the bits turned and the residual together, since the words of allowed
+-- positions differ in as many bits as the positions in steps (triangle inequality). Assumes nothing.
 use mathlib.Core.Path.{_≡_, refl}
 use mathlib.Core.Logic.{⊎-elim}
 use Prim.Native.Nat.{ℕ, _+_, _-_, _≤_, _<_}
@@ -21,9 +21,11 @@ use Rattle.position_theory.proofs.Isometry.{Isometric}
 use Rattle.position_theory.proofs.Allowed.{IsometricOnTrack, Allows, allowed-isometric}
 
 module _ (C : Code) (promise : ChunkPromise C) (x : ℕ → ℕ) where
+  -- of whatever range is allowed, what is known of every one
   range : (rule low high : ℕ) → allowed C x ≡ fromTo rule low high → IsometricOnTrack C (fromTo rule low high)
   range rule low high is = rw is at (allowed-isometric C promise x)
 
+  -- what the search for the least residual finds is the nearest allowed position
   nearest-is : (rule low high : ℕ) → allowed C x ≡ fromTo rule low high → low ≤ high → high ≤ lastPosition C
       → NearestAllowed C x (leastAt (residual C x) low (high - low)) (residual C x (leastAt (residual C x) low (high - low))) rule
   nearest-is rule low high is h top =

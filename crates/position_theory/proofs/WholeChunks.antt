@@ -24,7 +24,7 @@ use Rattle.position_theory.proofs.Words.{apart-separator₁, apart-chun
 use Rattle.position_theory.proofs.Blocks.{word-in-block, word-at-start}
 
 -- a chunk reads as codeword number p
-unfoldable pub ReadsAs : Code → (ℕ → ℕ) → ℕ → Type 0
+unfoldable pub ReadsAs : Code → (chunk : ℕ → ℕ) (p : ℕ) → Type 0
 ReadsAs C chunk p = (e : ℕ) × (chunkReading C chunk ≡ Codeword p e)
 
 -- m steps into block i, each chunk that is whole, held from w(i) (old) or taken from w(i+1) (new), reads as what it is; of the
