@@ -1,4 +1,4 @@
--- Plain searches over numbers: whether a test ever holds, where it first does, and where a count is least.
+-- Plain searches over numbers: whether a test ever holds, where it first does and where it last does, and where a count is least.
 -- Assumes nothing.
 use mathlib.Core.Bool.{Bool, false, cond, _||_}
 use Prim.Native.Nat.{ℕ, zero, suc, _+_}

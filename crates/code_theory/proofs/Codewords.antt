@@ -11,13 +11,14 @@ use lib.Count.{trailingZeros}
 use lib.Dec.{eqb}
 use lib.Pow.{pow-pos}
 use borrow.Author.Tests.{eq-eqb}
-use Rattle.bits.specs.Sums.{unlike, distance}
+use Rattle.bits.specs.Sums.{unlike}
 use Rattle.bits.specs.Places.{bit, weight}
 use Rattle.bits.proofs.Numbers.{eq-or-ne}
 use Rattle.bits.proofs.Binary.{bit-bit, bit-zero, bit-xor, bit-ext, bit-pow-same, bit-pow-other, xor-assoc, weight-xor}
 use Rattle.bits.proofs.Searches.{first-is}
 use Rattle.model.specs.Card.{Code, sumOfRows}
 use Rattle.model.specs.Order.{gray, codeword, lastCodeword, changedRow, changedWeight}
+use Rattle.code_theory.specs.LeastDistance.{codewordDistance}
 use Rattle.code_theory.proofs.Gray.{gray-zero, gray-changed, gray-kept, gray-next, changed-below}
 
 -- ---- identities of exclusive-or
@@ -124,7 +125,7 @@ module _ (C : Code) (i : ℕ) (within : i < lastCodeword C) where
       ∙ ap (λ (z : ℕ). bitXor (sumOfRows (C .row) (C .k) (gray i)) (C .row z)) (sym (changed-row (C .k) next-below))
 
   -- so they differ in A(i) places
-  pub step-distance : distance (C .n) (bit (codeword C i)) (bit (codeword C (i + 1))) ≡ changedWeight C i
+  pub step-distance : codewordDistance C i (i + 1) ≡ changedWeight C i
   unfolding changedWeight
   step-distance =
       let r : ℕ = C .row (changedRow C i) in

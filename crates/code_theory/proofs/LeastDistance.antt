@@ -16,8 +16,8 @@ use Rattle.bits.proofs.Binary.{weight-le, weight-xor, eq-of-xor-zero}
 use Rattle.model.specs.Card.{Code, sumOfRows, leastWeight, radius}
 use Rattle.model.specs.Order.{gray, codeword, lastCodeword}
 use Rattle.model.specs.Reading.{chunkDistance}
-use Rattle.code_theory.specs.Promise.{Sound}
 use Rattle.code_theory.specs.LeastDistance.{LeastDistance, codewordDistance}
+use Rattle.code_theory.specs.Promise.{Sound}
 use Rattle.code_theory.proofs.Gray.{gray-below, gray-positive, gray-injective, gray-onto}
 use Rattle.code_theory.proofs.Codewords.{rows-linear, rows-below, codeword-zero}
 use Rattle.code_theory.proofs.LeastWeight.{least-high, least-le, least-some, least-positive}

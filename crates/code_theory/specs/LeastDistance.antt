@@ -7,7 +7,7 @@ use Rattle.model.specs.Card.{Code}
 use Rattle.model.specs.Order.{codeword, lastCodeword}
 
 -- in how many places c(i) and c(j) differ
-abbrev pub codewordDistance : Code → ℕ → ℕ → ℕ
+abbrev pub codewordDistance : Code → (i j : ℕ) → ℕ
 codewordDistance C i j = distance (C .n) (bit (codeword C i)) (bit (codeword C j))
 
 -- D is the least distance of two different codewords: codewords of different numbers are different words, any two of them

@@ -1,5 +1,5 @@
--- The least weight of the codewords met on the way through the Gray order, zero ones included: what the code that looks for D
--- counts. Assumes nothing.
+-- The least weight of the codewords met on the way through the Gray order, zero ones included: what the program keeps in its search
+-- for D. Assumes nothing.
 use Prim.Native.Nat.{ℕ, zero, suc, min}
 use Rattle.bits.specs.Places.{weight}
 use Rattle.model.specs.Card.{sumOfRows}

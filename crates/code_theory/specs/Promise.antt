@@ -2,15 +2,14 @@
 -- Assumes nothing.
 use mathlib.Core.Path.{_≡_}
 use Prim.Native.Nat.{ℕ, _+_, _^_, _≤_, _<_}
-use Rattle.bits.specs.Sums.{distance}
-use Rattle.bits.specs.Places.{bit}
 use Rattle.model.specs.Card.{Code, sumOfRows, leastWeight, radius}
-use Rattle.model.specs.Order.{codeword, lastCodeword, changedWeight, blockLength, start}
+use Rattle.model.specs.Order.{lastCodeword, changedWeight, blockLength, start}
 use Rattle.model.specs.Reading.{chunkDistance, chunkReading}
 use Rattle.model.specs.declared.Chunk.{Chunk}
 use Rattle.model.specs.declared.Chunk.the-variants.{Codeword}
+use Rattle.code_theory.specs.LeastDistance.{codewordDistance}
 
--- a code that a sound card gives: within the card's limits, no row wider than n, rows independent, D the least weight
+-- a code that a sound card gives: within the card's limits, no row wider than n, unused rows zero, rows independent, D the least weight
 pub record Sound (C : Code) : Type 0 where
   pub n-low : 1 ≤ C .n
   pub n-high : C .n ≤ 64
@@ -40,5 +39,4 @@ pub record ChunkPromise (C : Code) : Type 0 where
   pub start-zero : start C 0 ≡ 0
   pub start-next : (i : ℕ) → i < lastCodeword C → start C (i + 1) ≡ start C i + blockLength C i
   -- codewords that follow one another differ in A(i) places
-  pub step : (i : ℕ) → i < lastCodeword C
-      → distance (C .n) (bit (codeword C i)) (bit (codeword C (i + 1))) ≡ changedWeight C i
+  pub step : (i : ℕ) → i < lastCodeword C → codewordDistance C i (i + 1) ≡ changedWeight C i

@@ -16,7 +16,7 @@ use Rattle.bits.specs.Searches.{anyBelow}
 abbrev pub byte : (b : List ℕ) (i : ℕ) → ℕ
 byte b i = getD b i 0
 
--- the number in the m bytes from place i on, high byte first
+-- the number in the m bytes from byte i on, high byte first
 unfoldable pub highFirst : (b : List ℕ) (i m : ℕ) → ℕ
 highFirst b i zero = 0
 highFirst b i (suc m) = highFirst b i m * 256 + byte b (i + m)
@@ -45,7 +45,7 @@ storedCheck b = highFirst b 510 2
 unfoldable pub computedCheck : List ℕ → ℕ
 computedCheck b = sumBelow (λ p. (p + 1) * byte b p) 510 % 65521
 
--- the sum, modulo 2, of the rows z, of the rows 0 to k - 1, whose bit 2^z is set in g
+-- the sum, modulo 2, of those rows z, from 0 to k - 1, whose bit 2^z is set in g
 unfoldable pub sumOfRows : (row : ℕ → ℕ) (k g : ℕ) → ℕ
 sumOfRows row zero g = 0
 sumOfRows row (suc k) g = bitXor (sumOfRows row k g) (bit g k * row k)
