@@ -7,11 +7,14 @@ use native.Mathlib.Omega.{arith}
 use Rattle.bits.specs.Sums.{sumBelow, distance, unlike, from}
 use Rattle.bits.proofs.Sums.{sum-ext, sum-mono, sum-add, sum-split, sum-zero, sum-longer, sum-of-bits, sum-one-place}
 
--- the distance goes by the bits below d
+-- the distance is fixed by the bits below d
 pub distance-ext : {u u′ v v′ : ℕ → ℕ} (d : ℕ) → ((p : ℕ) → p < d → u p ≡ u′ p) → ((p : ℕ) → p < d → v p ≡ v′ p)
     → distance d u v ≡ distance d u′ v′
 unfolding distance
 distance-ext d hu hv = sum-ext d (λ p b. rw (hu p b, hv p b))
+
+pub distance-ext-left : {u u′ : ℕ → ℕ} (d : ℕ) (v : ℕ → ℕ) → ((p : ℕ) → p < d → u p ≡ u′ p) → distance d u v ≡ distance d u′ v
+distance-ext-left d v hu = distance-ext d hu (λ p b. refl)
 
 pub distance-comm : (d : ℕ) (u v : ℕ → ℕ) → distance d u v ≡ distance d v u
 unfolding distance

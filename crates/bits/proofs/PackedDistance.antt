@@ -1,6 +1,6 @@
 -- In how many bits two byte lists differ: where their spare bits are alike, in as many as their first d places. So words that are
 -- packed into bytes are as far apart as they were, since the spare bits are zero in both. Assumes nothing.
-use mathlib.Core.Path.{_≡_, refl, sym, _∙_}
+use mathlib.Core.Path.{_≡_, sym, _∙_}
 use mathlib.Core.List.{List}
 use Prim.Native.Nat.{ℕ, _+_, _*_, _≤_, _<_}
 use native.Mathlib.Nat.{le-dest}
@@ -8,7 +8,7 @@ use native.Mathlib.Omega.{arith}
 use lib.ListN.{length}
 use Rattle.bits.specs.Sums.{distance, from}
 use Rattle.bits.specs.Places.{bytesFor, place, pack, differingBits}
-use Rattle.bits.proofs.Distance.{distance-ext, distance-self, distance-split}
+use Rattle.bits.proofs.Distance.{distance-ext, distance-ext-left, distance-self, distance-split}
 use Rattle.bits.proofs.Places.{length-pack, place-packed, place-spare}
 
 pub differing-below : (d : ℕ) (a b : List ℕ) → length a ≡ bytesFor d
@@ -17,7 +17,7 @@ unfolding differingBits
 differing-below d a b len alike =
     let spare : (m : ℕ) × (d + m ≡ 8 * bytesFor d) = le-dest (omega arith) in
     let none : distance (spare .0) (from d (place a)) (from d (place b)) ≡ 0 =
-    distance-ext (spare .0) (λ p l. alike (d + p) (omega arith) (omega arith)) (λ p l. refl)
+    distance-ext-left (spare .0) (from d (place b)) (λ p l. alike (d + p) (omega arith) (omega arith))
     ∙ distance-self (spare .0) (from d (place b)) in
     rw (len, ← (spare .1), distance-split d (spare .0) (place a) (place b), none) (omega arith)
 

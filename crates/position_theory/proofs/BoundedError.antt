@@ -1,7 +1,7 @@
 -- Demand 3, for a code that keeps the chunk promise: a word with at most t bits turned in each chunk allows the true position, so
 -- the answer is off by at most the bits turned and the residual together, and the residual is at most the bits turned.
 -- Assumes nothing.
-use mathlib.Core.Path.{_≡_, refl, sym, _∙_}
+use mathlib.Core.Path.{_≡_, sym, _∙_}
 use mathlib.Core.Bool.{false}
 use mathlib.Core.List.{List}
 use mathlib.Core.Logic.{⊎-elim}
@@ -12,7 +12,7 @@ use lib.ListN.{length}
 use borrow.Author.Tests.{eq-eqb}
 use Rattle.bits.specs.Sums.{distance, from}
 use Rattle.bits.specs.Places.{place}
-use Rattle.bits.proofs.Distance.{distance-ext}
+use Rattle.bits.proofs.Distance.{distance-ext-left}
 use Rattle.bits.proofs.Places.{place-bit}
 use Rattle.model.specs.Card.{Code, radius}
 use Rattle.model.specs.Order.{lastCodeword, blockLength, start, lastPosition}
@@ -35,14 +35,13 @@ module _ (C : Code) where
   -- of any part of a position's word, the bits turned are those turned in its bytes
   turned-in-part : (position : ℕ) (x : ℕ → ℕ) (a m : ℕ) → a + m ≤ wordBits C
       → distance m (from a (place (wordBytes C position))) (from a x) ≡ distance m (from a (wordAt C position)) (from a x)
-  turned-in-part position x a m h = distance-ext m (λ p b. place-of-word C position (a + p) (omega arith)) (λ p b. refl)
+  turned-in-part position x a m h = distance-ext-left m (from a x) (λ p b. place-of-word C position (a + p) (omega arith))
 
   within-of-bytes : (e position : ℕ) (x : ℕ → ℕ) → ChunksWithin C e (place (wordBytes C position)) x
       → ChunksWithin C e (wordAt C position) x
   within-of-bytes e position x d =
       record {
-        in-separator₁ =
-            rw (distance-ext {v = x} {v′ = x} (C .D) (λ p b. place-of-word C position p (omega arith)) (λ p b. refl)) at (d .in-separator₁);
+        in-separator₁ = rw (distance-ext-left (C .D) x (λ p b. place-of-word C position p (omega arith))) at (d .in-separator₁);
         in-chunk₁ = rw (turned-in-part position x (C .D) (C .n) (omega arith)) at (d .in-chunk₁);
         in-separator₂ = rw (turned-in-part position x (C .D + C .n) (C .D) (omega arith)) at (d .in-separator₂);
         in-chunk₂ = rw (turned-in-part position x (C .D + C .n + C .D) (C .n) (omega arith)) at (d .in-chunk₂);
@@ -54,7 +53,7 @@ module _ (C : Code) where
   unfolding turned turnedInAll residual
   turned-is-residual position received =
       sym (five-distance C (place (wordBytes C position)) (place received))
-      ∙ distance-ext (wordBits C) (place-of-word C position) (λ p b. refl)
+      ∙ distance-ext-left (wordBits C) (place received) (place-of-word C position)
 
   -- a word of the right length with spare bits zero is read
   pub read-word : (received : List ℕ) → length received ≡ wordLength C → spareSet C received ≡ false

@@ -1,6 +1,6 @@
 -- Stepping through a block place by place: each place in which w(i) and w(i+1) differ is one step, and a step changes the
 -- residual by that place alone. So a search need not make a new word for each position. Assumes nothing.
-use mathlib.Core.Path.{_≡_, refl}
+use mathlib.Core.Path.{_≡_}
 use mathlib.Core.Bool.{cond}
 use mathlib.Core.Logic.{⊎-elim}
 use Prim.Native.Nat.{ℕ, suc, _+_, _≤_, _<_}
@@ -11,7 +11,7 @@ use borrow.Author.Tests.{lt-ltb, le-ltb}
 use Rattle.bits.specs.Sums.{distance, unlike}
 use Rattle.bits.specs.Walk.{walk}
 use Rattle.bits.proofs.Numbers.{lt-or-le}
-use Rattle.bits.proofs.Distance.{distance-ext, distance-suc, distance-longer}
+use Rattle.bits.proofs.Distance.{distance-ext-left, distance-suc, distance-longer}
 use Rattle.bits.proofs.Walk.{walk-step, walk-before, walk-after}
 use Rattle.model.specs.Card.{Code}
 use Rattle.model.specs.Order.{lastCodeword, blockLength, start}
@@ -29,7 +29,7 @@ module _ (C : Code) (promise : ChunkPromise C) (i : ℕ) (inside : i < lastCodew
   residual-in-block : (x : ℕ → ℕ) (m : ℕ) → m ≤ blockLength C i
       → residual C x (start C i + m) ≡ distance (wordBits C) (walk (word C i) (word C (i + 1)) m) x
   unfolding residual
-  residual-in-block x m room = distance-ext (wordBits C) (word-in-block C promise i m inside room) (λ p b. refl)
+  residual-in-block x m room = distance-ext-left (wordBits C) x (word-in-block C promise i m inside room)
 
   -- a place that differs is one step, which turns that place from w(i)'s bit to w(i+1)'s
   pub residual-step : (x : ℕ → ℕ) (q m : ℕ) → q < wordBits C → distance q (word C i) (word C (i + 1)) ≡ m

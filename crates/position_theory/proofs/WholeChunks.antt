@@ -10,7 +10,7 @@ use borrow.Author.Tests.{lt-ltb, le-ltb}
 use Rattle.bits.specs.Sums.{sumBelow, distance}
 use Rattle.bits.specs.Places.{bit}
 use Rattle.bits.proofs.Sums.{sum-ext}
-use Rattle.bits.proofs.Distance.{distance-ext}
+use Rattle.bits.proofs.Distance.{distance-ext-left}
 use Rattle.bits.proofs.Walk.{walk-before, walk-after}
 use Rattle.model.specs.Card.{Code, radius}
 use Rattle.model.specs.Order.{codeword, lastCodeword, changedWeight, blockLength, start}
@@ -56,7 +56,7 @@ separator-reads : (D b : ℕ) (u y : ℕ → ℕ) → 1 ≤ D → b < 2 → ((p 
 unfolding majority
 separator-reads D b u y pos hb hu hy h =
     let few : distance D (λ p. b) y ≤ (D - 1) / 2 =
-    rw (distance-ext {u = u} {u′ = λ p. b} {v = y} {v′ = y} D hu (λ p l. refl)) at h
+    rw (distance-ext-left {u′ = λ p. b} D y hu) at h
     in
     ⊎-elim
     (λ (e : b ≡ 0).
@@ -71,7 +71,7 @@ chunk-reads : (C : Code) → ChunkPromise C → (j : ℕ) (u y : ℕ → ℕ) �
     → ((p : ℕ) → p < C .n → u p ≡ bit (codeword C j) p) → distance (C .n) u y ≤ radius C → ReadsAs C y j
 unfolding ReadsAs chunkDistance
 chunk-reads C promise j u y h hu d =
-    (_, promise .chunks .reads y j h (rw (← (distance-ext {u = u} {v = y} (C .n) hu (λ p b. refl))) d))
+    (_, promise .chunks .reads y j h (rw (← (distance-ext-left (C .n) y hu)) d))
 
 -- the chunks of a word u with at most t bits turned in each: one that holds its chunk of w(j) reads j, or the parity of j
 module _ (C : Code) (promise : ChunkPromise C) {u x : ℕ → ℕ} (hx : (p : ℕ) → x p < 2) (d : ChunksWithin C (radius C) u x) (j : ℕ) where

@@ -1,6 +1,6 @@
 -- The bytes of a position's word: its d places, then spare bits that are zero. So the bytes of two words differ in as many bits as
 -- the words, and a residual is the count of bits in which the position's bytes and the received ones differ. Assumes nothing.
-use mathlib.Core.Path.{_≡_, refl, sym, _∙_}
+use mathlib.Core.Path.{_≡_, sym, _∙_}
 use mathlib.Core.Bool.{false}
 use mathlib.Core.List.{List}
 use Prim.Native.Nat.{ℕ, _+_, _-_, _*_, _≤_, _<_}
@@ -11,7 +11,7 @@ use lib.ListN.{length}
 use borrow.Author.Tests.{eqb-false}
 use Rattle.bits.specs.Sums.{distance}
 use Rattle.bits.specs.Places.{place, differingBits}
-use Rattle.bits.proofs.Distance.{distance-ext}
+use Rattle.bits.proofs.Distance.{distance-ext-left}
 use Rattle.bits.proofs.Walk.{walk-bit}
 use Rattle.bits.proofs.Searches.{any-none, none-of-any}
 use Rattle.bits.proofs.Places.{place-bit, length-pack, place-packed, place-spare}
@@ -61,6 +61,6 @@ module _ (C : Code) (received : List ℕ) (spare : spareSet C received ≡ false
   pub residual-counts : (position : ℕ) → residual C (place received) position ≡ differingBits (wordBytes C position) received
   unfolding residual
   residual-counts position =
-      sym (distance-ext (wordBits C) (place-of-word C position) (λ p b. refl))
+      sym (distance-ext-left (wordBits C) (place received) (place-of-word C position))
       ∙ sym (differing-below (wordBits C) (wordBytes C position) received (length-of-word C position)
       (λ p h b. spare-of-word C position p h ∙ sym (spare-bits-zero p h b)))
