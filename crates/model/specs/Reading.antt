@@ -14,6 +14,19 @@ use Rattle.model.specs.declared.Chunk.the-variants.{Codeword, Unreadable
 use Rattle.model.specs.declared.ReadAnswer.{ReadAnswer}
 use Rattle.model.specs.declared.ReadAnswer.the-variants.{At, Refused}
 
+-- the chunks of a word after the first, separator 1, which is its first D places
+abbrev pub chunk₁ : Code → (ℕ → ℕ) → ℕ → ℕ
+chunk₁ C = from (C .D)
+
+abbrev pub separator₂ : Code → (ℕ → ℕ) → ℕ → ℕ
+separator₂ C = from (C .D + C .n)
+
+abbrev pub chunk₂ : Code → (ℕ → ℕ) → ℕ → ℕ
+chunk₂ C = from (C .D + C .n + C .D)
+
+abbrev pub separator₃ : Code → (ℕ → ℕ) → ℕ → ℕ
+separator₃ C = from (C .D + C .n + C .D + C .n)
+
 -- a separator of D bits reads 1 if more than half its bits are 1, else 0; a tie reads 0
 unfoldable pub majority : (D : ℕ) (x : ℕ → ℕ) → ℕ
 majority D x = cond (ltb D (2 * sumBelow x D)) 1 0
@@ -28,22 +41,13 @@ chunkReading C x =
     let p = first (λ i. leb (chunkDistance C x i) (radius C)) (2 ^ C .k) in
     cond (ltb p (2 ^ C .k)) (Codeword p (chunkDistance C x p)) Unreadable
 
--- the chunks of a word after the first, separator 1, which is its first D places
-abbrev pub chunk₁ : Code → (ℕ → ℕ) → ℕ → ℕ
-chunk₁ C = from (C .D)
-
-abbrev pub separator₂ : Code → (ℕ → ℕ) → ℕ → ℕ
-separator₂ C = from (C .D + C .n)
-
-abbrev pub chunk₂ : Code → (ℕ → ℕ) → ℕ → ℕ
-chunk₂ C = from (C .D + C .n + C .D)
-
-abbrev pub separator₃ : Code → (ℕ → ℕ) → ℕ → ℕ
-separator₃ C = from (C .D + C .n + C .D + C .n)
-
 -- the rule that three separators name: 1 for b b c, 2 for b c c, 3 for b b b, and 0 for b c b
 unfoldable pub ruleOf : (s₁ s₂ s₃ : ℕ) → ℕ
 ruleOf s₁ s₂ s₃ = cond (eqb s₁ s₂) (cond (eqb s₂ s₃) 3 1) (cond (eqb s₂ s₃) 2 0)
+
+-- the rule that a word's separators name
+unfoldable pub ruleNamed : Code → (x : ℕ → ℕ) → ℕ
+ruleNamed C x = ruleOf (majority (C .D) x) (majority (C .D) (separator₂ C x)) (majority (C .D) (separator₃ C x))
 
 -- the positions that a word may be read as: from low to high by a rule, ends included, or none, by a refusal's number
 pub data Allowed : Type 0 where
@@ -77,10 +81,6 @@ allowedBy C x rule =
     (cond (eqb rule 2) (rule₂ C (chunkReading C (chunk₂ C x)))
     (cond (eqb rule 3) (rule₃ C (chunkReading C (chunk₁ C x)) (chunkReading C (chunk₂ C x)))
     (refusedBy 9)))
-
--- the rule that a word's separators name
-unfoldable pub ruleNamed : Code → (x : ℕ → ℕ) → ℕ
-ruleNamed C x = ruleOf (majority (C .D) x) (majority (C .D) (separator₂ C x)) (majority (C .D) (separator₃ C x))
 
 -- what the word's separators and chunks allow
 unfoldable pub allowed : Code → (x : ℕ → ℕ) → Allowed

@@ -28,7 +28,7 @@ unfoldable pub ReadsAs : Code → (chunk : ℕ → ℕ) (p : ℕ) → Type 0
 ReadsAs C chunk p = (e : ℕ) × (chunkReading C chunk ≡ Codeword p e)
 
 -- m steps into block i, each chunk that is whole, held from w(i) (old) or taken from w(i+1) (new), reads as what it is; of the
--- chunk that is divided between the two nothing is said
+-- chunk that is divided between the two nothing is said (separator 3 is new at the block's end alone, where the next one starts)
 pub record WholeChunksRead (C : Code) (x : ℕ → ℕ) (i m : ℕ) : Type 0 where
   pub separator₁-old : m ≡ 0 → majority (C .D) x ≡ i % 2
   pub separator₁-new : C .D ≤ m → majority (C .D) x ≡ (i + 1) % 2
