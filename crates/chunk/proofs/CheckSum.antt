@@ -1,8 +1,8 @@
 -- The sum that a card's check is made of: bytes that are zero add nothing, so it ends at the last used byte where no unused byte
 -- is set. Assumes nothing.
 use Prim.Native.Nat.{ℕ, _+_, _*_, _≤_, _<_}
-use mathlib.Core.Path.{_≡_, refl, sym, _∙_}
-use mathlib.Core.Bool.{Bool, true, false, not}
+use mathlib.Core.Path.{_≡_, refl}
+use mathlib.Core.Bool.{false, not}
 use mathlib.Core.List.{List}
 use borrow.Author.Tests.{eqb-true, not-false}
 use native.Mathlib.Nat.{mul-zero}

@@ -1,14 +1,14 @@
 -- The search for a chunk's codeword: what holds as it stands at codeword i, that a codeword that is too far is passed, and
 -- what the two ways out of the search have found. The places in which codeword and chunk differ are the ones of their
 -- exclusive-or, and these are met one after the other. Assumes nothing.
-use mathlib.Core.Path.{_≡_, refl, sym, ap, _∙_}
+use mathlib.Core.Path.{_≡_, sym, ap, _∙_}
 use mathlib.Core.Logic.{⊎-elim}
 use Prim.Native.Nat.{ℕ, _+_, _-_, _^_, _≤_, _<_}
 use native.Mathlib.Omega.{arith}
 use lib.Bits.{bitAnd, bitXor, xor-lt}
 use lib.Count.{trailingZeros, ones}
 use lib.Pow.{pow-pos}
-use Rattle.bits.specs.Places.{bit, weight}
+use Rattle.bits.specs.Places.{bit}
 use Rattle.bits.proofs.Binary.{weight-ones, weight-xor}
 use Rattle.bits.proofs.LowestOne.{one-fewer}
 use Rattle.bits.proofs.Numbers.{eq-or-ne}
@@ -38,8 +38,9 @@ unfolding ones
 counted-all t d count rest all none =
     let same : count ≡ ones d = omega (arith, ap ones none) in record { whole = λ l. same; past = λ l. omega arith }
 
-pub counted-past : (t d count rest : ℕ) → count + ones rest ≡ ones d → t < count → Counted t d count
-counted-past t d count rest all far = record { whole = λ l. absurd (omega arith); past = λ l. omega arith }
+pub counted-past : (t d count rest : ℕ) → count + ones rest ≡ ones d → (rest ≡ 0 → ⊥) → t < count + 1 → Counted t d (count + 1)
+counted-past t d count rest all more far =
+    record { whole = λ l. absurd (omega arith); past = λ l. omega (arith, one-fewer rest (omega arith)) }
 
 -- ---- the codewords
 

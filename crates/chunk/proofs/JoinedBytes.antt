@@ -1,12 +1,12 @@
 -- Numbers joined by or: the joined number is 0 just where all of them are. Assumes nothing.
-use Prim.Native.Nat.{ℕ, suc, _+_}
-use mathlib.Core.Path.{_≡_, sym, _∙_}
-use mathlib.Core.Bool.{Bool, true, false, not, _||_}
+use Prim.Native.Nat.{ℕ, _+_}
+use mathlib.Core.Path.{_≡_}
+use mathlib.Core.Bool.{not, _||_}
 use mathlib.Core.Logic.{⊎-elim}
-use borrow.Author.Tests.{eq-eqb, ne-eqb}
+use borrow.Author.Tests.{ne-eqb}
 use native.Mathlib.Numerals.{add-one}
 use native.Mathlib.Omega.{arith}
-use lib.Bits.{bitAnd, bitOr, or-add-and, or-zero-l, and-le-l, and-le-r}
+use lib.Bits.{bitOr, or-add-and, or-zero-l, and-le-l, and-le-r}
 use lib.Dec.{eqb}
 use Rattle.bits.specs.Searches.{anyBelow}
 use Rattle.bits.proofs.Numbers.{eq-or-ne}

@@ -27,11 +27,11 @@ pub fn read_chunk(code: DecodedCode, x: u64) -> Chunk
         let mut rest = word ^ x;
         let mut unlike: u32 = 0;
         'bits: while rest != 0 {
-            rest &= rest - 1;
             unlike += 1;
             if radius < unlike {
                 break 'bits;
             }
+            rest &= rest - 1;
         }
         if unlike <= radius {
             break Chunk::Codeword { number: i, unlike };

@@ -1,6 +1,6 @@
 -- The rest of a byte filled: of a byte list whose places from q on are 0, those of the byte that holds place q take a value's lowest
 -- bits, and no other place changes. Assumes nothing.
-use mathlib.Core.Path.{_≡_, sym, ap, _∙_}
+use mathlib.Core.Path.{_≡_, _∙_}
 use mathlib.Core.List.{List}
 use mathlib.Core.Logic.{⊎-elim}
 use Prim.Native.Nat.{ℕ, _+_, _-_, _*_, _/_, _%_, _^_, _≤_, _<_}

@@ -3,7 +3,6 @@ pub mod GatheredBits
 pub mod Scanning
 pub mod Passing
 pub mod NearestSearch
-pub mod TurnedPlaces
 pub mod ChunkByChunk
 pub mod FilledByte
 pub mod ByteDistance

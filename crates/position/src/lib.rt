@@ -1,6 +1,8 @@
 // The position code: words of positions, and positions of words. It knows the chunk code through its contracts alone.
 pub mod blocks;
+pub mod hamming;
 pub mod layout;
+pub mod nearest;
 pub mod places;
 pub mod reading;
 pub mod scan;

@@ -1,123 +1,24 @@
-// Reading a received word: separators, code chunks, the three rules, and the nearest position that they allow.
+// Reading a received word: the separators name a rule, the rule names code chunks, and these name the positions that it allows.
 ghost use mathlib.Core.Path.{_≡_};
-ghost use Prim.Native.Nat.{_+_, _-_, _*_, _≤_, _<_, min};
-ghost use Rattle.bits.specs.Sums.{distance, from};
+ghost use Prim.Native.Nat.{_+_, _≤_};
+ghost use Rattle.bits.specs.Sums.{from};
 ghost use Rattle.bits.specs.Places.{place};
 ghost use Rattle.model.specs.Answers.{readWord};
 ghost use Rattle.model.specs.Decoded.{meaning};
-ghost use Rattle.model.specs.Order.{lastCodeword, changedWeight, start, lastPosition};
-ghost use Rattle.model.specs.Words.{wordBits, word};
-ghost use Rattle.model.specs.Reading.{chunkReading, chunk₁, chunk₂, fromTo, rule₁, rule₂, rule₃, allowedBy, ruleNamed, residual, nearest};
+ghost use Rattle.model.specs.Words.{wordBits};
+ghost use Rattle.model.specs.Reading.{chunkReading, chunk₁, chunk₂, rule₁, rule₂, rule₃, allowedBy, ruleNamed, nearest};
 ghost use Rattle.code_theory.specs.Promise.{Sound};
-ghost use Rattle.position.specs.Received.{NothingSpare, Begun};
-ghost use Rattle.position.specs.Scanned.{Scanned};
-ghost use Rattle.position.specs.SearchReady.{PassedPlaces};
+ghost use Rattle.position.specs.Received.{NothingSpare};
 use super::blocks;
 use super::layout;
+use super::nearest;
 use super::places;
-use super::scan;
-use super::scan::Scan;
-use super::splice;
 use super::words;
 use chunk::refusal;
 use chunk::search;
 use model::Chunk;
 use model::DecodedCode;
 use model::ReadAnswer;
-
-// A search that stands at its first position, whose word is `w`.
-fn begin(w: [u8; 40], x: [u8; 40], low: u32) -> Scan
-    ensures { λ r. ⌜ (r .low ≡ low) × (r .position ≡ low) × Begun w x low r ⌝ }
-{
-    let residual = words::bits_unlike(w, x);
-    Scan {
-        low,
-        position: low,
-        residual,
-        best: low,
-        least: residual,
-    }
-}
-
-// The search through block i from the position at which the places below `at` have been passed to the one at which those
-// below `to` have. The first residual is counted, and each step changes it by one.
-fn search_block(code: DecodedCode, x: [u8; 40], i: u32, at: u32, to: u32) -> Scan
-    requires { ⌜ Sound (meaning code) × NothingSpare (meaning code) x × (i < lastCodeword (meaning code)) × (at ≤ to) × (to ≤ wordBits (meaning code)) ⌝ }
-    ensures { λ r. ⌜ (r .low ≡ start (meaning code) i + distance at (word (meaning code) i) (word (meaning code) (i + 1))) × PassedPlaces (meaning code) i x to r ⌝ }
-{
-    let u = words::word_of(code, i);
-    let v = words::word_of(code, i + 1);
-    let w = splice::spliced(u, v, at);
-    let first = begin(
-        w,
-        x,
-        blocks::block_start(code, i) + words::bits_unlike(u, w),
-    );
-    scan::pass_places(&u, &v, &x, at, to, first)
-}
-
-// The answer of a search that has come to the last allowed position.
-fn found(s: Scan, rule: u32) -> ReadAnswer
-    ensures { λ r. ⌜ r ≡ ReadAnswer.At (s .best) (s .least) rule ⌝ }
-{
-    ReadAnswer::At {
-        position: s.best,
-        residual: s.least,
-        rule,
-    }
-}
-
-// Rule 1, chunk 1 reading p: the nearest from r(p-1) + D + A(p-1), where separator 2 begins to change, to r(p).
-fn nearest_before(code: DecodedCode, x: [u8; 40], p: u32) -> ReadAnswer
-    requires { ⌜ Sound (meaning code) × NothingSpare (meaning code) x × (1 ≤ p) × (p ≤ lastCodeword (meaning code)) ⌝ }
-    ensures { λ r. ⌜ r ≡ nearest (meaning code) (place x) (fromTo 1 (start (meaning code) (p - 1) + code .distance + changedWeight (meaning code) (p - 1)) (start (meaning code) p)) ⌝ }
-{
-    let at = layout::layout_of(code);
-    found(search_block(code, x, p - 1, at.separator2, at.bits), 1)
-}
-
-// Rule 2, chunk 2 reading p: the nearest from r(p) to r(p) + 2D + A(p), where separator 2 has changed.
-fn nearest_after(code: DecodedCode, x: [u8; 40], p: u32) -> ReadAnswer
-    requires { ⌜ Sound (meaning code) × NothingSpare (meaning code) x × (p < lastCodeword (meaning code)) ⌝ }
-    ensures { λ r. ⌜ r ≡ nearest (meaning code) (place x) (fromTo 2 (start (meaning code) p) (start (meaning code) p + 2 * code .distance + changedWeight (meaning code) p)) ⌝ }
-{
-    let at = layout::layout_of(code);
-    found(search_block(code, x, p, 0, at.chunk2), 2)
-}
-
-// The search from D steps before r(p), or from 0, to r(p): separator 3 of the block before changes.
-fn approach(code: DecodedCode, x: [u8; 40], p: u32) -> Scan
-    requires { ⌜ Sound (meaning code) × NothingSpare (meaning code) x × (p ≤ lastCodeword (meaning code)) ⌝ }
-    ensures { λ r. ⌜ (r .low ≡ start (meaning code) p - code .distance) × (r .position ≡ start (meaning code) p) × Scanned (residual (meaning code) (place x)) r ⌝ }
-{
-    if p == 0 {
-        return begin(words::word_of(code, 0), x, 0);
-    }
-    let at = layout::layout_of(code);
-    search_block(code, x, p - 1, at.separator3, at.bits)
-}
-
-// The search on from r(p), through D steps after it: separator 1 of block p changes.
-fn go_on(code: DecodedCode, x: [u8; 40], p: u32, s: Scan) -> Scan
-    requires { ⌜ Sound (meaning code) × (p < lastCodeword (meaning code)) × (s .position ≡ start (meaning code) p) × Scanned (residual (meaning code) (place x)) s ⌝ }
-    ensures { λ r. ⌜ (r .low ≡ s .low) × (r .position ≡ start (meaning code) p + code .distance) × Scanned (residual (meaning code) (place x)) r ⌝ }
-{
-    let u = words::word_of(code, p);
-    let v = words::word_of(code, p + 1);
-    scan::pass_places(&u, &v, &x, 0, code.distance, s)
-}
-
-// Rule 3, both chunks reading p: the nearest from r(p) - D to r(p) + D, cut to the track.
-fn nearest_around(code: DecodedCode, x: [u8; 40], p: u32) -> ReadAnswer
-    requires { ⌜ Sound (meaning code) × NothingSpare (meaning code) x × (p ≤ lastCodeword (meaning code)) ⌝ }
-    ensures { λ r. ⌜ r ≡ nearest (meaning code) (place x) (fromTo 3 (start (meaning code) p - code .distance) (min (start (meaning code) p + code .distance) (lastPosition (meaning code)))) ⌝ }
-{
-    let before = approach(code, x, p);
-    if p == blocks::last_codeword(code) {
-        return found(before, 3);
-    }
-    found(go_on(code, x, p, before), 3)
-}
 
 // Code chunk 1, or 2, which starts at place `at`.
 fn chunk_reading(code: DecodedCode, x: [u8; 40], at: u32) -> Chunk
@@ -138,7 +39,7 @@ fn by_rule1(code: DecodedCode, x: [u8; 40]) -> ReadAnswer
             if number == 0 {
                 return ReadAnswer::Refused(12);
             }
-            nearest_before(code, x, number)
+            nearest::nearest_before(code, x, number)
         }
         Chunk::Unreadable => ReadAnswer::Refused(10),
     }
@@ -155,7 +56,7 @@ fn by_rule2(code: DecodedCode, x: [u8; 40]) -> ReadAnswer
             if number == blocks::last_codeword(code) {
                 return ReadAnswer::Refused(12);
             }
-            nearest_after(code, x, number)
+            nearest::nearest_after(code, x, number)
         }
         Chunk::Unreadable => ReadAnswer::Refused(10),
     }
@@ -184,7 +85,7 @@ fn by_rule3(code: DecodedCode, x: [u8; 40]) -> ReadAnswer
     if first != second {
         return ReadAnswer::Refused(11);
     }
-    nearest_around(code, x, first)
+    nearest::nearest_around(code, x, first)
 }
 
 // What the rule with this number answers.
@@ -227,14 +128,17 @@ pub fn read(code: DecodedCode, word: &[u8]) -> ReadAnswer
     requires { ⌜ Sound (meaning code) ⌝ }
     ensures { λ r. ⌜ r ≡ readWord (meaning code) (now (word .entry)) ⌝ }
 {
-    let bits = layout::layout_of(code).bits;
-    let len = (bits + 7) / 8;
-    if word.len() != len as usize {
+    let len = layout::word_length(code);
+    if word.len() != len {
         return ReadAnswer::Refused(6);
     }
     let x = words::received(word);
+    let bits = layout::layout_of(code).bits;
     let rule = named_rule(code, x);
-    let spare = refusal::refusal_if(places::ones_between(&x, bits, 8 * len - bits) != 0, 8);
+    let spare = refusal::refusal_if(
+        places::ones_between(&x, bits, 8 * len as u32 - bits) != 0,
+        8,
+    );
     let unnamed = refusal::refusal_if(rule == 0, 9);
     let refusal = refusal::first_of(spare, unnamed);
     if refusal != 0 {

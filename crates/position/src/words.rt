@@ -1,11 +1,10 @@
-// Words: w(i), the word of a position, a received word, and in how many bits two words differ.
+// Words: w(i), the word of a position, and a received word.
 // Inside the library a word is an array of the widest word's forty bytes, built chunk by chunk, passed and returned by value:
 // document 01 names this form. Place p is bit p mod 8, lowest first, of byte p / 8, and the places past the word's bits are 0.
 ghost use mathlib.Core.Path.{_≡_};
 ghost use Prim.Native.Nat.{ℕ, _+_, _*_, _%_, _^_, _≤_, _<_};
-ghost use lib.Bits.{bitXor};
 ghost use lib.ListN.{length};
-ghost use Rattle.bits.specs.Sums.{unlike, distance, joinAt};
+ghost use Rattle.bits.specs.Sums.{distance, joinAt};
 ghost use Rattle.bits.specs.Walk.{walk};
 ghost use Rattle.bits.specs.Places.{bit, place, cut};
 ghost use Rattle.model.specs.Answers.{wordLength};
@@ -14,17 +13,11 @@ ghost use Rattle.model.specs.Order.{lastCodeword, lastPosition};
 ghost use Rattle.model.specs.Words.{wordBits, word, wordAt, wordBytes};
 ghost use Rattle.code_theory.specs.Promise.{Sound};
 use super::blocks;
+use super::hamming;
 use super::places;
+use super::splice;
 use chunk::codeword;
 use model::DecodedCode;
-
-// A byte with bit q turned if `by` is 1, and as it was if `by` is 0.
-fn turned(byte: u8, q: u32, by: u8) -> u8
-    requires { ⌜ (q < 8) × (by < 2) ⌝ }
-    ensures { λ r. ⌜ r ≡ bitXor byte (by * 2 ^ q) ⌝ }
-{
-    byte ^ (by << q)
-}
 
 // The lowest bits of a value moved up to bit q of a byte; what lies above the byte is left out.
 fn moved_up(value: u64, q: u32) -> u8
@@ -80,26 +73,6 @@ pub fn word_of(code: DecodedCode, i: u32) -> [u8; 40]
     put_chunk(chunk2, at4, d, parity)
 }
 
-// In how many bits two bytes differ.
-fn byte_unlike(x: u8, y: u8) -> u32
-    ensures { λ r. ⌜ (r ≡ distance 8 (bit x) (bit y)) × (r ≤ 8) ⌝ }
-{
-    u32::count_ones((x ^ y) as u32)
-}
-
-// In how many bits two words differ: the distance count, to which both words are passed by value.
-pub fn bits_unlike(a: [u8; 40], b: [u8; 40]) -> u32
-    ensures { λ r. ⌜ r ≡ distance 320 (place a) (place b) ⌝ }
-{
-    let mut unlike: u32 = 0;
-    let mut j: usize = 0;
-    while j < 40 {
-        unlike += byte_unlike(a[j], b[j]);
-        j += 1;
-    }
-    unlike
-}
-
 // The bytes of a received word, and zeros after them.
 pub fn received(word: &[u8]) -> [u8; 40]
     requires { ⌜ length (now word) ≤ 40 ⌝ }
@@ -114,32 +87,15 @@ pub fn received(word: &[u8]) -> [u8; 40]
     held
 }
 
-// Bit q of two bytes' difference: 1 if they differ there, else 0.
-fn differs_at(x: u8, y: u8, q: u32) -> u8
-    requires { ⌜ q < 8 ⌝ }
-    ensures { λ r. ⌜ r ≡ unlike (bit x q) (bit y q) ⌝ }
-{
-    ((x ^ y) >> q) % 2
-}
-
 // w(i) with the first m places in which w(i) and w(i + 1) differ taken from w(i + 1).
 pub fn word_in_block(code: DecodedCode, i: u32, m: u32) -> [u8; 40]
     requires { ⌜ Sound (meaning code) × (i ≤ lastCodeword (meaning code)) ⌝ }
     requires { ⌜ m ≤ distance (wordBits (meaning code)) (word (meaning code) i) (word (meaning code) (i + 1)) ⌝ }
     ensures { λ r. ⌜ ((p : ℕ) → place r p ≡ cut (wordBits (meaning code)) (walk (word (meaning code) i) (word (meaning code) (i + 1)) m) p) ⌝ }
 {
-    let next = word_of(code, i + 1);
-    let mut held = word_of(code, i);
-    let mut passed: u32 = 0;
-    let mut q: u32 = 0;
-    while passed < m {
-        let j = (q / 8) as usize;
-        let differs = differs_at(held[j], next[j], q % 8);
-        held[j] = turned(held[j], q % 8, differs);
-        passed += differs as u32;
-        q += 1;
-    }
-    held
+    let u = word_of(code, i);
+    let v = word_of(code, i + 1);
+    splice::spliced(u, v, hamming::place_after(&u, &v, m))
 }
 
 // The word of a position.

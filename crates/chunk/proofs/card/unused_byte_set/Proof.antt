@@ -1,7 +1,7 @@
 -- `chunk::card::unused_byte_set` meets its contract. The loop's invariant: the joined bytes are 0 just where none of the first `i`
 -- unused bytes is set. The measure is the bytes that are left. Assumes nothing.
-use Prim.Native.Nat.{ℕ, _+_, _-_, _≤_, _<_}
-use mathlib.Core.Path.{_≡_, sym}
+use Prim.Native.Nat.{_+_, _-_, _≤_}
+use mathlib.Core.Path.{_≡_}
 use mathlib.Core.Bool.{not}
 use borrow.Author.Needs.{needs}
 use native.Mathlib.Omega.{arith}

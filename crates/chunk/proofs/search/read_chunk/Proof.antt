@@ -61,8 +61,8 @@ bits-again c = (omega arith, one-counted _ _ _ (c .before .before .bits .inv .1)
 counted : (c : tie.Left-bits Inv-bits μ-bits Inv-loop μ-loop)
     → Counted (radius (meaning (c .before .before .before .before .before .before .args .code))) (bitXor (c .before .before .loop .word) (c .before .before .before .before .before .before .args .x)) (c .bits-test .unlike)
 counted c =
-    ⊎-elim (λ w. rw (w .2) (counted-all _ _ _ _ (c .before .bits .inv .1) (w .0 .left)))
-    (λ w. rw (w .3) (counted-past _ _ _ _ (one-counted _ _ _ (c .before .bits .inv .1) (w .0 .taken)) (w .1 .taken)))
+    ⊎-elim (λ w. rw (w .1) (counted-all _ _ _ _ (c .before .bits .inv .1) (w .0 .left)))
+    (λ w. rw (w .2) (counted-past _ _ _ _ (c .before .bits .inv .1) (w .0 .taken) (w .1 .taken)))
     (c .bits-test .came)
 
 -- the number of the row that is added
@@ -113,8 +113,8 @@ read-chunk-spec =
     sub-last
     loop-holds
     bits-holds
-    sub-rest
     add-unlike
+    sub-rest
     bits-less
     bits-again
     add-i

@@ -1,3 +1,4 @@
+-- `position::places::bit_at` meets its contract: what the shift and the remainder mean is the definition of a place. Assumes nothing.
 use mathlib.Core.Path.{refl}
 use native.Mathlib.Nat.{mod-lt}
 use Rattle.bits.specs.Places.{place}

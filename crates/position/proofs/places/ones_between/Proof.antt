@@ -1,11 +1,9 @@
 -- `position::places::ones_between` meets its contract: the ones of the number that the places make up. Assumes nothing.
 use mathlib.Core.Path.{_≡_, sym, _∙_}
-use Prim.Native.Nat.{_≤_}
 use native.Mathlib.Omega.{arith}
 use borrow.Author.Needs.{needs}
 use lib.Count.{ones}
-use Rattle.bits.specs.Sums.{sumBelow, from}
-use Rattle.bits.specs.Places.{place, weight}
+use Rattle.bits.specs.Places.{weight}
 use Rattle.bits.proofs.Binary.{weight-ones, weight-le}
 use Rattle.bits.proofs.Sums.{sum-ext}
 use Rattle.position.proofs.places.ones_between.Statement.{statement}

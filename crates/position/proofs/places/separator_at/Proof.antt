@@ -1,3 +1,4 @@
+-- `position::places::separator_at` meets its contract: the test of the count of ones is the definition of the majority. Assumes nothing.
 use borrow.Author.Tests.{lt-ltb, le-ltb}
 use Rattle.model.specs.Reading.{majority}
 use native.Mathlib.Omega.{arith}

@@ -1,3 +1,5 @@
+-- `position::scan::advance` meets its contract: one position more, taken where its residual is less, by one law each.
+-- Assumes nothing.
 use Rattle.position.proofs.Scanning.{scanned-nearer, scanned-no-nearer}
 use mathlib.Core.Path.{refl}
 use borrow.Author.Needs.{needs}

@@ -1,3 +1,4 @@
+-- `position::scan::next_residual` meets its contract: the two bits are 0 or 1, so the rest is arithmetic. Assumes nothing.
 use native.Mathlib.Omega.{arith}
 use borrow.Author.Needs.{needs}
 use Rattle.position.proofs.scan.next_residual.Statement.{statement}

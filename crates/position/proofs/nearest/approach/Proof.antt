@@ -1,4 +1,4 @@
--- `position::reading::approach` meets its contract: at the first start there is nothing before, and at any other one separator
+-- `position::nearest::approach` meets its contract: at the first start there is nothing before, and at any other one separator
 -- 3 of the block before. Assumes nothing.
 use mathlib.Core.Path.{_≡_, _∙_, sym}
 use Prim.Native.Nat.{_+_, _-_, _<_}
@@ -10,8 +10,8 @@ use Rattle.position.specs.Received.{Begun}
 use Rattle.position.proofs.RuleRanges.{at-next-start, before-next-start}
 use native.Mathlib.Omega.{arith}
 use borrow.Author.Needs.{needs}
-use Rattle.position.proofs.reading.approach.Statement.{statement}
-use Rattle.position.proofs.reading.approach.Tie as tie
+use Rattle.position.proofs.nearest.approach.Statement.{statement}
+use Rattle.position.proofs.nearest.approach.Tie as tie
 
 word-of-requires : tie.Need-word-of-requires
 word-of-requires c κs = search needs

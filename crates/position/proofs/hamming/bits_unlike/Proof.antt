@@ -1,4 +1,4 @@
--- `position::words::bits_unlike` meets its contract. The loop's invariant: `unlike` is the distance of the first `j` bytes. The
+-- `position::hamming::bits_unlike` meets its contract. The loop's invariant: `unlike` is the distance of the first `j` bytes. The
 -- measure is the bytes that are left. Assumes nothing.
 use Prim.Native.Nat.{_-_, _*_, _≤_}
 use mathlib.Core.Path.{_≡_, refl}
@@ -7,8 +7,8 @@ use native.Mathlib.Omega.{arith}
 use Rattle.bits.specs.Sums.{sumBelow, distance}
 use Rattle.bits.specs.Places.{place}
 use Rattle.position.proofs.ByteDistance.{distance-byte}
-use Rattle.position.proofs.words.bits_unlike.Statement.{statement}
-use Rattle.position.proofs.words.bits_unlike.Tie as tie
+use Rattle.position.proofs.hamming.bits_unlike.Statement.{statement}
+use Rattle.position.proofs.hamming.bits_unlike.Tie as tie
 
 abbrev Inv-loop : tie.InvT-loop
 Inv-loop a b unlike₀ j₀ unlike j = (j ≤ 40) × (unlike ≡ distance (8 * j) (place a) (place b)) × (unlike ≤ 8 * j)

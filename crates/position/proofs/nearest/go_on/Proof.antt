@@ -1,4 +1,4 @@
--- `position::reading::go_on` meets its contract: separator 1 of block p. Assumes nothing.
+-- `position::nearest::go_on` meets its contract: separator 1 of block p. Assumes nothing.
 use Rattle.model.specs.Decoded.{meaning}
 use Rattle.code_theory.proofs.Starts.{last-codeword-bound}
 use Rattle.position.specs.SearchReady.{BlockWords, PassedPlaces, Passes}
@@ -6,8 +6,8 @@ use Rattle.position.proofs.NearestSearch.{block-words, passed-none}
 use Rattle.position.proofs.RuleRanges.{past-separator₁}
 use native.Mathlib.Omega.{arith}
 use borrow.Author.Needs.{needs}
-use Rattle.position.proofs.reading.go_on.Statement.{statement}
-use Rattle.position.proofs.reading.go_on.Tie as tie
+use Rattle.position.proofs.nearest.go_on.Statement.{statement}
+use Rattle.position.proofs.nearest.go_on.Tie as tie
 
 word-of-requires : tie.Need-word-of-requires
 word-of-requires c κs = search needs

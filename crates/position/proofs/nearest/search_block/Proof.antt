@@ -1,4 +1,4 @@
--- `position::reading::search_block` meets its contract: the search begins at the position whose word is put together of the
+-- `position::nearest::search_block` meets its contract: the search begins at the position whose word is put together of the
 -- block's two words, and passes the places from there. Assumes nothing.
 use mathlib.Core.Path.{_≡_, _∙_, ap₂}
 use Prim.Native.Nat.{_+_}
@@ -16,8 +16,8 @@ use Rattle.position.specs.Received.{Begun}
 use Rattle.position.specs.SearchReady.{BlockWords, PassedPlaces, Passes}
 use Rattle.position.proofs.NearestSearch.{block-words}
 use Rattle.position.proofs.BlockSearch.{steps-counted, splice-holds}
-use Rattle.position.proofs.reading.search_block.Statement.{statement}
-use Rattle.position.proofs.reading.search_block.Tie as tie
+use Rattle.position.proofs.nearest.search_block.Statement.{statement}
+use Rattle.position.proofs.nearest.search_block.Tie as tie
 
 word-of-requires : tie.Need-word-of-requires
 word-of-requires c κs = search needs

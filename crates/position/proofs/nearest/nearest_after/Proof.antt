@@ -1,10 +1,10 @@
--- `position::reading::nearest_after` meets its contract: block p from its start to the end of separator 2. Assumes nothing.
+-- `position::nearest::nearest_after` meets its contract: block p from its start to the end of separator 2. Assumes nothing.
 use mathlib.Core.Path.{_∙_}
 use Rattle.model.specs.Decoded.{meaning}
 use Rattle.position.proofs.RuleRanges.{rule₂-answer}
 use borrow.Author.Needs.{needs}
-use Rattle.position.proofs.reading.nearest_after.Statement.{statement}
-use Rattle.position.proofs.reading.nearest_after.Tie as tie
+use Rattle.position.proofs.nearest.nearest_after.Statement.{statement}
+use Rattle.position.proofs.nearest.nearest_after.Tie as tie
 
 layout-of-requires : tie.Need-layout-of-requires
 layout-of-requires c κs = search needs

@@ -1,9 +1,9 @@
--- `position::words::byte_unlike` meets its contract: the count of ones of the exclusive-or is the distance. Assumes nothing.
+-- `position::hamming::byte_unlike` meets its contract: the count of ones of the exclusive-or is the distance. Assumes nothing.
 use native.Mathlib.Omega.{arith}
 use lib.Bits.{xor-lt}
 use Rattle.position.proofs.ByteDistance.{ones-of-bytes, bytes-apart}
-use Rattle.position.proofs.words.byte_unlike.Statement.{statement}
-use Rattle.position.proofs.words.byte_unlike.Tie as tie
+use Rattle.position.proofs.hamming.byte_unlike.Statement.{statement}
+use Rattle.position.proofs.hamming.byte_unlike.Tie as tie
 
 cast-result : tie.Need-cast-result
 cast-result c = omega (arith, xor-lt 8 (c .args .x) (c .args .y) (c .fits .x .fits) (c .fits .y .fits))

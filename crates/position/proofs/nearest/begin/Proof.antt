@@ -1,10 +1,10 @@
--- `position::reading::begin` meets its contract: the count of differing bits is the residual. Assumes nothing.
+-- `position::nearest::begin` meets its contract: the count of differing bits is the residual. Assumes nothing.
 use mathlib.Core.Path.{refl, _∙_}
 use borrow.Author.Needs.{needs}
 use Rattle.position.specs.Received.{Begun}
 use Rattle.position.proofs.NearestSearch.{count-is-residual, scanned-first}
-use Rattle.position.proofs.reading.begin.Statement.{statement}
-use Rattle.position.proofs.reading.begin.Tie as tie
+use Rattle.position.proofs.nearest.begin.Statement.{statement}
+use Rattle.position.proofs.nearest.begin.Tie as tie
 
 bits-unlike-requires : tie.Need-bits-unlike-requires
 bits-unlike-requires c κs = search needs

@@ -1,12 +1,12 @@
--- `position::reading::nearest_around` meets its contract: the track ends at the last start, and goes on at any other.
+-- `position::nearest::nearest_around` meets its contract: the track ends at the last start, and goes on at any other.
 -- Assumes nothing.
 use mathlib.Core.Path.{_∙_}
 use Rattle.model.specs.Decoded.{meaning}
 use Rattle.position.proofs.RuleRanges.{rule₃-answer, track-ends, track-goes-on}
 use native.Mathlib.Omega.{arith}
 use borrow.Author.Needs.{needs}
-use Rattle.position.proofs.reading.nearest_around.Statement.{statement}
-use Rattle.position.proofs.reading.nearest_around.Tie as tie
+use Rattle.position.proofs.nearest.nearest_around.Statement.{statement}
+use Rattle.position.proofs.nearest.nearest_around.Tie as tie
 
 approach-requires : tie.Need-approach-requires
 approach-requires c κs = search needs

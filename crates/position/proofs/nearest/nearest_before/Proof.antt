@@ -1,12 +1,12 @@
--- `position::reading::nearest_before` meets its contract: block p - 1 from separator 2 to its end. Assumes nothing.
+-- `position::nearest::nearest_before` meets its contract: block p - 1 from separator 2 to its end. Assumes nothing.
 use mathlib.Core.Path.{_≡_, _∙_}
 use Prim.Native.Nat.{_+_, _-_}
 use Rattle.model.specs.Decoded.{meaning}
 use Rattle.position.proofs.RuleRanges.{rule₁-answer}
 use native.Mathlib.Omega.{arith}
 use borrow.Author.Needs.{needs}
-use Rattle.position.proofs.reading.nearest_before.Statement.{statement}
-use Rattle.position.proofs.reading.nearest_before.Tie as tie
+use Rattle.position.proofs.nearest.nearest_before.Statement.{statement}
+use Rattle.position.proofs.nearest.nearest_before.Tie as tie
 
 layout-of-requires : tie.Need-layout-of-requires
 layout-of-requires c κs = search needs

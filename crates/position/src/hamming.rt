@@ -1,0 +1,49 @@
+// The Hamming distance of two words, and the place up to which they differ in a given number of places.
+ghost use mathlib.Core.Path.{_≡_};
+ghost use Prim.Native.Nat.{_≤_};
+ghost use Rattle.bits.specs.Sums.{distance};
+ghost use Rattle.bits.specs.Places.{bit, place};
+use super::places;
+
+// In how many bits two bytes differ.
+fn byte_unlike(x: u8, y: u8) -> u32
+    ensures { λ r. ⌜ (r ≡ distance 8 (bit x) (bit y)) × (r ≤ 8) ⌝ }
+{
+    u32::count_ones((x ^ y) as u32)
+}
+
+// In how many bits two words differ: the distance count, to which both words are passed by value.
+pub fn bits_unlike(a: [u8; 40], b: [u8; 40]) -> u32
+    ensures { λ r. ⌜ r ≡ distance 320 (place a) (place b) ⌝ }
+{
+    let mut unlike: u32 = 0;
+    let mut j: usize = 0;
+    while j < 40 {
+        unlike += byte_unlike(a[j], b[j]);
+        j += 1;
+    }
+    unlike
+}
+
+// A place before which u and v differ in exactly m places: found by bytes, and within the last one by bits.
+pub fn place_after(u: &[u8; 40], v: &[u8; 40], m: u32) -> u32
+    requires { ⌜ m ≤ distance 320 (place (now u)) (place (now v)) ⌝ }
+    ensures { λ r. ⌜ (r ≤ 320) × (distance r (place (now (u .entry))) (place (now (v .entry))) ≡ m) ⌝ }
+{
+    let mut passed: u32 = 0;
+    let mut j: usize = 0;
+    'bytes: while j < 40 {
+        let more = passed + byte_unlike(u[j], v[j]);
+        if m < more {
+            break 'bytes;
+        }
+        passed = more;
+        j += 1;
+    }
+    let mut q = 8 * j as u32;
+    while passed < m {
+        passed += (places::bit_at(u, q) + places::bit_at(v, q)) % 2;
+        q += 1;
+    }
+    q
+}
