@@ -55,26 +55,29 @@ pub data Allowed : Type 0 where
   refusedBy : (refusal : ℕ) → Allowed
 
 -- rule 1: chunk 1 reads p; block p - 1; allowed are r(p-1) + D + A(p-1) to r(p)
-abbrev pub range₁ : Code → ℕ → Allowed
+abbrev pub range₁ : Code → (p : ℕ) → Allowed
 range₁ C p = fromTo 1 (start C (p - 1) + C .D + changedWeight C (p - 1)) (start C p)
 
-unfoldable pub rule₁ : Code → Chunk → Allowed
+-- what chunk 1 allows by it, refusals included
+unfoldable pub rule₁ : Code → (read₁ : Chunk) → Allowed
 rule₁ C (Codeword p e) = cond (eqb p 0) (refusedBy 12) (range₁ C p)
 rule₁ C Unreadable = refusedBy 10
 
 -- rule 2: chunk 2 reads p; allowed are r(p) to r(p) + 2D + A(p)
-abbrev pub range₂ : Code → ℕ → Allowed
+abbrev pub range₂ : Code → (p : ℕ) → Allowed
 range₂ C p = fromTo 2 (start C p) (start C p + 2 * C .D + changedWeight C p)
 
-unfoldable pub rule₂ : Code → Chunk → Allowed
+-- what chunk 2 allows by it, refusals included
+unfoldable pub rule₂ : Code → (read₂ : Chunk) → Allowed
 rule₂ C (Codeword p e) = cond (eqb p (lastCodeword C)) (refusedBy 12) (range₂ C p)
 rule₂ C Unreadable = refusedBy 10
 
 -- rule 3: both chunks read the same p; allowed are r(p) - D to r(p) + D, cut to 0 and the last position
-abbrev pub range₃ : Code → ℕ → Allowed
+abbrev pub range₃ : Code → (p : ℕ) → Allowed
 range₃ C p = fromTo 3 (start C p - C .D) (min (start C p + C .D) (lastPosition C))
 
-unfoldable pub rule₃ : Code → Chunk → Chunk → Allowed
+-- what the two chunks allow by it, refusals included
+unfoldable pub rule₃ : Code → (read₁ read₂ : Chunk) → Allowed
 rule₃ C (Codeword p e) (Codeword q f) = cond (eqb p q) (range₃ C p) (refusedBy 11)
 rule₃ C (Codeword p e) Unreadable = refusedBy 10
 rule₃ C Unreadable (Codeword q f) = refusedBy 10
