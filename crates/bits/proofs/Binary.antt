@@ -3,8 +3,9 @@
 -- Assumes nothing.
 use mathlib.Core.Path.{_≡_, refl, sym, ap, _∙_}
 use Prim.Native.Nat.{ℕ, zero, suc, _+_, _*_, _/_, _%_, _^_, _≤_, _<_}
-use native.Mathlib.Nat.{mod-lt, mod-eq-of-lt, mod-add-mod, add-mod-mod, div-one, zero-div, div-eq-of-lt, div-self, div-div-eq-div-mul, pow-succ', lt-of-lt-of-le, mul-add-mod-self-right, zero-lt-suc, mod-one, zero-add, add-zero}
-use native.Mathlib.Numerals.{one-add, add-one}
+use native.Mathlib.Nat.{lt-of-lt-of-le, zero-lt-suc, zero-add, add-zero, pow-succ', div-one, zero-div, div-eq-of-lt, div-self}
+use native.Mathlib.Nat.{div-div-eq-div-mul, mod-lt, mod-one, mod-eq-of-lt, mod-add-mod, add-mod-mod, mul-add-mod-self-right}
+use native.Mathlib.Numerals.{one-add}
 use native.Mathlib.Omega.{arith}
 use lib.Bits.{bitXor, differ, xor-step, xor-shr}
 use lib.Count.{ones, ones-cat}
@@ -32,7 +33,7 @@ bit-zero p = rw zero-div
 pub bit-high : (x n p : ℕ) → x < 2 ^ n → n ≤ p → bit x p ≡ 0
 bit-high x n p h l = rw (div-eq-of-lt (lt-of-lt-of-le h (pow-mono l)))
 
--- a number is below 2 to the number
+-- a number x is below 2 ^ x
 pub below-pow : (x : ℕ) → x < 2 ^ x
 below-pow zero = omega arith
 below-pow (suc x) = let ih : x < 2 ^ x = below-pow x in omega arith
@@ -86,27 +87,22 @@ bit-xor x y p = ap (λ (z : ℕ). z % 2) (xor-shr x y p) ∙ xor-lowest (x / 2 ^
 pub xor-assoc : (x y z : ℕ) → bitXor (bitXor x y) z ≡ bitXor x (bitXor y z)
 xor-assoc x y z = bit-ext _ _ (λ p. simp (bit-xor, mod-add-mod, add-mod-mod) (omega arith))
 
--- x is y where their exclusive-or is 0
+-- numbers whose exclusive-or is 0 are equal
 pub eq-of-xor-zero : (x y : ℕ) → bitXor x y ≡ 0 → x ≡ y
 eq-of-xor-zero x y e =
     bit-ext x y
     (λ p.
     let z : unlike (bit x p) (bit y p) ≡ 0 = sym (bit-xor x y p) ∙ ap (λ (u : ℕ). bit u p) e ∙ bit-zero p in
-    same-of-like (bit x p) (bit y p) (bit-bit x p) (bit-bit y p) z)
+    alike (bit x p) (bit y p) (bit-bit x p) (bit-bit y p) z)
   where
-    same-of-like : (a b : ℕ) → a < 2 → b < 2 → unlike a b ≡ 0 → a ≡ b
-    same-of-like a b ha hb e = omega arith
+    alike : (a b : ℕ) → a < 2 → b < 2 → unlike a b ≡ 0 → a ≡ b
+    alike a b ha hb e = omega arith
 
 -- ---- the weight of a number
 
 pub weight-le : (n x : ℕ) → weight n x ≤ n
 unfolding weight
 weight-le n x = sum-of-bits (bit x) n (bit-bit x)
-
--- one place more
-pub weight-next : (n x : ℕ) → weight (n + 1) x ≡ weight n x + bit x n
-unfolding weight sumBelow
-weight-next n x = rw (add-one n)
 
 pub weight-zero : (n : ℕ) → weight n 0 ≡ 0
 unfolding weight
@@ -122,7 +118,7 @@ pub weight-xor : (n x y : ℕ) → weight n (bitXor x y) ≡ distance n (bit x) 
 unfolding weight distance
 weight-xor n x y = sum-ext n (λ p l. bit-xor x y p)
 
--- the weight is the count of ones
+-- the weight of a number below 2 ^ n is its count of ones, as the library counts them
 ones-of-bit : (b : ℕ) → b < 2 → ones b ≡ b
 unfolding ones
 ones-of-bit zero h = refl

@@ -2,20 +2,19 @@
 -- with one of the two. Assumes nothing.
 use mathlib.Core.Path.{_≡_, refl}
 use mathlib.Core.Logic.{_⊎_, ⊎-elim}
-use Prim.Native.Nat.{ℕ, zero, suc, _+_, _-_, _≤_, _<_}
-use native.Mathlib.Nat.{add-sub-cancel-left, eq-or-lt-of-le}
+use Prim.Native.Nat.{ℕ, zero, suc, _+_, _≤_, _<_}
 use native.Mathlib.Omega.{arith}
-use mathlib.Core.Bool.{true, false, cond}
-use lib.Dec.{ltb}
-use borrow.Author.Tests.{lt-ltb, le-ltb}
-use Rattle.bits.specs.Sums.{sumBelow, distance, unlike, from, joinAt}
-use Rattle.bits.proofs.Sums.{sum-ext, sum-mono, sum-add, sum-split, sum-zero, sum-longer}
+use Rattle.bits.specs.Sums.{sumBelow, distance, unlike, from}
+use Rattle.bits.proofs.Sums.{sum-ext, sum-mono, sum-add, sum-split, sum-zero, sum-longer, sum-of-bits, sum-one-place}
 
--- the distance goes by the bits below d
+-- the distance is fixed by the bits below d
 pub distance-ext : {u u′ v v′ : ℕ → ℕ} (d : ℕ) → ((p : ℕ) → p < d → u p ≡ u′ p) → ((p : ℕ) → p < d → v p ≡ v′ p)
     → distance d u v ≡ distance d u′ v′
 unfolding distance
 distance-ext d hu hv = sum-ext d (λ p b. rw (hu p b, hv p b))
+
+pub distance-ext-left : {u u′ : ℕ → ℕ} (d : ℕ) (v : ℕ → ℕ) → ((p : ℕ) → p < d → u p ≡ u′ p) → distance d u v ≡ distance d u′ v
+distance-ext-left d v hu = distance-ext d hu (λ p b. refl)
 
 pub distance-comm : (d : ℕ) (u v : ℕ → ℕ) → distance d u v ≡ distance d v u
 unfolding distance
@@ -58,35 +57,14 @@ distance-through {u} {c} {v} d h =
     rw (← (sum-add (λ p. unlike (u p) (c p)) (λ p. unlike (c p) (v p)) d))
     (sum-ext d (λ p b. ⊎-elim (λ e. omega arith) (λ e. omega arith) (h p b)))
 
--- joined words: below a the first, from a on the second
-pub join-left : (a : ℕ) (u v : ℕ → ℕ) (p : ℕ) → p < a → joinAt a u v p ≡ u p
-unfolding joinAt
-join-left a u v p b = simp (lt-ltb p a b)
-
-pub join-right : (a : ℕ) (u v : ℕ → ℕ) (p : ℕ) → joinAt a u v (a + p) ≡ v p
-unfolding joinAt
-join-right a u v p = simp (le-ltb (a + p) a (omega arith), add-sub-cancel-left)
-
-pub join-bits : (a : ℕ) {u v : ℕ → ℕ} → ((p : ℕ) → u p < 2) → ((p : ℕ) → v p < 2) → (p : ℕ) → joinAt a u v p < 2
-unfolding joinAt
-join-bits a {u} {v} hu hv p = elim (ltb p a) as (λ t. cond t (u p) (v (p - a)) < 2) [ true ↦ hu p | false ↦ hv (p - a) ]
-
 -- words that agree at all places but one are as far from a third one but for that place
 pub distance-one-place : (f g x : ℕ → ℕ) (d q : ℕ) → q < d → ((p : ℕ) → p < d → (p ≡ q → ⊥) → f p ≡ g p)
     → distance d f x + unlike (g q) (x q) ≡ distance d g x + unlike (f q) (x q)
-distance-one-place f g x zero q h same = absurd (omega arith)
-distance-one-place f g x (suc d) q h same =
-    ⊎-elim
-    (λ (e : q ≡ d).
-    let rest : distance d f x ≡ distance d g x = distance-ext d (λ p b. same p (omega arith) (λ e′. omega arith)) (λ p b. refl) in
-    rw e (omega (arith, distance-suc d f x, distance-suc d g x)))
-    (λ (l : q < d).
-    let here : unlike (f d) (x d) ≡ unlike (g d) (x d) = rw (same d (omega arith) (λ e. omega arith)) in
-    omega (arith, distance-suc d f x, distance-suc d g x, distance-one-place f g x d q l (λ p b ne. same p (omega arith) ne)))
-    (eq-or-lt-of-le {n = q} {m = d} (omega arith))
+unfolding distance
+distance-one-place f g x d q h same =
+    sum-one-place (λ p. unlike (f p) (x p)) (λ p. unlike (g p) (x p)) d q h (λ p b ne. rw (same p b ne))
 
 -- no two words differ in more places than there are
 pub distance-le : (d : ℕ) (u v : ℕ → ℕ) → distance d u v ≤ d
-unfolding distance sumBelow
-distance-le zero u v = omega arith
-distance-le (suc d) u v = omega (arith, distance-le d u v)
+unfolding distance
+distance-le d u v = sum-of-bits (λ p. unlike (u p) (v p)) d (λ p. omega arith)

@@ -1,6 +1,7 @@
 pub mod Numbers
 pub mod Sums
 pub mod Distance
+pub mod Joins
 pub mod Walk
 pub mod Binary
 pub mod Searches

@@ -1,6 +1,6 @@
--- Tests and comparisons of two numbers, as cases to go by. Assumes nothing.
+-- Tests, and comparisons of two numbers, as cases to go by. Assumes nothing.
 use mathlib.Core.Path.{_≡_, refl}
-use mathlib.Core.Bool.{Bool, true, false, _||_, true≢false}
+use mathlib.Core.Bool.{Bool, true, false, cond, _||_, true≢false}
 use mathlib.Core.Logic.{_⊎_, inl, inr, ⊎-elim}
 use Prim.Native.Nat.{ℕ, _≤_, _<_}
 use lib.Dec.{ltb, eqb}
@@ -15,6 +15,11 @@ lt-or-le a b = ⊎-elim (λ e. inl (ltb-true a b e)) (λ e. inr (ltb-false a b e
 
 pub eq-or-ne : (a b : ℕ) → (a ≡ b) ⊎ (a ≡ b → ⊥)
 eq-or-ne a b = ⊎-elim (λ e. inl (eqb-true a b e)) (λ e. inr (eqb-false a b e)) (true-or-false (eqb a b))
+
+-- what holds on either side of a test holds of what the test chooses
+pub by-test : {A : Type 0} (P : A → Type 0) (t : Bool) {a b : A} → (t ≡ true → P a) → (t ≡ false → P b) → P (cond t a b)
+by-test P true ha hb = ha refl
+by-test P false ha hb = hb refl
 
 -- where neither of two tests holds, each fails
 pub or-false-left : (a b : Bool) → (a || b) ≡ false → a ≡ false

@@ -1,28 +1,29 @@
--- Packed into bytes, words are as far apart as they were: the spare bits are zero in both. Assumes nothing.
-use mathlib.Core.Path.{_≡_, _∙_}
-use Prim.Native.Nat.{ℕ, _+_, _*_, _<_}
+-- In how many bits two byte lists differ: where their spare bits are alike, in as many as their first d places. So words that are
+-- packed into bytes are as far apart as they were, since the spare bits are zero in both. Assumes nothing.
+use mathlib.Core.Path.{_≡_, sym, _∙_}
+use mathlib.Core.List.{List}
+use Prim.Native.Nat.{ℕ, _+_, _*_, _≤_, _<_}
 use native.Mathlib.Nat.{le-dest}
 use native.Mathlib.Omega.{arith}
+use lib.ListN.{length}
 use Rattle.bits.specs.Sums.{distance, from}
 use Rattle.bits.specs.Places.{bytesFor, place, pack, differingBits}
-use Rattle.bits.proofs.Distance.{distance-ext, distance-self, distance-split}
-use Rattle.bits.proofs.Places.{length-pack, place-pack, cut-below, cut-above}
+use Rattle.bits.proofs.Distance.{distance-ext, distance-ext-left, distance-self, distance-split}
+use Rattle.bits.proofs.Places.{length-pack, place-packed, place-spare}
 
-module _ (d : ℕ) {u v : ℕ → ℕ} (hu : (p : ℕ) → u p < 2) (hv : (p : ℕ) → v p < 2) where
-  spare-alike : (m : ℕ) → distance m (from d (place (pack d u))) (from d (place (pack d v))) ≡ 0
-  spare-alike m =
-      distance-ext m (λ p b. place-pack d u hu (d + p) ∙ cut-above d u (d + p) (omega arith))
-      (λ p b. place-pack d v hv (d + p) ∙ cut-above d v (d + p) (omega arith))
-      ∙ distance-self m (λ p. 0)
+pub differing-below : (d : ℕ) (a b : List ℕ) → length a ≡ bytesFor d
+    → ((p : ℕ) → d ≤ p → p < 8 * bytesFor d → place a p ≡ place b p) → differingBits a b ≡ distance d (place a) (place b)
+unfolding differingBits
+differing-below d a b len alike =
+    let spare : (m : ℕ) × (d + m ≡ 8 * bytesFor d) = le-dest (omega arith) in
+    let none : distance (spare .0) (from d (place a)) (from d (place b)) ≡ 0 =
+    distance-ext-left (spare .0) (from d (place b)) (λ p l. alike (d + p) (omega arith) (omega arith))
+    ∙ distance-self (spare .0) (from d (place b)) in
+    rw (len, ← (spare .1), distance-split d (spare .0) (place a) (place b), none) (omega arith)
 
-  pub packed-distance : differingBits (pack d u) (pack d v) ≡ distance d u v
-  unfolding differingBits
-  packed-distance =
-      let spare = le-dest {n = d} {m = 8 * bytesFor d} (omega arith) in
-      rw (
-        length-pack d u,
-        ← (spare .1),
-        distance-split d (spare .0) (place (pack d u)) (place (pack d v)),
-        spare-alike (spare .0),
-        distance-ext d (λ p b. place-pack d u hu p ∙ cut-below d u p b) (λ p b. place-pack d v hv p ∙ cut-below d v p b),
-      ) (omega arith)
+pub packed-distance : (d : ℕ) {u v : ℕ → ℕ} → ((p : ℕ) → u p < 2) → ((p : ℕ) → v p < 2)
+    → differingBits (pack d u) (pack d v) ≡ distance d u v
+packed-distance d {u} {v} hu hv =
+    differing-below d (pack d u) (pack d v) (length-pack d u)
+    (λ p h l. place-spare d u hu p h ∙ sym (place-spare d v hv p h))
+    ∙ distance-ext d (place-packed d u hu) (place-packed d v hv)

@@ -1,21 +1,22 @@
--- The places of byte lists. A number below 2^m is the sum of its bits, each times its power of two, and any bits are the bits of
--- such a sum; so packing d places into bytes and reading the places back gives the same places, and 0 past them.
--- Assumes nothing.
-use Prim.Native.Nat.{ℕ, zero, suc, _+_, _*_, _/_, _%_, _^_, _≤_, _<_}
+-- The places of byte lists. Any m bits are the bits of one number below 2^m, the sum of the bits, each times its power of two; so
+-- packing d places into bytes and reading the places back gives the same places, and 0 past them. Assumes nothing.
 use mathlib.Core.Path.{_≡_, refl, sym, ap, _∙_, fun-ext}
 use mathlib.Core.List.{List, [], _∷_}
 use mathlib.Core.Logic.{⊎-elim}
-use native.Mathlib.Nat.{eq-or-lt-of-le, le-of-suc-le-suc, le-step, le-dest, lt-suc-self, zero-add, mul-le-mul-right, pow-succ', mod-eq-of-lt, div-eq-of-lt, add-mul-div-right, add-mul-mod-self-right, zero-div}
+use Prim.Native.Nat.{ℕ, zero, suc, _+_, _*_, _/_, _%_, _^_, _≤_, _<_}
+use native.Mathlib.Nat.{eq-or-lt-of-le, le-of-suc-le-suc, le-dest, zero-add, mul-le-mul-right, pow-succ', zero-div, div-eq-of-lt}
+use native.Mathlib.Nat.{add-mul-div-right, mod-eq-of-lt, add-mul-mod-self-right}
 use native.Mathlib.Omega.{arith}
 use lib.ListN.{length, getD, length-append, List·getD-append, List·getD-eq-default}
-use lib.Pow.{pow-pos, mod-pow-add, pow-add}
+use lib.Pow.{pow-pos, pow-add}
 use lib.Seq.{ext-getD, getD-at}
 use borrow.Author.Tests.{lt-ltb, le-ltb}
-use Rattle.bits.proofs.Numbers.{lt-or-le}
 use Rattle.bits.specs.Sums.{sumBelow}
 use Rattle.bits.specs.Places.{bit, place, cut, bytesFor, byteOf, listOf, pack}
+use Rattle.bits.proofs.Numbers.{lt-or-le}
+use Rattle.bits.proofs.Binary.{bit-ext-below}
 
--- lists by index
+-- ---- lists by index
 
 pub length-listOf : (m : ℕ) (f : ℕ → ℕ) → length (listOf m f) ≡ m
 unfolding listOf
@@ -32,16 +33,11 @@ getD-listOf (suc m) f i h =
     (λ l. List·getD-append before (f m ∷ []) 0 i (omega arith) ∙ getD-listOf m f i l)
     (eq-or-lt-of-le (le-of-suc-le-suc h))
 
--- binary numbers
+-- ---- binary numbers
 
 -- the number whose bits are w(0), …, w(m - 1)
 abbrev number : (ℕ → ℕ) → ℕ → ℕ
 number w m = sumBelow (λ q. w q * 2 ^ q) m
-
-number-ext : (w v : ℕ → ℕ) (m : ℕ) → ((q : ℕ) → q < m → w q ≡ v q) → number w m ≡ number v m
-unfolding sumBelow
-number-ext w v zero same = refl
-number-ext w v (suc m) same = rw (number-ext w v m (λ q l. same q (le-step l)), same m (lt-suc-self m))
 
 number-below : (w : ℕ → ℕ) → ((q : ℕ) → w q < 2) → (m : ℕ) → number w m < 2 ^ m
 unfolding sumBelow
@@ -66,14 +62,7 @@ bit-of-number w bits (suc m) q l =
     (λ k. below (le-dest k .0) (le-dest k .1) ∙ bit-of-number w bits m q k)
     (eq-or-lt-of-le (le-of-suc-le-suc l))
 
-number-of-bits : (x m : ℕ) → number (bit x) m ≡ x % 2 ^ m
-unfolding sumBelow
-number-of-bits x zero = omega arith
-number-of-bits x (suc m) =
-    let one-more : 1 + m ≡ suc m = omega arith in
-    rw (number-of-bits x m, ← one-more, mod-pow-add x 1 m) (omega arith)
-
--- places
+-- ---- places
 
 pub place-bit : (b : List ℕ) (p : ℕ) → place b p < 2
 unfolding place
@@ -99,7 +88,7 @@ cut-ext d u v same =
     (λ h. cut-above d u p h ∙ sym (cut-above d v p h))
     (lt-or-le p d))
 
--- packing
+-- ---- packing
 
 pub length-pack : (d : ℕ) (u : ℕ → ℕ) → length (pack d u) ≡ bytesFor d
 unfolding pack
@@ -108,6 +97,7 @@ length-pack d u = length-listOf (bytesFor d) (byteOf (cut d u))
 past-pack : (d : ℕ) (u : ℕ → ℕ) (i : ℕ) → bytesFor d ≤ i → getD (pack d u) i 0 ≡ 0
 past-pack d u i h = let past : length (pack d u) ≤ i = rw (length-pack d u) h in List·getD-eq-default (pack d u) 0 past
 
+-- each byte is below 256
 pub byte-of-places : (d : ℕ) (u : ℕ → ℕ) → ((p : ℕ) → u p < 2) → (i : ℕ) → getD (pack d u) i 0 < 256
 unfolding pack byteOf
 byte-of-places d u bits i =
@@ -118,6 +108,7 @@ byte-of-places d u bits i =
     (λ h. rw (past-pack d u i h) (omega arith))
     (lt-or-le i (bytesFor d))
 
+-- the places that are read back are those that were packed, and 0 past them
 pub place-pack : (d : ℕ) (u : ℕ → ℕ) → ((p : ℕ) → u p < 2) → (p : ℕ) → place (pack d u) p ≡ cut d u p
 unfolding pack byteOf place
 place-pack d u bits p =
@@ -130,6 +121,13 @@ place-pack d u bits p =
     (λ h. rw (past-pack d u (p / 8) h, cut-above d u p (omega arith), zero-div))
     (lt-or-le (p / 8) (bytesFor d))
 
+-- the first d places, and the spare ones
+pub place-packed : (d : ℕ) (u : ℕ → ℕ) → ((p : ℕ) → u p < 2) → (p : ℕ) → p < d → place (pack d u) p ≡ u p
+place-packed d u bits p h = place-pack d u bits p ∙ cut-below d u p h
+
+pub place-spare : (d : ℕ) (u : ℕ → ℕ) → ((p : ℕ) → u p < 2) → (p : ℕ) → d ≤ p → place (pack d u) p ≡ 0
+place-spare d u bits p h = place-pack d u bits p ∙ cut-above d u p h
+
 -- the places of byte i
 pub places-of-byte : (l : List ℕ) (i q : ℕ) → q < 8 → place l (8 * i + q) ≡ bit (getD l i 0) q
 unfolding place
@@ -140,11 +138,6 @@ places-of-byte l i q h =
 pub same-places : (l m : List ℕ) → length l ≡ length m → ((i : ℕ) → getD l i 0 < 256) → ((i : ℕ) → getD m i 0 < 256)
     → ((p : ℕ) → p < 8 * length l → place l p ≡ place m p) → l ≡ m
 same-places l m len bytes-l bytes-m same =
-    let whole : (x : ℕ) → x < 256 → number (bit x) 8 ≡ x = λ x h. number-of-bits x 8 ∙ mod-eq-of-lt h in
-    let bits-same : (i : ℕ) → i < length l → (q : ℕ) → q < 8 → bit (getD l i 0) q ≡ bit (getD m i 0) q =
-    λ i h q k. sym (places-of-byte l i q k) ∙ same (8 * i + q) (omega arith) ∙ places-of-byte m i q k in
     ext-getD 0 l m len
-    (λ i h.
-    sym (whole (getD l i 0) (bytes-l i))
-    ∙ number-ext (bit (getD l i 0)) (bit (getD m i 0)) 8 (bits-same i h)
-    ∙ whole (getD m i 0) (bytes-m i))
+    (λ i h. bit-ext-below 8 (getD l i 0) (getD m i 0) (bytes-l i) (bytes-m i)
+    (λ q k. sym (places-of-byte l i q k) ∙ same (8 * i + q) (omega arith) ∙ places-of-byte m i q k))

@@ -1,15 +1,17 @@
 -- What the searches find. Each search is known by a few facts: where it lies, what holds there, and what holds of the numbers
 -- that it passed over; whatever has those facts is what it finds. Assumes nothing.
-use Prim.Native.Nat.{ℕ, zero, suc, _+_, _≤_, _<_, zero-le}
 use mathlib.Core.Path.{_≡_, refl, sym, _∙_}
-use mathlib.Core.Bool.{Bool, true, false, _||_, true≢false}
+use mathlib.Core.Bool.{Bool, true, false, cond, _||_, true≢false}
 use mathlib.Core.Logic.{_⊎_, inl, inr, ⊎-elim}
-use native.Mathlib.Nat.{eq-or-lt-of-le, lt-of-not-le, le-of-suc-le-suc, le-antisymm, le-refl, le-step, lt-suc-self}
+use Prim.Native.Nat.{ℕ, zero, suc, _+_, _-_, _≤_, _<_, zero-le}
+use native.Mathlib.Nat.{eq-or-lt-of-le, lt-of-not-le, le-of-suc-le-suc, le-antisymm, le-refl, le-step, le-dest, lt-suc-self}
+use native.Mathlib.Nat.{add-suc, add-sub-cancel-left}
+use native.Mathlib.Numerals.{add-one}
 use native.Mathlib.Omega.{arith}
 use lib.Dec.{ltb}
 use borrow.Author.Tests.{ltb-true, ltb-false}
-use Rattle.bits.proofs.Numbers.{true-or-false, or-false-left, or-false-right}
 use Rattle.bits.specs.Searches.{anyBelow, firstFrom, first, leastAt, greatest}
+use Rattle.bits.proofs.Numbers.{true-or-false, or-false-left, or-false-right}
 
 -- a test that is true is not false
 never : {b : Bool} → b ≡ true → b ≡ false → ⊥
@@ -23,7 +25,7 @@ equal a b h k = le-antisymm (le-of-suc-le-suc (lt-of-not-le k)) (le-of-suc-le-su
 last-or-below : {i m : ℕ} → i < suc m → (i ≡ m) ⊎ (i < m)
 last-or-below h = eq-or-lt-of-le (le-of-suc-le-suc h)
 
--- any: whether the test ever holds
+-- ---- anyBelow: whether the test ever holds
 
 or-true-right : (a b : Bool) → b ≡ true → (a || b) ≡ true
 or-true-right true b h = refl
@@ -48,7 +50,7 @@ any-some f zero i l t = absurd (omega arith)
 any-some f (suc m) i l t =
     ⊎-elim (λ e. or-true-right (anyBelow f m) (f m) (rw e at t)) (λ k. rw (any-some f m i k t)) (last-or-below l)
 
--- first: where the test first holds
+-- ---- first: where the test first holds
 
 from-high : (f : ℕ → Bool) (from m : ℕ) → firstFrom f from m ≤ from + m
 unfolding firstFrom
@@ -91,9 +93,9 @@ module _ (f : ℕ → Bool) (m : ℕ) where
   first-none none =
       equal (first f m) m (λ k. never (first-holds k) (none (first f m) k)) (λ k. omega (arith, first-le))
 
--- leastAt: where a count is least
+-- ---- leastAt: where a count is least
 
--- one number more: it is taken if f is less there
+-- one number more: it is taken if f is less there, and what was least so far is kept otherwise
 abbrev Taken : (ℕ → ℕ) → (from m : ℕ) → Type 0
 Taken f from m =
     (leastAt f from (suc m) ≡ from + suc m) × (f (from + suc m) < f (leastAt f from m))
@@ -147,7 +149,17 @@ leastAt-first f from (suc m) q l =
     (λ k. rw (k .0) before)
     (taken-or-kept f from m)
 
--- greatest: the greatest number of which the test holds
+-- of the numbers low to m + 1, from what is least of those to m, counted as a program counts
+pub leastAt-next : (f : ℕ → ℕ) (low m : ℕ) → low ≤ m
+    → leastAt f low (m + 1 - low)
+    ≡ cond (ltb (f (m + 1)) (f (leastAt f low (m - low)))) (m + 1) (leastAt f low (m - low))
+unfolding leastAt
+leastAt-next f low m h =
+    let offset = le-dest h in
+    let next : low + (offset .0) + 1 - low ≡ suc (offset .0) = omega arith in
+    rw (← (offset .1), next, add-sub-cancel-left low (offset .0), add-suc low (offset .0), add-one (low + (offset .0)))
+
+-- ---- greatest: the greatest number of which the test holds
 
 pub greatest-le : (f : ℕ → Bool) (m : ℕ) → greatest f m ≤ m
 unfolding greatest
@@ -172,7 +184,7 @@ greatest-above f (suc m) j =
     (λ e. rw e (λ l h. ⊎-elim (λ s. rw s e) (λ k. below l (omega arith)) (eq-or-lt-of-le h)))
     (true-or-false (f (suc m)))
 
--- the facts that say which number it is
+-- whatever number has those facts is the greatest
 pub greatest-is : (f : ℕ → Bool) (m i : ℕ) → i ≤ m → (0 < i → f i ≡ true) → ((j : ℕ) → i < j → j ≤ m → f j ≡ false)
     → greatest f m ≡ i
 greatest-is f m i l t above =

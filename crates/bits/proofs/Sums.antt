@@ -1,8 +1,9 @@
--- The laws of sums over places: a sum goes by its values, splits where its range splits, and is additive.
--- Assumes nothing.
+-- The laws of sums over places: a sum is fixed by its values, adds up over parts of its range, and is additive; two sums whose
+-- values differ at one place differ by the difference there. Assumes nothing.
 use mathlib.Core.Path.{_≡_, refl}
+use mathlib.Core.Logic.{⊎-elim}
 use Prim.Native.Nat.{ℕ, zero, suc, _+_, _≤_, _<_}
-use native.Mathlib.Nat.{add-zero, add-suc, le-dest}
+use native.Mathlib.Nat.{add-zero, add-suc, le-dest, eq-or-lt-of-le}
 use native.Mathlib.Numerals.{add-one}
 use native.Mathlib.Omega.{arith}
 use Rattle.bits.specs.Sums.{sumBelow, from}
@@ -19,7 +20,7 @@ unfolding sumBelow
 sum-mono zero h = omega arith
 sum-mono (suc d) h = omega (arith, sum-mono d (λ p b. h p (omega arith)), h d (omega arith))
 
--- the sum of the sums is the sum of the values' sums
+-- the sum of f(p) + g(p) is the sum of f and the sum of g
 pub sum-add : (f g : ℕ → ℕ) (d : ℕ) → sumBelow (λ p. f p + g p) d ≡ sumBelow f d + sumBelow g d
 unfolding sumBelow
 sum-add f g zero = refl
@@ -56,3 +57,15 @@ pub sum-of-bits : (f : ℕ → ℕ) (d : ℕ) → ((p : ℕ) → f p < 2) → su
 unfolding sumBelow
 sum-of-bits f zero h = omega arith
 sum-of-bits f (suc d) h = omega (arith, sum-of-bits f d h, h d)
+
+-- two functions that agree below d at all places but q
+pub sum-one-place : (f g : ℕ → ℕ) (d q : ℕ) → q < d → ((p : ℕ) → p < d → (p ≡ q → ⊥) → f p ≡ g p)
+    → sumBelow f d + g q ≡ sumBelow g d + f q
+unfolding sumBelow
+sum-one-place f g zero q h same = absurd (omega arith)
+sum-one-place f g (suc d) q h same =
+    ⊎-elim
+    (λ (e : q ≡ d). rw (e, sum-ext {f = f} {g = g} d (λ p b. same p (omega arith) (λ e′. omega arith))) (omega arith))
+    (λ (l : q < d).
+    omega (arith, same d (omega arith) (λ e. omega arith), sum-one-place f g d q l (λ p b ne. same p (omega arith) ne)))
+    (eq-or-lt-of-le {n = q} {m = d} (omega arith))

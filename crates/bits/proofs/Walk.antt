@@ -1,6 +1,5 @@
--- The walk from u to v, m places at a time. Place p has been passed where u and v differ in fewer than m places before it,
--- so a walk is v up to some place and u from there on, and walks of m and m′ steps are |m - m′| apart: one step turns one
--- bit. Assumes nothing.
+-- The walk of m steps from u to v. It has passed place p if u and v differ in fewer than m places before p; so it is v up to some
+-- place and u from there on, and walks of m and m′ steps are |m - m′| bits apart: one step turns one bit. Assumes nothing.
 use mathlib.Core.Path.{_≡_, refl}
 use mathlib.Core.Bool.{Bool, true, false, cond, _&&_}
 use mathlib.Core.Logic.{⊎-elim}
@@ -14,7 +13,7 @@ use Rattle.bits.proofs.Numbers.{lt-or-le}
 use Rattle.bits.proofs.Distance.{distance-suc, distance-longer, distance-one-place}
 
 module _ {u v : ℕ → ℕ} (hu : (p : ℕ) → u p < 2) (hv : (p : ℕ) → v p < 2) where
-  -- a place with fewer than m differing places before it has been passed
+  -- at a place with fewer than m differing places before it, the walk is v
   pub walk-passed : (m p : ℕ) → distance p u v < m → walk u v m p ≡ v p
   unfolding walk
   walk-passed m p h = rw (lt-ltb (distance p u v) m h) (by-test (eqb (unlike (u p) (v p)) 1) refl)
@@ -23,7 +22,7 @@ module _ {u v : ℕ → ℕ} (hu : (p : ℕ) → u p < 2) (hv : (p : ℕ) → v 
       by-test true e = refl
       by-test false e = omega (arith, hu p, hv p, eqb-false (unlike (u p) (v p)) 1 e)
 
-  -- one with m differing places or more before it has not
+  -- at one with m differing places or more before it, it is u
   pub walk-ahead : (m p : ℕ) → m ≤ distance p u v → walk u v m p ≡ u p
   unfolding walk
   walk-ahead m p h = rw (le-ltb (distance p u v) m h) (by-test (eqb (unlike (u p) (v p)) 1))
@@ -32,10 +31,10 @@ module _ {u v : ℕ → ℕ} (hu : (p : ℕ) → u p < 2) (hv : (p : ℕ) → v 
       by-test true = refl
       by-test false = refl
 
-  pub walk-bits : (m p : ℕ) → walk u v m p < 2
-  walk-bits m p = ⊎-elim (λ h. rw (walk-passed m p h) (hv p)) (λ h. rw (walk-ahead m p h) (hu p)) (lt-or-le (distance p u v) m)
+  pub walk-bit : (m p : ℕ) → walk u v m p < 2
+  walk-bit m p = ⊎-elim (λ h. rw (walk-passed m p h) (hv p)) (λ h. rw (walk-ahead m p h) (hu p)) (lt-or-le (distance p u v) m)
 
-  -- before a place where the walk has made all its steps so far, it is v; from a place that it has not reached on, it is u
+  -- below a place before which u and v differ in at most m places it is v, and from one before which they differ in m or more it is u
   pub walk-before : (m : ℕ) {p a : ℕ} → p < a → distance a u v ≤ m → walk u v m p ≡ v p
   walk-before m {p} {a} b h =
       ⊎-elim (walk-passed m p)
@@ -48,7 +47,7 @@ module _ {u v : ℕ → ℕ} (hu : (p : ℕ) → u p < 2) (hv : (p : ℕ) → v 
   pub walk-none : (p : ℕ) → walk u v 0 p ≡ u p
   walk-none p = walk-ahead 0 p (omega arith)
 
-  -- below place d, walks of m and m′ steps are as many bits apart as they are steps, as far as there are steps to make
+  -- below place d, walks of m and m′ steps are as many bits apart as they are steps, as far as u and v differ below d
   walk-apart : (d m m′ : ℕ) → m ≤ m′
       → distance d (walk u v m) (walk u v m′) + min m (distance d u v) ≡ min m′ (distance d u v)
   unfolding distance sumBelow

@@ -1,26 +1,26 @@
--- Sums over places, and the Hamming distance of two bit functions. A bit function gives each place 0 or 1.
--- Assumes nothing.
-use Prim.Native.Nat.{ℕ, zero, suc, _+_, _-_, _%_}
+-- Sums over places, the Hamming distance of two bit functions, and bit functions taken apart and joined. A bit function gives
+-- each place 0 or 1. Assumes nothing.
 use mathlib.Core.Bool.{cond}
+use Prim.Native.Nat.{ℕ, zero, suc, _+_, _-_, _%_}
 use lib.Dec.{ltb}
 
 -- f(0) + … + f(d - 1)
-unfoldable pub sumBelow : (ℕ → ℕ) → ℕ → ℕ
+unfoldable pub sumBelow : (f : ℕ → ℕ) (d : ℕ) → ℕ
 sumBelow f zero = 0
 sumBelow f (suc d) = sumBelow f d + f d
 
 -- of two bits, each 0 or 1: 1 where they differ, 0 where they are alike
-abbrev pub unlike : ℕ → ℕ → ℕ
+abbrev pub unlike : (a b : ℕ) → ℕ
 unlike a b = (a + b) % 2
 
 -- Hamming distance: in how many of the places 0 to d - 1 two bit functions differ
-unfoldable pub distance : ℕ → (ℕ → ℕ) → (ℕ → ℕ) → ℕ
+unfoldable pub distance : (d : ℕ) (u v : ℕ → ℕ) → ℕ
 distance d u v = sumBelow (λ p. unlike (u p) (v p)) d
 
--- the part of a bit function that starts at a
-abbrev pub from : ℕ → (ℕ → ℕ) → ℕ → ℕ
+-- the part of a bit function that starts at place a
+abbrev pub from : (a : ℕ) (x : ℕ → ℕ) (p : ℕ) → ℕ
 from a x p = x (a + p)
 
--- a places of u, then v
-unfoldable pub joinAt : ℕ → (ℕ → ℕ) → (ℕ → ℕ) → ℕ → ℕ
+-- the first a places of u, then v
+unfoldable pub joinAt : (a : ℕ) (u v : ℕ → ℕ) (p : ℕ) → ℕ
 joinAt a u v p = cond (ltb p a) (u p) (v (p - a))

@@ -9,6 +9,7 @@ use lib.Dec.{eqb, ltb}
 use lib.ListN.{length}
 use borrow.Author.Tests.{eqb-false}
 use Rattle.bits.specs.Places.{place}
+use Rattle.bits.proofs.Numbers.{by-test}
 use Rattle.model.specs.Card.{Code, cardRefusal, codeOf}
 use Rattle.model.specs.Order.{lastCodeword, lastPosition, start}
 use Rattle.model.specs.Words.{millimetresOf}
@@ -23,12 +24,7 @@ use Rattle.model.specs.declared.ReadAnswer.the-variants.{At, Refused as ReadRef
 use Rattle.model.specs.declared.NumberAnswer.{NumberAnswer}
 use Rattle.model.specs.declared.NumberAnswer.the-variants.{Number, Refused as NumberRefused}
 
--- what holds on either side of a test holds of what it chooses
-by-test : {A : Type 0} (P : A → Type 0) (t : Bool) {a b : A} → (t ≡ true → P a) → (t ≡ false → P b) → P (cond t a b)
-by-test P true ha hb = ha refl
-by-test P false ha hb = hb refl
-
--- the same of a test turned round
+-- what holds on either side of a test holds of what the test turned round chooses
 unless-test : {A : Type 0} (P : A → Type 0) (t : Bool) {a b : A} → (t ≡ false → P a) → (t ≡ true → P b) → P (cond (not t) a b)
 unless-test P true ha hb = hb refl
 unless-test P false ha hb = ha refl
@@ -40,7 +36,7 @@ CardNotByZero (CardRefused refusal) = refusal ≡ 0 → ⊥
 
 card-not-by-zero : (card : List ℕ) → CardNotByZero (cardAnswer card)
 unfolding cardAnswer CardNotByZero
-card-not-by-zero card = by-test CardNotByZero (eqb (cardRefusal card) 0) (λ _. tt) (eqb-false (cardRefusal card) 0)
+card-not-by-zero card = unless-test CardNotByZero (eqb (cardRefusal card) 0) (eqb-false (cardRefusal card) 0) (λ _. tt)
 
 pub card-refusal-nonzero : (card : List ℕ) {refusal : ℕ} → cardAnswer card ≡ CardRefused refusal → refusal ≡ 0 → ⊥
 unfolding CardNotByZero
@@ -120,11 +116,10 @@ module _ (C : Code) (x : ℕ → ℕ) where
 read-not-by-zero : (card received : List ℕ) → ReadNotByZero (readAnswer card received)
 unfolding readAnswer readWord ReadNotByZero
 read-not-by-zero card received =
-    by-test ReadNotByZero (eqb (cardRefusal card) 0)
+    unless-test ReadNotByZero (eqb (cardRefusal card) 0) (eqb-false (cardRefusal card) 0)
     (λ _. unless-test ReadNotByZero (eqb (length received) (wordLength (codeOf card))) (λ _ z. omega arith)
     (λ _. by-test ReadNotByZero (spareSet (codeOf card) received) (λ _ z. omega arith)
     (λ _. reading-not-by-zero (codeOf card) (place received))))
-    (eqb-false (cardRefusal card) 0)
 
 pub read-refusal-nonzero : (card received : List ℕ) {refusal : ℕ} → readAnswer card received ≡ ReadRefused refusal
     → refusal ≡ 0 → ⊥

@@ -10,11 +10,11 @@ use borrow.Author.Tests.{eq-eqb, ne-eqb}
 use lib.Dec.{eqb}
 use lib.ListN.{length, getD}
 use Rattle.bits.proofs.Numbers.{eq-or-ne, or-false-left}
-use Rattle.model.specs.Card.{lengthOf, rowsOf, rowOf, codeOf, trackOf, storedCheck, computedCheck, withinLimits, misplaced, cardRefusal, dependent}
+use Rattle.model.specs.Card.{lengthOf, rowCountOf, rowOf, codeOf, trackOf, storedCheck, computedCheck, withinLimits, misplaced, cardRefusal, dependent}
 use Rattle.model.specs.Decoded.{meaning}
 use Rattle.model.specs.declared.Decoded.{Decoded}
-use Rattle.code_theory.specs.LeastDistance.{leastInOrder}
-use Rattle.code_theory.proofs.LeastWeight.{least-of-order, independent-of-order, dependent-of-order}
+use Rattle.code_theory.specs.LeastInOrder.{leastInOrder}
+use Rattle.code_theory.proofs.LeastInOrder.{least-of-order, independent-of-order, dependent-of-order}
 use Rattle.code_theory.proofs.SoundCard.{limits-of-test, narrow-of-test, card-tests, sound-card}
 use Rattle.chunk.specs.FirstRefusal.{refusalIf, firstOf}
 use Rattle.chunk.proofs.FirstRefusal.{first-by-tests}
@@ -24,55 +24,55 @@ use Rattle.chunk.proofs.Refusals.{refusal-4-5-or-0}
 
 -- the least weight of a card's rows, as it is met in Gray order
 abbrev pub least : List ℕ → ℕ
-least b = leastInOrder (lengthOf b) (rowsOf b) (rowOf b) (2 ^ rowsOf b - 1)
+least b = leastInOrder (lengthOf b) (rowCountOf b) (rowOf b) (2 ^ rowCountOf b - 1)
 
 -- a least weight of the rows that the card has, said of the card
-pub least-of-card : (b : List ℕ) (n k distance : ℕ) (row : ℕ → ℕ) → n ≡ lengthOf b → k ≡ rowsOf b → row ≡ rowOf b
-    → (Narrow n k row → distance ≡ leastInOrder n k row (2 ^ k - 1)) → Narrow (lengthOf b) (rowsOf b) (rowOf b) → distance ≡ least b
+pub least-of-card : (b : List ℕ) (n k distance : ℕ) (row : ℕ → ℕ) → n ≡ lengthOf b → k ≡ rowCountOf b → row ≡ rowOf b
+    → (Narrow n k row → distance ≡ leastInOrder n k row (2 ^ k - 1)) → Narrow (lengthOf b) (rowCountOf b) (rowOf b) → distance ≡ least b
 least-of-card b n k distance row is-n is-k is-row is-least = rw (← is-n, ← is-k, ← is-row) is-least
 
-module _ (b : List ℕ) (limits : withinLimits (lengthOf b) (rowsOf b) ≡ true) where
-  narrow : misplaced b ≡ false → Narrow (lengthOf b) (rowsOf b) (rowOf b)
+module _ (b : List ℕ) (limits : withinLimits (lengthOf b) (rowCountOf b) ≡ true) where
+  narrow : misplaced b ≡ false → Narrow (lengthOf b) (rowCountOf b) (rowOf b)
   unfolding misplaced
   narrow placed z h =
       narrow-of-test (lengthOf b) (rowOf b) (or-false-left _ _ (or-false-left _ _ placed)) z
-      (omega (arith, limits-of-test (lengthOf b) (rowsOf b) limits .3))
+      (omega (arith, limits-of-test (lengthOf b) (rowCountOf b) limits .3))
 
   -- the rows are dependent where their least weight is 0
-  dependent-if-zero : misplaced b ≡ false → dependent (rowsOf b) (rowOf b) ≡ eqb (least b) 0
+  dependent-if-zero : misplaced b ≡ false → dependent (rowCountOf b) (rowOf b) ≡ eqb (least b) 0
   dependent-if-zero placed =
       ⊎-elim
       (λ (zero : least b ≡ 0).
       rw (eq-eqb (least b) 0 zero)
-      (dependent-of-order (lengthOf b) (rowsOf b) (rowOf b) (limits-of-test (lengthOf b) (rowsOf b) limits .0) (narrow placed) zero))
+      (dependent-of-order (lengthOf b) (rowCountOf b) (rowOf b) (limits-of-test (lengthOf b) (rowCountOf b) limits .0) (narrow placed) zero))
       (λ (ne : least b ≡ 0 → ⊥).
-      rw (ne-eqb (least b) 0 ne) (independent-of-order (lengthOf b) (rowsOf b) (rowOf b) (omega arith)))
+      rw (ne-eqb (least b) 0 ne) (independent-of-order (lengthOf b) (rowCountOf b) (rowOf b) (omega arith)))
       (eq-or-ne (least b) 0)
 
   -- refusal 4 first, then refusal 5 by a number that is the least weight of rows that are narrow
   pub rows-refusal : length b ≡ 512 → storedCheck b ≡ computedCheck b → (distance : ℕ)
-      → (Narrow (lengthOf b) (rowsOf b) (rowOf b) → distance ≡ least b)
+      → (Narrow (lengthOf b) (rowCountOf b) (rowOf b) → distance ≡ least b)
       → firstOf (refusalIf (misplaced b) 4) (refusalIf (eqb distance 0) 5) ≡ cardRefusal b
   rows-refusal whole checked distance is-least =
       first-by-tests (misplaced b) (eqb distance 0) 4 5 (omega arith)
       ∙ rw (refusal-4-5-or-0 b whole checked limits) (by-test (misplaced b) refl)
     where
       by-test : (t : Bool) → misplaced b ≡ t
-          → cond t 4 (refusalIf (eqb distance 0) 5) ≡ cond t 4 (refusalIf (dependent (rowsOf b) (rowOf b)) 5)
+          → cond t 4 (refusalIf (eqb distance 0) 5) ≡ cond t 4 (refusalIf (dependent (rowCountOf b) (rowOf b)) 5)
       by-test true e = refl
       by-test false e = rw (dependent-if-zero e, is-least (narrow e))
 
 -- the code of a sound card
-pub code-of-least : (b : List ℕ) → cardRefusal b ≡ 0 → (n k distance : ℕ) (rows : List ℕ) → n ≡ lengthOf b → k ≡ rowsOf b
-    → (λ z. getD rows z 0) ≡ rowOf b → (Narrow (lengthOf b) (rowsOf b) (rowOf b) → distance ≡ least b)
+pub code-of-least : (b : List ℕ) → cardRefusal b ≡ 0 → (n k distance : ℕ) (rows : List ℕ) → n ≡ lengthOf b → k ≡ rowCountOf b
+    → (λ z. getD rows z 0) ≡ rowOf b → (Narrow (lengthOf b) (rowCountOf b) (rowOf b) → distance ≡ least b)
     → meaning (record { n = n; k = k; distance = distance; rows = rows }) ≡ codeOf b
 unfolding codeOf
 code-of-least b sound n k distance rows is-n is-k is-rows is-least =
     let tests = card-tests b sound in
-    let fit : Narrow (lengthOf b) (rowsOf b) (rowOf b) =
+    let fit : Narrow (lengthOf b) (rowCountOf b) (rowOf b) =
     λ z h. narrow-of-test (lengthOf b) (rowOf b) (tests .rows-narrow) z
-    (omega (arith, limits-of-test (lengthOf b) (rowsOf b) (tests .limits) .3)) in
-    rw (is-n, is-k, is-rows, is-least fit, least-of-order (lengthOf b) (rowsOf b) (rowOf b) (tests .rows-independent))
+    (omega (arith, limits-of-test (lengthOf b) (rowCountOf b) (tests .limits) .3)) in
+    rw (is-n, is-k, is-rows, is-least fit, least-of-order (lengthOf b) (rowCountOf b) (rowOf b) (tests .rows-independent))
 
 -- a refusal handed back alone
 pub refused-from : (b : List ℕ) (r : Decoded) (refusal : ℕ) → r .refusal ≡ refusal → cardRefusal b ≡ refusal

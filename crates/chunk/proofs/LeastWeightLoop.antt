@@ -18,10 +18,10 @@ use Rattle.bits.proofs.Binary.{weight-ones}
 use Rattle.bits.proofs.Numbers.{eq-or-ne}
 use Rattle.model.specs.Card.{sumOfRows}
 use Rattle.model.specs.Order.{gray}
-use Rattle.code_theory.specs.LeastDistance.{leastInOrder}
+use Rattle.code_theory.specs.LeastInOrder.{leastInOrder}
 use Rattle.code_theory.proofs.Codewords.{rows-start, rows-below}
 use Rattle.code_theory.proofs.Gray.{gray-zero, gray-below, gray-positive, gray-onto, changed-below}
-use Rattle.code_theory.proofs.LeastWeight.{AtMostEach, order-of-sets}
+use Rattle.code_theory.proofs.LeastInOrder.{AtMostEach, order-of-sets}
 use Rattle.chunk.proofs.GrayStep.{word-next}
 use Rattle.chunk.proofs.LeastOf.{LeastOf, least-of-same}
 use Rattle.chunk.proofs.LowSums.{Table}

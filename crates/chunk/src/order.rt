@@ -8,7 +8,7 @@ ghost use lib.Count.{ones};
 ghost use lib.ListN.{getD};
 ghost use Rattle.model.specs.Card.{sumOfRows};
 ghost use Rattle.model.specs.Order.{gray};
-ghost use Rattle.code_theory.specs.LeastDistance.{leastInOrder};
+ghost use Rattle.code_theory.specs.LeastInOrder.{leastInOrder};
 
 // 2 to the power k.
 pub fn two_to(k: u32) -> u32

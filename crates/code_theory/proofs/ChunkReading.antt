@@ -1,17 +1,17 @@
--- What a code chunk reads as: the first codeword within the radius. Whoever has passed over the codewords before p and
--- finds p within the radius has read it, whatever the search; and the reading looks at the chunk's n places alone.
+-- What a code chunk reads as: the first codeword within the radius. A search that has passed over the codewords before c(p) and
+-- finds c(p) within the radius has read the chunk; and the reading depends on the chunk's n places alone.
 -- Assumes nothing.
 use mathlib.Core.Path.{_≡_, refl, sym, ap, fun-ext, _∙_}
 use mathlib.Core.Bool.{Bool, cond}
 use mathlib.Core.Logic.{⊎-elim}
 use Prim.Native.Nat.{ℕ, _^_, _≤_, _<_}
 use native.Mathlib.Omega.{arith}
-use borrow.Author.Tests.{lt-ltb, le-ltb, le-leb, lt-leb, leb-true}
 use lib.Dec.{leb, ltb}
 use lib.Pow.{le-ones}
+use borrow.Author.Tests.{lt-ltb, le-ltb, le-leb, lt-leb, leb-true}
 use Rattle.bits.specs.Searches.{first}
-use Rattle.bits.proofs.Distance.{distance-ext}
 use Rattle.bits.proofs.Numbers.{lt-or-le}
+use Rattle.bits.proofs.Distance.{distance-ext}
 use Rattle.bits.proofs.Searches.{first-is, first-holds, first-none}
 use Rattle.model.specs.Card.{Code, radius}
 use Rattle.model.specs.Order.{lastCodeword}

@@ -1,23 +1,24 @@
--- The code is linear: the sum of rows over an exclusive-or is the exclusive-or of the sums. With the Gray order's one bit a step,
--- each codeword is the one before it with one row added, and that row's weight is the distance of the two.
+-- The code is linear: the sum of the rows that g exclusive-or h names is the exclusive-or of the sums that g and h name. Gray's
+-- order changes one bit a step, so each codeword is the one before it with one row added, and that row's weight is their distance.
 -- Assumes nothing.
 use mathlib.Core.Path.{_≡_, refl, sym, ap, ap₂, _∙_}
-use mathlib.Core.Logic.{by-cases}
+use mathlib.Core.Logic.{⊎-elim}
 use Prim.Native.Nat.{ℕ, zero, suc, _+_, _*_, _^_, _≤_, _<_}
 use native.Mathlib.Nat.{lt-of-le-of-lt, mod-add-mod, add-mod-mod, zero-mul, one-mul, mul-le-mul-right}
-use native.Mathlib.Decide.{ℕ-discrete}
 use native.Mathlib.Omega.{arith}
-use borrow.Author.Tests.{eq-eqb}
 use lib.Bits.{bitXor, xor-lt, xor-self, xor-zero-r}
 use lib.Count.{trailingZeros}
 use lib.Dec.{eqb}
 use lib.Pow.{pow-pos}
-use Rattle.bits.specs.Sums.{unlike, distance}
+use borrow.Author.Tests.{eq-eqb}
+use Rattle.bits.specs.Sums.{unlike}
 use Rattle.bits.specs.Places.{bit, weight}
+use Rattle.bits.proofs.Numbers.{eq-or-ne}
 use Rattle.bits.proofs.Binary.{bit-bit, bit-zero, bit-xor, bit-ext, bit-pow-same, bit-pow-other, xor-assoc, weight-xor}
 use Rattle.bits.proofs.Searches.{first-is}
 use Rattle.model.specs.Card.{Code, sumOfRows}
 use Rattle.model.specs.Order.{gray, codeword, lastCodeword, changedRow, changedWeight}
+use Rattle.code_theory.specs.LeastDistance.{codewordDistance}
 use Rattle.code_theory.proofs.Gray.{gray-zero, gray-changed, gray-kept, gray-next, changed-below}
 
 -- ---- identities of exclusive-or
@@ -28,7 +29,7 @@ xor-exchange a b c d = bit-ext _ _ (λ p. simp (bit-xor, mod-add-mod, add-mod-mo
 pub xor-undone : (a b : ℕ) → bitXor a (bitXor a b) ≡ b
 xor-undone a b = sym (xor-assoc a a b) ∙ ap (λ (x : ℕ). bitXor x b) (xor-self a)
 
--- a row taken as often as either of two bits says
+-- a row is taken where two bits differ: once for either bit, modulo 2
 xor-multiples : (a b r : ℕ) → a < 2 → b < 2 → unlike a b * r ≡ bitXor (a * r) (b * r)
 xor-multiples zero b r ha hb = let same : unlike 0 b ≡ b = omega arith in rw (zero-mul, same)
 xor-multiples (suc zero) zero r ha hb = rw (zero-mul, one-mul) (sym (xor-zero-r r))
@@ -43,7 +44,9 @@ pub rows-linear : (row : ℕ → ℕ) (k g h : ℕ)
 unfolding sumOfRows
 rows-linear row zero g h = refl
 rows-linear row (suc k) g h =
-    ap₂ bitXor (rows-linear row k g h) (ap (λ (b : ℕ). b * row k) (bit-xor g h k) ∙ xor-multiples (bit g k) (bit h k) (row k) (bit-bit g k) (bit-bit h k))
+    let last : bit (bitXor g h) k * row k ≡ bitXor (bit g k * row k) (bit h k * row k) =
+    ap (λ (b : ℕ). b * row k) (bit-xor g h k) ∙ xor-multiples (bit g k) (bit h k) (row k) (bit-bit g k) (bit-bit h k) in
+    ap₂ bitXor (rows-linear row k g h) last
     ∙ xor-exchange (sumOfRows row k g) (sumOfRows row k h) (bit g k * row k) (bit h k * row k)
 
 -- the sum of no rows, and of one
@@ -57,13 +60,13 @@ pub rows-of-one : (row : ℕ → ℕ) (k z : ℕ) → z < k → sumOfRows row k 
 unfolding sumOfRows
 rows-of-one row zero z l = omega arith
 rows-of-one row (suc k) z l =
-    by-cases (ℕ-discrete z k)
+    ⊎-elim
     (λ (e : z ≡ k). rw (e, bit-pow-same k, rows-of-none row k (2 ^ k) (λ y m. bit-pow-other k y (omega arith)), one-mul))
-    (λ ne.
-    let other : k ≡ z → ⊥ = λ e. ne (sym e) in
-    rw (bit-pow-other z k other, rows-of-one row k z (omega arith), zero-mul) (xor-zero-r (row z)))
+    (λ (ne : z ≡ k → ⊥).
+    rw (bit-pow-other z k (λ e. ne (sym e)), rows-of-one row k z (omega arith), zero-mul) (xor-zero-r (row z)))
+    (eq-or-ne z k)
 
--- a sum of rows below 2 ^ n is below 2 ^ n
+-- a sum of rows that are below 2 ^ n is below 2 ^ n
 pub rows-below : (n : ℕ) (row : ℕ → ℕ) (k g : ℕ) → ((z : ℕ) → z < k → row z < 2 ^ n) → sumOfRows row k g < 2 ^ n
 unfolding sumOfRows
 rows-below n row zero g h = pow-pos n
@@ -122,7 +125,7 @@ module _ (C : Code) (i : ℕ) (within : i < lastCodeword C) where
       ∙ ap (λ (z : ℕ). bitXor (sumOfRows (C .row) (C .k) (gray i)) (C .row z)) (sym (changed-row (C .k) next-below))
 
   -- so they differ in A(i) places
-  pub step-distance : distance (C .n) (bit (codeword C i)) (bit (codeword C (i + 1))) ≡ changedWeight C i
+  pub step-distance : codewordDistance C i (i + 1) ≡ changedWeight C i
   unfolding changedWeight
   step-distance =
       let r : ℕ = C .row (changedRow C i) in

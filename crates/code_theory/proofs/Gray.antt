@@ -2,17 +2,17 @@
 -- i and i + 1 differ in just the bits up to that one. Gray maps the numbers below 2 ^ k one to one onto themselves.
 -- Assumes nothing.
 use mathlib.Core.Path.{_≡_, refl, sym, ap, ap₂, _∙_}
-use mathlib.Core.Logic.{⊎-elim, by-cases}
+use mathlib.Core.Logic.{⊎-elim}
 use Prim.Native.Nat.{ℕ, zero, suc, _+_, _*_, _/_, _%_, _^_, _≤_, _<_}
 use native.Mathlib.Nat.{le-refl, eq-zero-or-pos, mod-add-mod, add-mod-mod, lt-of-le-of-lt, lt-of-lt-of-le, div-le-self}
-use native.Mathlib.Decide.{decLt, ℕ-discrete}
 use native.Mathlib.Omega.{arith}
 use lib.Bits.{bitXor, xor-lt, xor-shr}
 use lib.Count.{trailingZeros}
 use lib.Pow.{pow-mono}
 use Rattle.bits.specs.Sums.{unlike}
 use Rattle.bits.specs.Places.{bit}
-use Rattle.bits.proofs.Binary.{bit-bit, bit-lowest, bit-suc, bit-xor, bit-ext, xor-lowest, below-pow, bit-pow-same, bit-pow-other, bit-high}
+use Rattle.bits.proofs.Numbers.{lt-or-le, eq-or-ne}
+use Rattle.bits.proofs.Binary.{bit-bit, bit-lowest, bit-suc, bit-high, bit-ext, bit-pow-same, bit-pow-other, below-pow, bit-xor, xor-lowest}
 use Rattle.model.specs.Order.{gray}
 use Rattle.code_theory.proofs.TrailingZeros.{trailing-zeros-ind}
 
@@ -57,7 +57,7 @@ pub bit-gray : (i p : ℕ) → bit (gray i) p ≡ unlike (bit i p) (bit i (suc p
 unfolding gray
 bit-gray i p = bit-xor i (i / 2) p ∙ ap (λ (b : ℕ). unlike (bit i p) b) (sym (bit-suc i p))
 
--- whether Gray(i) and Gray(i+1) differ in a bit is told by whether i and i + 1 do there and one bit above
+-- Gray(i) and Gray(i+1) differ in a bit where i and i + 1 differ in just one of that bit and the one above it
 gray-step-bit : (i p a b : ℕ) → unlike (bit i p) (bit (i + 1) p) ≡ a → unlike (bit i (suc p)) (bit (i + 1) (suc p)) ≡ b
     → unlike (bit (gray i) p) (bit (gray (i + 1)) p) ≡ unlike a b
 gray-step-bit i p a b ea eb =
@@ -78,24 +78,26 @@ gray-changed w i h =
 pub gray-kept : (w i p : ℕ) → i + 1 < 2 ^ w → (p ≡ trailingZeros w (i + 1) → ⊥)
     → unlike (bit (gray i) p) (bit (gray (i + 1)) p) ≡ 0
 gray-kept w i p h other =
-    by-cases (decLt p (trailingZeros w (i + 1)))
+    ⊎-elim
     (λ (l : p < trailingZeros w (i + 1)).
     gray-step-bit i p 1 1 (up-to-lowest-one w i h p (omega arith)) (up-to-lowest-one w i h (suc p) l))
-    (λ l.
+    (λ (l : trailingZeros w (i + 1) ≤ p).
     gray-step-bit i p 0 0 (above-lowest-one w i h p (omega arith)) (above-lowest-one w i h (suc p) (omega arith)))
+    (lt-or-le p (trailingZeros w (i + 1)))
 
 -- so the step is one exclusive-or with a power of 2
 pub gray-next : (w i : ℕ) → i + 1 < 2 ^ w → gray (i + 1) ≡ bitXor (gray i) (2 ^ trailingZeros w (i + 1))
 gray-next w i h =
     let z : ℕ = trailingZeros w (i + 1) in
     bit-ext (gray (i + 1)) (bitXor (gray i) (2 ^ z))
-    (λ p. by-cases (ℕ-discrete p z)
+    (λ p. ⊎-elim
     (λ (e : p ≡ z).
     rw (e, bit-xor (gray i) (2 ^ z) z, bit-pow-same z)
     (turned (bit (gray i) z) (bit (gray (i + 1)) z) (bit-bit (gray i) z) (bit-bit (gray (i + 1)) z) (gray-changed w i h)))
-    (λ ne.
+    (λ (ne : p ≡ z → ⊥).
     rw (bit-xor (gray i) (2 ^ z) p, bit-pow-other z p ne)
-    (kept (bit (gray i) p) (bit (gray (i + 1)) p) (bit-bit (gray i) p) (bit-bit (gray (i + 1)) p) (gray-kept w i p h ne))))
+    (kept (bit (gray i) p) (bit (gray (i + 1)) p) (bit-bit (gray i) p) (bit-bit (gray (i + 1)) p) (gray-kept w i p h ne)))
+    (eq-or-ne p z))
   where
     turned : (a b : ℕ) → a < 2 → b < 2 → unlike a b ≡ 1 → b ≡ unlike a 1
     turned a b ha hb e = omega arith
@@ -103,7 +105,7 @@ gray-next w i h =
     kept : (a b : ℕ) → a < 2 → b < 2 → unlike a b ≡ 0 → b ≡ unlike a 0
     kept a b ha hb e = omega arith
 
--- ---- one to one onto the numbers below 2 ^ k
+-- ---- the numbers below 2 ^ k, one to one
 
 pub gray-zero : gray 0 ≡ 0
 unfolding gray
@@ -143,7 +145,9 @@ gray-injective i j =
 
 pub gray-positive : (i : ℕ) → 0 < i → 0 < gray i
 gray-positive i h =
-    ⊎-elim (λ (e : gray i ≡ 0). omega (arith, gray-injective i 0 (e ∙ sym gray-zero))) (λ (l : 0 < gray i). l) (eq-zero-or-pos (gray i))
+    ⊎-elim (λ (e : gray i ≡ 0). omega (arith, gray-injective i 0 (e ∙ sym gray-zero)))
+    (λ (l : 0 < gray i). l)
+    (eq-zero-or-pos (gray i))
 
 gray-of-digits : (j i g : ℕ) → j / 2 ≡ i → j % 2 ≡ unlike (g % 2) (i % 2) → gray i ≡ g / 2 → gray j ≡ g
 gray-of-digits j i g half low e =
@@ -169,7 +173,12 @@ gray-onto (suc k) g h = next (gray-onto k (g / 2) (omega arith))
 pub changed-below : (k w i : ℕ) → i + 1 < 2 ^ k → i + 1 < 2 ^ w → trailingZeros w (i + 1) < k
 changed-below k w i below fits =
     let z : ℕ = trailingZeros w (i + 1) in
-    by-cases (decLt z k) (λ (l : z < k). l)
-    (λ l.
-    omega
-    (arith, gray-changed w i fits, bit-high (gray i) k z (gray-below k i (omega arith)) (omega arith), bit-high (gray (i + 1)) k z (gray-below k (i + 1) below) (omega arith)))
+    ⊎-elim (λ (l : z < k). l)
+    (λ (l : k ≤ z).
+    omega (
+      arith,
+      gray-changed w i fits,
+      bit-high (gray i) k z (gray-below k i (omega arith)) l,
+      bit-high (gray (i + 1)) k z (gray-below k (i + 1) below) l,
+    ))
+    (lt-or-le z k)

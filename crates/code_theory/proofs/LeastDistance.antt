@@ -1,5 +1,5 @@
 -- D is the least distance of two different codewords. The exclusive-or of two codewords is a codeword, whose weight is their
--- distance, and a nonzero one has weight D at least. So the radius, below half of D, leaves one codeword at most near a chunk.
+-- distance, and a nonzero one has weight D at least. So at most one codeword lies within the radius, less than half of D, of a chunk.
 -- Assumes nothing.
 use mathlib.Core.Path.{_≡_, sym, ap, _∙_}
 use mathlib.Core.Logic.{_⊎_, inl, inr, ⊎-elim}
@@ -10,14 +10,14 @@ use lib.Bits.{bitXor, xor-lt}
 use lib.Pow.{pow-mono, lt-of-le-ones, le-ones}
 use Rattle.bits.specs.Sums.{distance}
 use Rattle.bits.specs.Places.{bit, weight}
-use Rattle.bits.proofs.Binary.{weight-le, weight-xor, eq-of-xor-zero}
-use Rattle.bits.proofs.Distance.{distance-comm, distance-self, distance-triangle}
 use Rattle.bits.proofs.Numbers.{eq-or-ne}
+use Rattle.bits.proofs.Distance.{distance-comm, distance-self, distance-triangle}
+use Rattle.bits.proofs.Binary.{weight-le, weight-xor, eq-of-xor-zero}
 use Rattle.model.specs.Card.{Code, sumOfRows, leastWeight, radius}
 use Rattle.model.specs.Order.{gray, codeword, lastCodeword}
 use Rattle.model.specs.Reading.{chunkDistance}
-use Rattle.code_theory.specs.Promise.{Sound}
 use Rattle.code_theory.specs.LeastDistance.{LeastDistance, codewordDistance}
+use Rattle.code_theory.specs.Promise.{Sound}
 use Rattle.code_theory.proofs.Gray.{gray-below, gray-positive, gray-injective, gray-onto}
 use Rattle.code_theory.proofs.Codewords.{rows-linear, rows-below, codeword-zero}
 use Rattle.code_theory.proofs.LeastWeight.{least-high, least-le, least-some, least-positive}
@@ -88,7 +88,7 @@ module _ (C : Code) (S : Sound C) where
       sym (weight-xor (C .n) (codeword C i) (codeword C j))
       ∙ ap (weight (C .n)) (sym (rows-linear (C .row) (C .k) (gray i) (gray j)))
 
-  -- codewords of different numbers differ in at least D places
+  -- so codewords of different numbers differ in at least D places
   pub codewords-apart : (i j : ℕ) → i ≤ lastCodeword C → j ≤ lastCodeword C → (i ≡ j → ⊥) → C .D ≤ codewordDistance C i j
   codewords-apart i j li lj ne =
       let g : ℕ = bitXor (gray i) (gray j) in
@@ -99,20 +99,19 @@ module _ (C : Code) (S : Sound C) where
       (xor-lt (C .k) (gray i) (gray j) (gray-below (C .k) i (below i li)) (gray-below (C .k) j (below j lj))))
       (eq-zero-or-pos g))
 
+  -- so codewords that differ in fewer than D places are one
+  same-if-nearer : (i j : ℕ) → i ≤ lastCodeword C → j ≤ lastCodeword C → codewordDistance C i j < C .D → i ≡ j
+  same-if-nearer i j li lj near =
+      ⊎-elim (λ (e : i ≡ j). e) (λ (ne : i ≡ j → ⊥). omega (arith, codewords-apart i j li lj ne)) (eq-or-ne i j)
+
   pub least-distance : LeastDistance C
   least-distance = record { different = different; apart = codewords-apart; attained = attained codeword-lightest }
     where
       different : (i j : ℕ) → i ≤ lastCodeword C → j ≤ lastCodeword C → codeword C i ≡ codeword C j → i ≡ j
       different i j li lj e =
-          ⊎-elim (λ (same : i ≡ j). same)
-          (λ (ne : i ≡ j → ⊥).
-          omega (
-            arith,
-            D-low,
-            codewords-apart i j li lj ne,
-            ap (λ (c : ℕ). distance (C .n) (bit c) (bit (codeword C j))) e ∙ distance-self (C .n) (bit (codeword C j)),
-          ))
-          (eq-or-ne i j)
+          let none : codewordDistance C i j ≡ 0 =
+          ap (λ (c : ℕ). distance (C .n) (bit c) (bit (codeword C j))) e ∙ distance-self (C .n) (bit (codeword C j)) in
+          same-if-nearer i j li lj (omega (arith, D-low))
 
       attained : Lightest
           → (i : ℕ) × (j : ℕ) × (i ≤ lastCodeword C) × (j ≤ lastCodeword C) × (i ≡ j → ⊥) × (codewordDistance C i j ≡ C .D)
@@ -132,13 +131,10 @@ module _ (C : Code) (S : Sound C) where
       → chunkDistance C x i ≤ radius C → chunkDistance C x j ≤ radius C → i ≡ j
   unfolding chunkDistance
   one-within-radius x i j li lj hi hj =
-      ⊎-elim (λ (e : i ≡ j). e)
-      (λ (ne : i ≡ j → ⊥).
-      omega (
+      same-if-nearer i j li lj
+      (omega (
         arith,
         D-low,
-        codewords-apart i j li lj ne,
         distance-triangle (C .n) (bit (codeword C i)) x (bit (codeword C j)),
         distance-comm (C .n) x (bit (codeword C j)),
       ))
-      (eq-or-ne i j)

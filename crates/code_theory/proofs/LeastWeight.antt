@@ -1,59 +1,46 @@
--- The least weight of a nonzero codeword, and the least weight met on the way through the Gray order. Each is known by two
--- facts: no weight is below it, and it is some weight, or n. The Gray order meets every nonzero set of rows, so the two agree
--- where the rows are independent; where they are not, the order meets weight 0. Assumes nothing.
-use mathlib.Core.Path.{_≡_, refl, sym, ap, _∙_}
-use mathlib.Core.Bool.{true, false}
+-- The least weight of a nonzero codeword is known by two facts: no nonzero codeword's weight is below it, and it is the weight of
+-- one, or n. Assumes nothing.
+use mathlib.Core.Path.{_≡_, refl, _∙_}
 use mathlib.Core.Logic.{_⊎_, inl, inr, ⊎-elim}
-use Prim.Native.Nat.{ℕ, zero, suc, _+_, _-_, _^_, _≤_, _<_, min}
-use native.Mathlib.Nat.{le-antisymm, eq-zero-or-pos}
-use native.Mathlib.Numerals.{add-one}
+use Prim.Native.Nat.{ℕ, zero, suc, _^_, _≤_, _<_, min}
+use native.Mathlib.Nat.{eq-zero-or-pos}
 use native.Mathlib.Omega.{arith}
-use borrow.Author.Tests.{eq-eqb, ne-eqb, eqb-false}
-use lib.Dec.{eqb}
-use lib.Pow.{suc-ones, lt-of-le-ones, le-ones}
+use borrow.Author.Tests.{eq-eqb, ne-eqb}
 use Rattle.bits.specs.Places.{weight}
-use Rattle.bits.proofs.Binary.{weight-zero, zero-of-weight}
 use Rattle.bits.proofs.Numbers.{lt-or-le, eq-or-ne}
-use Rattle.bits.proofs.Numbers.{true-or-false}
-use Rattle.bits.proofs.Searches.{any-none, none-of-any}
-use Rattle.model.specs.Card.{sumOfRows, leastWeight, dependent}
-use Rattle.model.specs.Order.{gray}
-use Rattle.code_theory.specs.LeastDistance.{leastInOrder}
-use Rattle.code_theory.proofs.Gray.{gray-zero, gray-below, gray-positive, gray-onto}
-use Rattle.code_theory.proofs.Codewords.{rows-start, rows-below}
-
--- ---- the least weight of a nonzero codeword
+use Rattle.bits.proofs.Binary.{zero-of-weight}
+use Rattle.model.specs.Card.{leastWeight}
 
 module _ (n : ℕ) (word : ℕ → ℕ) where
-  -- one word more: a zero is passed over, any other is compared
-  passed : (g : ℕ) → word g ≡ 0 → leastWeight n word (suc g) ≡ leastWeight n word g
+  -- one word more: a zero is least-passed over, any other is least-compared
+  pub least-passed : (g : ℕ) → word g ≡ 0 → leastWeight n word (suc g) ≡ leastWeight n word g
   unfolding leastWeight
-  passed g e = rw (eq-eqb (word g) 0 e)
+  least-passed g e = rw (eq-eqb (word g) 0 e)
 
-  compared : (g : ℕ) → (word g ≡ 0 → ⊥) → leastWeight n word (suc g) ≡ min (weight n (word g)) (leastWeight n word g)
+  pub least-compared : (g : ℕ) → (word g ≡ 0 → ⊥) → leastWeight n word (suc g) ≡ min (weight n (word g)) (leastWeight n word g)
   unfolding leastWeight
-  compared g ne = rw (ne-eqb (word g) 0 ne)
+  least-compared g ne = rw (ne-eqb (word g) 0 ne)
 
   pub least-high : (m : ℕ) → leastWeight n word m ≤ n
   unfolding leastWeight
   least-high zero = omega arith
   least-high (suc g) =
       let before : leastWeight n word g ≤ n = least-high g in
-      ⊎-elim (λ e. rw (passed g e) before) (λ ne. rw (compared g ne) (omega arith)) (eq-or-ne (word g) 0)
+      ⊎-elim (λ e. rw (least-passed g e) before) (λ ne. rw (least-compared g ne) (omega arith)) (eq-or-ne (word g) 0)
 
   -- it is at most the weight of each nonzero codeword ...
   pub least-le : (m g : ℕ) → g < m → (word g ≡ 0 → ⊥) → leastWeight n word m ≤ weight n (word g)
   least-le zero g l ne = omega arith
   least-le (suc m) g l ne =
       ⊎-elim
-      (λ (e : g ≡ m). rw (← e, compared g ne) (omega arith))
+      (λ (e : g ≡ m). rw (← e, least-compared g ne) (omega arith))
       (λ (other : g ≡ m → ⊥).
       let before : leastWeight n word m ≤ weight n (word g) = least-le m g (omega arith) ne in
-      ⊎-elim (λ e. rw (passed m e) before) (λ ne′. rw (compared m ne′) (omega arith)) (eq-or-ne (word m) 0))
+      ⊎-elim (λ e. rw (least-passed m e) before) (λ ne′. rw (least-compared m ne′) (omega arith)) (eq-or-ne (word m) 0))
       (eq-or-ne g m)
 
   -- ... and the weight of one, or n
-  abbrev Attained : ℕ → Type 0
+  abbrev pub Attained : ℕ → Type 0
   Attained m = (g : ℕ) × (g < m) × (word g ≡ 0 → ⊥) × (leastWeight n word m ≡ weight n (word g))
 
   still : (m : ℕ) → leastWeight n word (suc m) ≡ leastWeight n word m → (leastWeight n word m ≡ n) ⊎ Attained m
@@ -65,9 +52,9 @@ module _ (n : ℕ) (word : ℕ → ℕ) where
   unfolding leastWeight
   least-some zero = inl refl
   least-some (suc m) =
-      ⊎-elim (λ (e : word m ≡ 0). still m (passed m e) (least-some m))
+      ⊎-elim (λ (e : word m ≡ 0). still m (least-passed m e) (least-some m))
       (λ (ne : word m ≡ 0 → ⊥).
-      let new : leastWeight n word (suc m) ≡ min (weight n (word m)) (leastWeight n word m) = compared m ne in
+      let new : leastWeight n word (suc m) ≡ min (weight n (word m)) (leastWeight n word m) = least-compared m ne in
       ⊎-elim (λ (l : weight n (word m) < leastWeight n word m). inr (m, omega arith, ne, omega arith))
       (λ (l : leastWeight n word m ≤ weight n (word m)). still m (omega arith) (least-some m))
       (lt-or-le (weight n (word m)) (leastWeight n word m)))
@@ -83,147 +70,3 @@ module _ (n : ℕ) (word : ℕ → ℕ) where
           ⊎-elim (λ (z : weight n (word g) ≡ 0). absurd (ne (zero-of-weight n (word g) (below g) z)))
           (λ (p : 0 < weight n (word g)). omega arith)
           (eq-zero-or-pos (weight n (word g)))
-
--- ---- independence
-
-module _ (k : ℕ) (row : ℕ → ℕ) where
-  -- the test of a card's rows says whether some nonempty set of them sums to zero
-  pub independent-of-test : dependent k row ≡ false → (g : ℕ) → 0 < g → g < 2 ^ k → sumOfRows row k g ≡ 0 → ⊥
-  unfolding dependent
-  independent-of-test test g pos below e =
-      eqb-false (sumOfRows row k (g - 1 + 1)) 0
-      (none-of-any (λ h. eqb (sumOfRows row k (h + 1)) 0) (2 ^ k - 1) test (g - 1) (omega arith))
-      (ap (sumOfRows row k) (omega arith) ∙ e)
-
-  pub test-of-independent : ((g : ℕ) → 0 < g → g < 2 ^ k → sumOfRows row k g ≡ 0 → ⊥) → dependent k row ≡ false
-  unfolding dependent
-  test-of-independent free =
-      any-none (λ h. eqb (sumOfRows row k (h + 1)) 0) (2 ^ k - 1)
-      (λ g l. ne-eqb (sumOfRows row k (g + 1)) 0 (free (g + 1) (omega arith) (omega arith)))
-
--- ---- the Gray order
-
-module _ (n k : ℕ) (row : ℕ → ℕ) where
-  -- c(i) of the code that the rows give
-  abbrev c : ℕ → ℕ
-  c i = sumOfRows row k (gray i)
-
-  -- one codeword more
-  pub order-next : (i : ℕ) → leastInOrder n k row (i + 1) ≡ min (leastInOrder n k row i) (weight n (c (i + 1)))
-  unfolding leastInOrder
-  order-next i = rw (add-one i)
-
-  -- a codeword that is zero brings the least to 0 ...
-  order-meets-zero : (m i : ℕ) → 0 < i → i ≤ m → c i ≡ 0 → leastInOrder n k row m ≡ 0
-  unfolding leastInOrder
-  order-meets-zero zero i pos l e = omega arith
-  order-meets-zero (suc m) i pos l e =
-      ⊎-elim
-      (λ (last : i ≡ suc m).
-      let none : weight n (c (suc m)) ≡ 0 = ap (λ (j : ℕ). weight n (c j)) (sym last) ∙ ap (weight n) e ∙ weight-zero n in
-      omega arith)
-      (λ (other : i ≡ suc m → ⊥).
-      let before : leastInOrder n k row m ≡ 0 = order-meets-zero m i pos (omega arith) e in omega arith)
-      (eq-or-ne i (suc m))
-
-  -- ... and where there is none, the least in order is the least weight of the codewords in order
-  order-is-least : (m : ℕ) → ((i : ℕ) → 0 < i → i ≤ m → c i ≡ 0 → ⊥) → leastInOrder n k row m ≡ leastWeight n c (suc m)
-  unfolding leastInOrder leastWeight
-  order-is-least zero ne = sym (passed n c 0 (rows-start row k))
-  order-is-least (suc m) ne =
-      let before : leastInOrder n k row m ≡ leastWeight n c (suc m) = order-is-least m (λ i pos l. ne i pos (omega arith)) in
-      let new : leastWeight n c (suc (suc m)) ≡ min (weight n (c (suc m))) (leastWeight n c (suc m)) =
-      compared n c (suc m) (ne (suc m) (omega arith) (omega arith)) in
-      omega arith
-
-  -- the Gray order meets each set of rows once, so the order of the codewords does not matter
-  in-any-order : leastWeight n c (2 ^ k) ≡ leastWeight n (sumOfRows row k) (2 ^ k)
-  in-any-order =
-      le-antisymm (low (least-some n (sumOfRows row k) (2 ^ k))) (high (least-some n c (2 ^ k)))
-    where
-      low : (leastWeight n (sumOfRows row k) (2 ^ k) ≡ n) ⊎ Attained n (sumOfRows row k) (2 ^ k)
-          → leastWeight n c (2 ^ k) ≤ leastWeight n (sumOfRows row k) (2 ^ k)
-      low (inl e) = rw e (least-high n c (2 ^ k))
-      low (inr (g, l, ne, e)) = met (gray-onto k g l)
-        where
-          met : (i : ℕ) × (i < 2 ^ k) × (gray i ≡ g) → leastWeight n c (2 ^ k) ≤ leastWeight n (sumOfRows row k) (2 ^ k)
-          met (i, below, is-g) =
-              let same : c i ≡ sumOfRows row k g = ap (sumOfRows row k) is-g in
-              rw (e, ← same) (least-le n c (2 ^ k) i below (λ z. ne (sym same ∙ z)))
-
-      high : (leastWeight n c (2 ^ k) ≡ n) ⊎ Attained n c (2 ^ k)
-          → leastWeight n (sumOfRows row k) (2 ^ k) ≤ leastWeight n c (2 ^ k)
-      high (inl e) = rw e (least-high n (sumOfRows row k) (2 ^ k))
-      high (inr (i, l, ne, e)) = rw e (least-le n (sumOfRows row k) (2 ^ k) (gray i) (gray-below k i l) ne)
-
-  -- independent rows: the least in order is the least weight of a nonzero codeword
-  pub least-of-order : dependent k row ≡ false
-      → leastInOrder n k row (2 ^ k - 1) ≡ leastWeight n (sumOfRows row k) (2 ^ k)
-  least-of-order test =
-      order-is-least (2 ^ k - 1)
-      (λ i pos l.
-      independent-of-test k row test (gray i) (gray-positive i pos) (gray-below k i (lt-of-le-ones k l)))
-      ∙ ap (leastWeight n c) (suc-ones k) ∙ in-any-order
-
-  -- a least above 0 shows that the rows are independent
-  pub independent-of-order : 0 < leastInOrder n k row (2 ^ k - 1) → dependent k row ≡ false
-  independent-of-order pos = test-of-independent k row (λ g low high e. met g low e (gray-onto k g high))
-    where
-      met : (g : ℕ) → 0 < g → sumOfRows row k g ≡ 0 → (i : ℕ) × (i < 2 ^ k) × (gray i ≡ g) → ⊥
-      met g low e (i, below, is-g) =
-          ⊎-elim (λ (z : i ≡ 0). omega (arith, ap gray z ∙ gray-zero))
-          (λ (up : 0 < i).
-          omega (arith, order-meets-zero (2 ^ k - 1) i up (le-ones k below) (ap (sumOfRows row k) is-g ∙ e)))
-          (eq-zero-or-pos i)
-
-  -- a least of 0 shows that they are dependent
-  pub dependent-of-order : 1 ≤ n → ((z : ℕ) → z < k → row z < 2 ^ n) → leastInOrder n k row (2 ^ k - 1) ≡ 0
-      → dependent k row ≡ true
-  dependent-of-order hn narrow e =
-      ⊎-elim (λ (test : dependent k row ≡ true). test)
-      (λ (test : dependent k row ≡ false).
-      absurd (omega
-      (arith, least-of-order test, least-positive n (sumOfRows row k) hn (λ g. rows-below n row k g narrow) (2 ^ k))))
-      (true-or-false (dependent k row))
-
-  -- the least in order is at most n and each weight met, and no number that is so is above it
-  order-high : (m : ℕ) → leastInOrder n k row m ≤ n
-  unfolding leastInOrder
-  order-high zero = omega arith
-  order-high (suc m) = omega (arith, order-high m)
-
-  order-le : (m i : ℕ) → 0 < i → i ≤ m → leastInOrder n k row m ≤ weight n (c i)
-  unfolding leastInOrder
-  order-le zero i pos l = omega arith
-  order-le (suc m) i pos l =
-      ⊎-elim (λ (last : i ≡ suc m). rw last (omega arith))
-      (λ (other : i ≡ suc m → ⊥).
-      let before : leastInOrder n k row m ≤ weight n (c i) = order-le m i pos (omega arith) in omega arith)
-      (eq-or-ne i (suc m))
-
-  order-greatest : (m b : ℕ) → b ≤ n → ((i : ℕ) → 0 < i → i ≤ m → b ≤ weight n (c i)) → b ≤ leastInOrder n k row m
-  unfolding leastInOrder
-  order-greatest zero b high le = high
-  order-greatest (suc m) b high le =
-      let before : b ≤ leastInOrder n k row m = order-greatest m b high (λ i pos l. le i pos (omega arith)) in
-      let last : b ≤ weight n (c (suc m)) = le (suc m) (omega arith) (omega arith) in
-      omega arith
-
-  -- b is at most the weight of each nonempty set of rows
-  abbrev pub AtMostEach : ℕ → Type 0
-  AtMostEach b = (g : ℕ) → 0 < g → g < 2 ^ k → b ≤ weight n (sumOfRows row k g)
-
-  -- the greatest number that is at most n and the weight of each nonempty set of rows is the least in order
-  pub order-of-sets : (least : ℕ) → least ≤ n → AtMostEach least → ((b : ℕ) → b ≤ n → AtMostEach b → b ≤ least)
-      → least ≡ leastInOrder n k row (2 ^ k - 1)
-  order-of-sets least high le greatest =
-      le-antisymm
-      (order-greatest (2 ^ k - 1) least high
-      (λ i pos l. le (gray i) (gray-positive i pos) (gray-below k i (lt-of-le-ones k l))))
-      (greatest (leastInOrder n k row (2 ^ k - 1)) (order-high (2 ^ k - 1)) (λ g low below. met g low (gray-onto k g below)))
-    where
-      met : (g : ℕ) → 0 < g → (i : ℕ) × (i < 2 ^ k) × (gray i ≡ g) → leastInOrder n k row (2 ^ k - 1) ≤ weight n (sumOfRows row k g)
-      met g low (i, below, is-g) =
-          ⊎-elim (λ (z : i ≡ 0). omega (arith, ap gray z ∙ gray-zero))
-          (λ (up : 0 < i). rw (← is-g) (order-le (2 ^ k - 1) i up (le-ones k below)))
-          (eq-zero-or-pos i)

@@ -1,9 +1,10 @@
 pub mod TrailingZeros
 pub mod Gray
 pub mod Codewords
+pub mod SoundCard
 pub mod LeastWeight
+pub mod LeastInOrder
 pub mod LeastDistance
 pub mod Starts
 pub mod ChunkReading
 pub mod Promise
-pub mod SoundCard

@@ -1,19 +1,18 @@
--- A card that no refusal holds of gives a sound code: each refusal's test is false, and says what it tested.
+-- A card of which no refusal holds gives a sound code: the test of each refusal is false, so what it tests for is not so.
 -- Assumes nothing.
-use mathlib.Core.Path.{_≡_, refl}
+use mathlib.Core.Path.{_≡_, refl, ap, _∙_}
 use mathlib.Core.Bool.{Bool, true, false, cond, not, _&&_, _||_, false≢true}
 use mathlib.Core.List.{List}
-use Prim.Native.Nat.{ℕ, suc, _^_, _≤_, _<_}
+use Prim.Native.Nat.{ℕ, suc, _+_, _-_, _^_, _≤_, _<_}
 use native.Mathlib.Omega.{arith}
-use borrow.Author.Tests.{leb-true, leb-false, eqb-true, not-false, le-leb}
 use lib.Dec.{leb, eqb}
 use lib.ListN.{length}
+use borrow.Author.Tests.{leb-true, leb-false, le-leb, eqb-true, eqb-false, ne-eqb, not-false}
 use Rattle.bits.proofs.Numbers.{or-false-left, or-false-right}
-use Rattle.bits.proofs.Searches.{none-of-any}
-use Rattle.model.specs.Card.{cardRefusal, misplaced, codeOf, codeWith, withinLimits, rowTooWide, unusedRowSet, unusedByteSet, dependent, lengthOf, rowsOf, rowOf, storedCheck, computedCheck}
+use Rattle.bits.proofs.Searches.{any-none, none-of-any}
+use Rattle.model.specs.Card.{lengthOf, rowCountOf, rowOf, storedCheck, computedCheck, sumOfRows, codeOf}
+use Rattle.model.specs.Card.{withinLimits, rowTooWide, unusedRowSet, unusedByteSet, misplaced, dependent, cardRefusal, SoundCard}
 use Rattle.code_theory.specs.Promise.{Sound}
-use Rattle.code_theory.specs.CardTests.{CardTests}
-use Rattle.code_theory.proofs.LeastWeight.{independent-of-test}
 
 -- ---- tests taken apart
 
@@ -25,7 +24,7 @@ both-right : (s t : Bool) → (s && t) ≡ true → t ≡ true
 both-right true t e = e
 both-right false t e = absurd (false≢true e)
 
--- a refusal whose number is not the answer does not hold, and the answer is that of the refusals below it
+-- where the answer is 0, the first refusal does not hold, and the answer of those below it is 0
 not-this : (t : Bool) (number below : ℕ) → cond t (suc number) below ≡ 0 → t ≡ false
 not-this true number below e = absurd (omega arith)
 not-this false number below e = refl
@@ -34,7 +33,7 @@ the-rest : (t : Bool) (number below : ℕ) → cond t (suc number) below ≡ 0 �
 the-rest true number below e = omega arith
 the-rest false number below e = e
 
--- the answer of five refusals, by their tests
+-- the first of refusals 1 to 5 whose test holds, or 0
 abbrev firstOfFive : (s t u v w : Bool) → ℕ
 firstOfFive s t u v w = cond s 1 (cond t 2 (cond u 3 (cond v 4 (cond w 5 0))))
 
@@ -74,32 +73,41 @@ unused-of-test k row e z h l =
     none-of-any (λ y. leb k y && not (eqb (row y) 0)) 12 e z l in
     eqb-true (row z) 0 (not-false _ (rw (le-leb k z h) at test))
 
+pub independent-of-test : (k : ℕ) (row : ℕ → ℕ) → dependent k row ≡ false
+    → (g : ℕ) → 0 < g → g < 2 ^ k → sumOfRows row k g ≡ 0 → ⊥
+unfolding dependent
+independent-of-test k row test g pos below e =
+    eqb-false (sumOfRows row k (g - 1 + 1)) 0
+    (none-of-any (λ h. eqb (sumOfRows row k (h + 1)) 0) (2 ^ k - 1) test (g - 1) (omega arith))
+    (ap (sumOfRows row k) (omega arith) ∙ e)
+
+pub test-of-independent : (k : ℕ) (row : ℕ → ℕ) → ((g : ℕ) → 0 < g → g < 2 ^ k → sumOfRows row k g ≡ 0 → ⊥)
+    → dependent k row ≡ false
+unfolding dependent
+test-of-independent k row independent =
+    any-none (λ h. eqb (sumOfRows row k (h + 1)) 0) (2 ^ k - 1)
+    (λ g l. ne-eqb (sumOfRows row k (g + 1)) 0 (independent (g + 1) (omega arith) (omega arith)))
+
 -- ---- a sound card
 
-pub sound-code : (n k : ℕ) (row : ℕ → ℕ) → withinLimits n k ≡ true → rowTooWide n row ≡ false → unusedRowSet k row ≡ false
-    → dependent k row ≡ false → Sound (codeWith n k row)
-sound-code n k row limits narrow unused independent =
-    let within = limits-of-test n k limits in
-    record {
-      n-low = within .0;
-      n-high = within .1;
-      k-low = within .2;
-      k-high = within .3;
-      k-n = within .4;
-      narrow = narrow-of-test n row narrow;
-      unused = unused-of-test k row unused;
-      independent = independent-of-test k row independent;
-      least = refl;
-    }
+-- what refusals 1 to 5 test, as facts of a card of which none holds
+pub record CardTests (b : List ℕ) : Type 0 where
+  pub size : length b ≡ 512
+  pub check : storedCheck b ≡ computedCheck b
+  pub limits : withinLimits (lengthOf b) (rowCountOf b) ≡ true
+  pub rows-narrow : rowTooWide (lengthOf b) (rowOf b) ≡ false
+  pub rows-unused : unusedRowSet (rowCountOf b) (rowOf b) ≡ false
+  pub bytes-unused : unusedByteSet b ≡ false
+  pub rows-independent : dependent (rowCountOf b) (rowOf b) ≡ false
 
-pub card-tests : (b : List ℕ) → cardRefusal b ≡ 0 → CardTests b
+pub card-tests : (b : List ℕ) → SoundCard b → CardTests b
 unfolding cardRefusal misplaced
 card-tests b e =
     let wide : Bool = rowTooWide (lengthOf b) (rowOf b) in
-    let unused : Bool = unusedRowSet (rowsOf b) (rowOf b) in
+    let unused : Bool = unusedRowSet (rowCountOf b) (rowOf b) in
     let none =
-    none-of-five (not (eqb (length b) 512)) (not (eqb (storedCheck b) (computedCheck b))) (not (withinLimits (lengthOf b) (rowsOf b)))
-    (misplaced b) (dependent (rowsOf b) (rowOf b)) e in
+    none-of-five (not (eqb (length b) 512)) (not (eqb (storedCheck b) (computedCheck b))) (not (withinLimits (lengthOf b) (rowCountOf b)))
+    (misplaced b) (dependent (rowCountOf b) (rowOf b)) e in
     record {
       size = eqb-true _ _ (not-false _ (none .0));
       check = eqb-true _ _ (not-false _ (none .1));
@@ -110,8 +118,19 @@ card-tests b e =
       rows-independent = none .4;
     }
 
-pub sound-card : (b : List ℕ) → cardRefusal b ≡ 0 → Sound (codeOf b)
+pub sound-card : (b : List ℕ) → SoundCard b → Sound (codeOf b)
 unfolding codeOf
 sound-card b e =
     let tests : CardTests b = card-tests b e in
-    sound-code (lengthOf b) (rowsOf b) (rowOf b) (tests .limits) (tests .rows-narrow) (tests .rows-unused) (tests .rows-independent)
+    let within = limits-of-test (lengthOf b) (rowCountOf b) (tests .limits) in
+    record {
+      n-low = within .0;
+      n-high = within .1;
+      k-low = within .2;
+      k-high = within .3;
+      k-n = within .4;
+      narrow = narrow-of-test (lengthOf b) (rowOf b) (tests .rows-narrow);
+      unused = unused-of-test (rowCountOf b) (rowOf b) (tests .rows-unused);
+      independent = independent-of-test (rowCountOf b) (rowOf b) (tests .rows-independent);
+      least = refl;
+    }

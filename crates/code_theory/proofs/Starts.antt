@@ -2,18 +2,15 @@
 -- (i + 2^z) / 2^(z+1), by one, and that is for just one z, the count of trailing zeros of i + 1. And a crude bound on
 -- every start, for sums that must fit. Assumes nothing.
 use mathlib.Core.Path.{_≡_, refl, sym, ap, _∙_}
-use mathlib.Core.Logic.{⊎-elim}
 use Prim.Native.Nat.{ℕ, zero, suc, _+_, _*_, _/_, _^_, _≤_, _<_}
 use native.Mathlib.Nat.{suc-add, zero-add, mul-zero, lt-suc-self, pow-succ', div-eq-of-lt, div-div-eq-div-mul}
 use native.Mathlib.Numerals.{add-one}
 use native.Mathlib.Omega.{arith}
 use lib.Count.{trailingZeros}
 use lib.Pow.{pow-mono, pow-lt}
-use Rattle.bits.specs.Sums.{sumBelow}
 use Rattle.bits.specs.Places.{weight}
+use Rattle.bits.proofs.Sums.{sum-zero, sum-one-place}
 use Rattle.bits.proofs.Binary.{weight-le}
-use Rattle.bits.proofs.Sums.{sum-ext, sum-zero}
-use Rattle.bits.proofs.Numbers.{eq-or-ne}
 use Rattle.model.specs.Card.{Code}
 use Rattle.model.specs.Order.{lastCodeword, changedRow, changedWeight, blockLength, start, lastPosition}
 use Rattle.code_theory.specs.Promise.{Sound}
@@ -57,19 +54,6 @@ times-kept = trailing-zeros-ind (λ y i. (z : ℕ) → (z ≡ y → ⊥) → tim
     even y i half ih zero ne = omega arith
     even y i half ih (suc z) ne = rw (times-half z (i + 1), times-half z i, half) (ih z (λ e. ne (ap suc e)))
 
--- two sums that differ in one value
-sum-changed : (f g : ℕ → ℕ) (d y c : ℕ) → y < d → f y ≡ g y + c → ((z : ℕ) → (z ≡ y → ⊥) → f z ≡ g z) → sumBelow f d ≡ sumBelow g d + c
-unfolding sumBelow
-sum-changed f g zero y c l e same = omega arith
-sum-changed f g (suc d) y c l e same =
-    ⊎-elim
-    (λ (last : y ≡ d).
-    let top : f d ≡ g d + c = rw (← last) e in
-    let before : sumBelow f d ≡ sumBelow g d = sum-ext d (λ p b. same p (omega arith)) in omega arith)
-    (λ (ne : y ≡ d → ⊥).
-    omega (arith, sum-changed f g d y c (omega arith) e same, same d (λ e′. ne (sym e′))))
-    (eq-or-ne y d)
-
 -- ---- the starts
 
 pub start-zero : (C : Code) → start C 0 ≡ 0
@@ -85,11 +69,12 @@ start-next C i within =
     let fits : i + 1 < 2 ^ C .k = omega arith in
     let is-y : y ≡ trailingZeros (C .k) (i + 1) = changed-row C i within (C .k) fits in
     let once : times y (i + 1) ≡ times y i + 1 = rw is-y (times-next (C .k) i fits) in
-    let more : sumBelow (λ z. W z * times z (i + 1)) (C .k) ≡ sumBelow (λ z. W z * times z i) (C .k) + W y =
-    sum-changed (λ z. W z * times z (i + 1)) (λ z. W z * times z i) (C .k) y (W y) (changed-row-below C i within)
-    (rw once (omega arith))
-    (λ z ne. ap (λ (t : ℕ). W z * t) (times-kept (C .k) i fits z (λ e. ne (e ∙ sym is-y)))) in
-    omega arith
+    let more : W y * times y (i + 1) ≡ W y * times y i + W y = rw once (omega arith) in
+    omega (
+      arith,
+      sum-one-place (λ z. W z * times z (i + 1)) (λ z. W z * times z i) (C .k) y (changed-row-below C i within)
+          (λ z b ne. ap (λ (t : ℕ). W z * t) (times-kept (C .k) i fits z (λ e. ne (e ∙ sym is-y)))),
+    )
 
 -- ---- bounds
 

@@ -1,14 +1,13 @@
--- What "the least distance of the code" means, and the least weight as it is met on the way through the Gray order.
--- Assumes nothing.
+-- What "D, the least distance of the code" means. Assumes nothing.
 use mathlib.Core.Path.{_≡_}
-use Prim.Native.Nat.{ℕ, zero, suc, _≤_, min}
+use Prim.Native.Nat.{ℕ, _≤_}
 use Rattle.bits.specs.Sums.{distance}
-use Rattle.bits.specs.Places.{bit, weight}
-use Rattle.model.specs.Card.{Code, sumOfRows}
-use Rattle.model.specs.Order.{gray, codeword, lastCodeword}
+use Rattle.bits.specs.Places.{bit}
+use Rattle.model.specs.Card.{Code}
+use Rattle.model.specs.Order.{codeword, lastCodeword}
 
 -- in how many places c(i) and c(j) differ
-abbrev pub codewordDistance : Code → ℕ → ℕ → ℕ
+abbrev pub codewordDistance : Code → (i j : ℕ) → ℕ
 codewordDistance C i j = distance (C .n) (bit (codeword C i)) (bit (codeword C j))
 
 -- D is the least distance of two different codewords: codewords of different numbers are different words, any two of them
@@ -17,9 +16,3 @@ pub record LeastDistance (C : Code) : Type 0 where
   pub different : (i j : ℕ) → i ≤ lastCodeword C → j ≤ lastCodeword C → codeword C i ≡ codeword C j → i ≡ j
   pub apart : (i j : ℕ) → i ≤ lastCodeword C → j ≤ lastCodeword C → (i ≡ j → ⊥) → C .D ≤ codewordDistance C i j
   pub attained : (i : ℕ) × (j : ℕ) × (i ≤ lastCodeword C) × (j ≤ lastCodeword C) × (i ≡ j → ⊥) × (codewordDistance C i j ≡ C .D)
-
--- the least of the weights of the codewords c(1), …, c(i) of n places that k rows give; n where there is none
-unfoldable pub leastInOrder : (n k : ℕ) (row : ℕ → ℕ) → ℕ → ℕ
-leastInOrder n k row zero = n
-leastInOrder n k row (suc i) =
-    let before = leastInOrder n k row i in min before (weight n (sumOfRows row k (gray (suc i))))

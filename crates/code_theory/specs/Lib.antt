@@ -1,3 +1,3 @@
-pub mod Promise
 pub mod LeastDistance
-pub mod CardTests
+pub mod LeastInOrder
+pub mod Promise

@@ -1,16 +1,15 @@
--- What is known of a sound card's code, and what the position code may know of it: the chunk promise.
+-- What is known of a sound card's code, and the chunk promise: what the theory of words and reading may know of it.
 -- Assumes nothing.
 use mathlib.Core.Path.{_≡_}
 use Prim.Native.Nat.{ℕ, _+_, _^_, _≤_, _<_}
-use Rattle.bits.specs.Sums.{distance}
-use Rattle.bits.specs.Places.{bit}
 use Rattle.model.specs.Card.{Code, sumOfRows, leastWeight, radius}
-use Rattle.model.specs.Order.{codeword, lastCodeword, changedWeight, blockLength, start}
+use Rattle.model.specs.Order.{lastCodeword, changedWeight, blockLength, start}
 use Rattle.model.specs.Reading.{chunkDistance, chunkReading}
 use Rattle.model.specs.declared.Chunk.{Chunk}
 use Rattle.model.specs.declared.Chunk.the-variants.{Codeword}
+use Rattle.code_theory.specs.LeastDistance.{codewordDistance}
 
--- a code that a sound card gives: within the card's limits, no row wider than n, rows independent, D the least weight
+-- a code that a sound card gives: within the card's limits, no row wider than n, unused rows zero, rows independent, D the least weight
 pub record Sound (C : Code) : Type 0 where
   pub n-low : 1 ≤ C .n
   pub n-high : C .n ≤ 64
@@ -24,14 +23,15 @@ pub record Sound (C : Code) : Type 0 where
 
 -- What a reader of code chunks promises, whatever its search. Two readers that promise it answer alike (`readers-agree`).
 pub record ReadsChunks (C : Code) (read : (ℕ → ℕ) → Chunk) : Type 0 where
-  -- a chunk within the radius of c(p) reads p, in the count of places in which they differ
+  -- a chunk within the radius of c(p) reads p, with the count of places in which the two differ
   pub reads : (x : ℕ → ℕ) (p : ℕ) → p ≤ lastCodeword C → chunkDistance C x p ≤ radius C
       → read x ≡ Codeword p (chunkDistance C x p)
-  -- a chunk that reads p lies within the radius of c(p), a codeword of the code, and the count is as answered
+  -- a chunk that reads p lies within the radius of c(p), a codeword of the code, and the count is theirs
   pub within : (x : ℕ → ℕ) (p e : ℕ) → read x ≡ Codeword p e
       → (p ≤ lastCodeword C) × (e ≡ chunkDistance C x p) × (e ≤ radius C)
 
--- The chunk promise: all that the position theory knows of the chunk code and its order
+-- The chunk promise: all that the laws of words and reading know of the code and its order (only the bounds on the size of numbers,
+-- which code needs, go by the card's limits)
 pub record ChunkPromise (C : Code) : Type 0 where
   pub D-pos : 1 ≤ C .D
   pub chunks : ReadsChunks C (chunkReading C)
@@ -39,5 +39,4 @@ pub record ChunkPromise (C : Code) : Type 0 where
   pub start-zero : start C 0 ≡ 0
   pub start-next : (i : ℕ) → i < lastCodeword C → start C (i + 1) ≡ start C i + blockLength C i
   -- codewords that follow one another differ in A(i) places
-  pub step : (i : ℕ) → i < lastCodeword C
-      → distance (C .n) (bit (codeword C i)) (bit (codeword C (i + 1))) ≡ changedWeight C i
+  pub step : (i : ℕ) → i < lastCodeword C → codewordDistance C i (i + 1) ≡ changedWeight C i

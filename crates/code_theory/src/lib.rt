@@ -1,1 +1,1 @@
-// No code: what a sound card gives (specs/), and the laws of its code and order (proofs/).
+// No code: what is known of a sound card's code (specs/), and the laws of card, code, order and starts (proofs/).

@@ -1,8 +1,9 @@
 -- Document 01, "Where a call can be turned down": what each of the five public calls answers, for every list of bytes and
--- every number, the refusals in the table's order as far as the call has the thing. Assumes nothing.
-use Prim.Native.Nat.{ℕ, _+_, _-_, _*_}
+-- every number. The refusals stand in the table's order, as far as the call has the thing, and the first that holds is the
+-- answer. Assumes nothing.
 use mathlib.Core.Bool.{Bool, cond, not}
 use mathlib.Core.List.{List}
+use Prim.Native.Nat.{ℕ, _+_, _-_, _*_}
 use lib.Dec.{ltb, eqb}
 use lib.ListN.{length}
 use Rattle.bits.specs.Places.{bytesFor, place}
@@ -21,7 +22,7 @@ use Rattle.model.specs.declared.ReadAnswer.the-variants.{Refused as Read
 use Rattle.model.specs.declared.NumberAnswer.{NumberAnswer}
 use Rattle.model.specs.declared.NumberAnswer.the-variants.{Number, Refused as NumberRefused}
 
--- n, k, track, D, t, d and the last position
+-- what a sound card is answered with: n, k, track, D, t, d and the last position
 unfoldable pub summaryOf : List ℕ → CardSummary
 summaryOf b =
     let C : Code = codeOf b in
@@ -35,13 +36,15 @@ summaryOf b =
       last = lastPosition C;
     }
 
--- the bytes of a word of this code
+-- how many bytes a word of this code has
 abbrev pub wordLength : Code → ℕ
 wordLength C = bytesFor (wordBits C)
 
 -- check a card
 unfoldable pub cardAnswer : List ℕ → CardAnswer
-cardAnswer b = cond (eqb (cardRefusal b) 0) (Sound (summaryOf b)) (CardRefused (cardRefusal b))
+cardAnswer b =
+    cond (not (eqb (cardRefusal b) 0)) (CardRefused (cardRefusal b))
+    (Sound (summaryOf b))
 
 -- write: the refusal's number, or 0 where the word is written
 unfoldable pub writeRefusal : (card : List ℕ) (position : ℕ) (lent : List ℕ) → ℕ
@@ -54,18 +57,20 @@ writeRefusal card position lent =
 -- write: the answer
 unfoldable pub writeAnswer : (card : List ℕ) (position : ℕ) (lent : List ℕ) → WriteAnswer
 writeAnswer card position lent =
-    cond (eqb (writeRefusal card position lent) 0) Written (WriteRefused (writeRefusal card position lent))
+    cond (not (eqb (writeRefusal card position lent) 0)) (WriteRefused (writeRefusal card position lent))
+    Written
 
--- write: the bytes that the lent word is left with, those of the position's word, or as they were where the write is refused
+-- write: the bytes that the lent word is left with: as they were where the write is refused, or those of the position's word
 unfoldable pub lentAfterWrite : (card : List ℕ) (position : ℕ) (lent : List ℕ) → List ℕ
 lentAfterWrite card position lent =
-    cond (eqb (writeRefusal card position lent) 0) (wordBytes (codeOf card) position) lent
+    cond (not (eqb (writeRefusal card position lent) 0)) lent
+    (wordBytes (codeOf card) position)
 
 -- some bit past the d bits of a word is set
 unfoldable pub spareSet : Code → List ℕ → Bool
 spareSet C received = anyBelow (λ q. eqb (place received (wordBits C + q)) 1) (8 * wordLength C - wordBits C)
 
--- read, for a code that is sound: refusals 6 and 8, then the reading
+-- read, for the code of a sound card: refusals 6 and 8, then the reading
 unfoldable pub readWord : Code → (received : List ℕ) → ReadAnswer
 readWord C received =
     cond (not (eqb (length received) (wordLength C))) (ReadRefused 6)
@@ -75,7 +80,8 @@ readWord C received =
 -- read
 unfoldable pub readAnswer : (card received : List ℕ) → ReadAnswer
 readAnswer card received =
-    cond (eqb (cardRefusal card) 0) (readWord (codeOf card) received) (ReadRefused (cardRefusal card))
+    cond (not (eqb (cardRefusal card) 0)) (ReadRefused (cardRefusal card))
+    (readWord (codeOf card) received)
 
 -- block start: r(block)
 unfoldable pub startAnswer : (card : List ℕ) (block : ℕ) → NumberAnswer

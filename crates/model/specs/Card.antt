@@ -1,9 +1,10 @@
 -- Document 01, "The card": the fields of a card's 512 bytes, the code that its rows span, and refusals 1 to 5.
--- Every definition is total: of a card that is refused the fields still mean something, and nothing relies on it.
+-- Every definition is total: a card that is refused has fields and a code too, and nothing relies on them.
 -- Assumes nothing.
-use Prim.Native.Nat.{ℕ, zero, suc, _+_, _-_, _*_, _/_, _%_, _^_, min}
+use mathlib.Core.Path.{_≡_}
 use mathlib.Core.Bool.{Bool, cond, not, _&&_, _||_}
 use mathlib.Core.List.{List}
+use Prim.Native.Nat.{ℕ, zero, suc, _+_, _-_, _*_, _/_, _%_, _^_, min}
 use lib.Bits.{bitXor}
 use lib.Dec.{leb, ltb, eqb}
 use lib.ListN.{length, getD}
@@ -12,11 +13,11 @@ use Rattle.bits.specs.Places.{bit, weight}
 use Rattle.bits.specs.Searches.{anyBelow}
 
 -- byte i of the card
-abbrev pub byte : List ℕ → ℕ → ℕ
+abbrev pub byte : (b : List ℕ) (i : ℕ) → ℕ
 byte b i = getD b i 0
 
--- the number in the m bytes from place i on, high byte first
-unfoldable pub highFirst : List ℕ → ℕ → ℕ → ℕ
+-- the number in the m bytes from byte i on, high byte first
+unfoldable pub highFirst : (b : List ℕ) (i m : ℕ) → ℕ
 highFirst b i zero = 0
 highFirst b i (suc m) = highFirst b i m * 256 + byte b (i + m)
 
@@ -25,15 +26,15 @@ abbrev pub lengthOf : List ℕ → ℕ
 lengthOf b = byte b 0
 
 -- k, the number of rows: byte 1
-abbrev pub rowsOf : List ℕ → ℕ
-rowsOf b = byte b 1
+abbrev pub rowCountOf : List ℕ → ℕ
+rowCountOf b = byte b 1
 
 -- the track number: bytes 2 to 3
 unfoldable pub trackOf : List ℕ → ℕ
 trackOf b = highFirst b 2 2
 
--- row z of the twelve: the 8 bytes from 4 + 8z on; past the twelfth there is none, and zero stands for it
-unfoldable pub rowOf : List ℕ → ℕ → ℕ
+-- row z of the rows 0 to 11: the 8 bytes from 4 + 8z on; past them there is no row, and zero stands for it
+unfoldable pub rowOf : (b : List ℕ) (z : ℕ) → ℕ
 rowOf b z = cond (ltb z 12) (highFirst b (4 + 8 * z) 8) 0
 
 -- the check that the card carries: bytes 510 to 511
@@ -44,16 +45,16 @@ storedCheck b = highFirst b 510 2
 unfoldable pub computedCheck : List ℕ → ℕ
 computedCheck b = sumBelow (λ p. (p + 1) * byte b p) 510 % 65521
 
--- the sum, modulo 2, of those of the rows 0 to k - 1 whose bit 2^z is set in g
-unfoldable pub sumOfRows : (ℕ → ℕ) → ℕ → ℕ → ℕ
+-- the sum, modulo 2, of those rows z, from 0 to k - 1, whose bit 2^z is set in g
+unfoldable pub sumOfRows : (row : ℕ → ℕ) (k g : ℕ) → ℕ
 sumOfRows row zero g = 0
-sumOfRows row (suc z) g = bitXor (sumOfRows row z g) (bit g z * row z)
+sumOfRows row (suc k) g = bitXor (sumOfRows row k g) (bit g k * row k)
 
--- the least weight of a nonzero one among the codewords word(0), …, word(m - 1) of n places; n if there is none
-unfoldable pub leastWeight : ℕ → (ℕ → ℕ) → ℕ → ℕ
+-- the least weight of the nonzero ones among word(0), …, word(m - 1), of n places each; n if all are zero
+unfoldable pub leastWeight : (n : ℕ) (word : ℕ → ℕ) (m : ℕ) → ℕ
 leastWeight n word zero = n
-leastWeight n word (suc g) =
-    let before = leastWeight n word g in cond (eqb (word g) 0) before (min (weight n (word g)) before)
+leastWeight n word (suc m) =
+    let before = leastWeight n word m in cond (eqb (word m) 0) before (min (weight n (word m)) before)
 
 -- The code of a card. D, the least distance of the code, is the least weight of a nonzero codeword.
 pub record Code : Type 0 where
@@ -67,39 +68,39 @@ pub record Code : Type 0 where
   pub D : ℕ
 
 -- the code that n, k and the rows give
-abbrev pub codeWith : ℕ → ℕ → (ℕ → ℕ) → Code
+abbrev pub codeWith : (n k : ℕ) (row : ℕ → ℕ) → Code
 codeWith n k row = record { n = n; k = k; row = row; D = leastWeight n (sumOfRows row k) (2 ^ k) }
 
 -- the code of a card
 unfoldable pub codeOf : List ℕ → Code
-codeOf b = codeWith (lengthOf b) (rowsOf b) (rowOf b)
+codeOf b = codeWith (lengthOf b) (rowCountOf b) (rowOf b)
 
 -- t, the radius: (D - 1) / 2 rounded down
 abbrev pub radius : Code → ℕ
 radius C = (C .D - 1) / 2
 
 -- n is 1 to 64, and k is 1 to 12 and at most n
-unfoldable pub withinLimits : ℕ → ℕ → Bool
+unfoldable pub withinLimits : (n k : ℕ) → Bool
 withinLimits n k = leb 1 n && leb n 64 && leb 1 k && leb k 12 && leb k n
 
 -- some row has a bit at n or above
-unfoldable pub rowTooWide : ℕ → (ℕ → ℕ) → Bool
+unfoldable pub rowTooWide : (n : ℕ) (row : ℕ → ℕ) → Bool
 rowTooWide n row = anyBelow (λ z. leb (2 ^ n) (row z)) 12
 
 -- some unused row, one of the rows k to 11, is not zero
-unfoldable pub unusedRowSet : ℕ → (ℕ → ℕ) → Bool
+unfoldable pub unusedRowSet : (k : ℕ) (row : ℕ → ℕ) → Bool
 unusedRowSet k row = anyBelow (λ z. leb k z && not (eqb (row z) 0)) 12
 
 -- some byte from 100 to 509 is not zero
 unfoldable pub unusedByteSet : List ℕ → Bool
 unusedByteSet b = anyBelow (λ i. not (eqb (byte b (100 + i)) 0)) 410
 
--- something is set that a card leaves zero: a bit at n or above in a row, an unused row, or an unused byte
+-- a bit is set that a card leaves zero: at n or above in a row, in an unused row, or in an unused byte
 unfoldable pub misplaced : List ℕ → Bool
-misplaced b = rowTooWide (lengthOf b) (rowOf b) || unusedRowSet (rowsOf b) (rowOf b) || unusedByteSet b
+misplaced b = rowTooWide (lengthOf b) (rowOf b) || unusedRowSet (rowCountOf b) (rowOf b) || unusedByteSet b
 
--- some nonempty set of the rows 0 to k - 1 sums to zero; set g + 1 holds the rows whose bit is set in g + 1
-unfoldable pub dependent : ℕ → (ℕ → ℕ) → Bool
+-- some nonempty set of the rows 0 to k - 1 sums to zero; the numbers 1 to 2^k - 1 name these sets by their bits
+unfoldable pub dependent : (k : ℕ) (row : ℕ → ℕ) → Bool
 dependent k row = anyBelow (λ g. eqb (sumOfRows row k (g + 1)) 0) (2 ^ k - 1)
 
 -- the number of the refusal of a list of bytes as a card, the first in the table's order that holds; 0 for a sound card
@@ -107,7 +108,11 @@ unfoldable pub cardRefusal : List ℕ → ℕ
 cardRefusal b =
     cond (not (eqb (length b) 512)) 1
     (cond (not (eqb (storedCheck b) (computedCheck b))) 2
-    (cond (not (withinLimits (lengthOf b) (rowsOf b))) 3
+    (cond (not (withinLimits (lengthOf b) (rowCountOf b))) 3
     (cond (misplaced b) 4
-    (cond (dependent (rowsOf b) (rowOf b)) 5
+    (cond (dependent (rowCountOf b) (rowOf b)) 5
     0))))
+
+-- a sound card: none of the refusals 1 to 5 holds of it
+abbrev pub SoundCard : List ℕ → Type 0
+SoundCard b = cardRefusal b ≡ 0

@@ -1,7 +1,8 @@
 -- Document 01, "Two cards to try": every case marked *, and with them the cards' figures and the refused cards and words
--- that it names, as one table of questions and answers. That the definitions answer so is one theorem, in crate starred_cases. Assumes nothing.
-use Prim.Native.Nat.{ℕ, zero, suc, _-_, _*_, _/_, _%_}
+-- that it names, as one table of questions and answers. That the definitions answer so is one theorem, in crate starred_cases.
+-- Assumes nothing.
 use mathlib.Core.List.{List, [], _∷_, _++_}
+use Prim.Native.Nat.{ℕ, zero, suc, _-_, _*_, _/_, _%_}
 use lib.ListN.{length, replicate}
 use Rattle.bits.specs.Sums.{sumBelow}
 use Rattle.bits.specs.Places.{bit, place, listOf, differingBits}
@@ -33,13 +34,21 @@ cardB = cardOf 3 1 14 (7 ∷ [])
 
 -- what may be asked of a card
 pub data Question : Type 0 where
-  checkOf : (card : List ℕ) → Question
-  check : (card : List ℕ) → Question
+  -- the check that it carries
+  carriedCheck : (card : List ℕ) → Question
+  -- the answer to a check of it
+  checkCard : (card : List ℕ) → Question
+  -- so many codewords in their order, place by place
   order : (card : List ℕ) (codewords : ℕ) → Question
+  -- the starts of so many blocks, and the last position
   starts : (card : List ℕ) (blocks : ℕ) → Question
+  -- the answer to a write, and the bytes that the lent word is left with
   write : (card : List ℕ) (position : ℕ) (lent : List ℕ) → Question
+  -- the answer to a read
   read : (card received : List ℕ) → Question
+  -- in how many bits the position's word and the received word differ
   bitsUnlike : (card : List ℕ) (position : ℕ) (received : List ℕ) → Question
+  -- how many bits of each separator are 1
   onesOfSeparators : (card received : List ℕ) → Question
 
 -- an answer written out: its status, then its values
@@ -53,8 +62,8 @@ codewordPlaces card (suc i) = codewordPlaces card i ++ listOf (codeOf card .n) (
 
 -- what the definitions answer
 unfoldable pub answerTo : Question → List ℕ
-answerTo (checkOf card) = storedCheck card ∷ []
-answerTo (check card) = numbersOf cardStatus cardValues (cardAnswer card)
+answerTo (carriedCheck card) = storedCheck card ∷ []
+answerTo (checkCard card) = numbersOf cardStatus cardValues (cardAnswer card)
 answerTo (order card m) = codewordPlaces card m
 answerTo (starts card m) = listOf m (start (codeOf card)) ++ (lastPosition (codeOf card) ∷ [])
 answerTo (write card position lent) =
@@ -77,8 +86,8 @@ case question answer = record { question = question; answer = answer }
 unfoldable pub starredCases : List Case
 starredCases =
     -- card B: n 3, k 1, track 14, row 7, check 145; D 3, t 1, d 15, last 15
-    case (checkOf cardB) (145 ∷ [])
-    ∷ case (check cardB) (0 ∷ 3 ∷ 1 ∷ 14 ∷ 3 ∷ 1 ∷ 15 ∷ 15 ∷ [])
+    case (carriedCheck cardB) (145 ∷ [])
+    ∷ case (checkCard cardB) (0 ∷ 3 ∷ 1 ∷ 14 ∷ 3 ∷ 1 ∷ 15 ∷ 15 ∷ [])
     -- positions 0, 7 and 15; writing 16 is refusal 7 and leaves the lent word
     ∷ case (write cardB 0 (0xaa ∷ 0xaa ∷ [])) (0 ∷ 0x00 ∷ 0x00 ∷ [])
     ∷ case (write cardB 7 (0xaa ∷ 0xaa ∷ [])) (0 ∷ 0x7f ∷ 0x00 ∷ [])
@@ -92,7 +101,7 @@ starredCases =
     ∷ case (read cardB (0x00 ∷ [])) (6 ∷ [])
     ∷ case (read cardB (0x00 ∷ 0x00 ∷ 0x00 ∷ [])) (6 ∷ [])
     -- card A: n 3, k 2, rows 3 and 6; D 2, t 0, d 12, last 30; order 000, 110, 101, 011; starts 0, 10, 20, 30
-    ∷ case (check cardA) (0 ∷ 3 ∷ 2 ∷ 0 ∷ 2 ∷ 0 ∷ 12 ∷ 30 ∷ [])
+    ∷ case (checkCard cardA) (0 ∷ 3 ∷ 2 ∷ 0 ∷ 2 ∷ 0 ∷ 12 ∷ 30 ∷ [])
     ∷ case (order cardA 4) (0 ∷ 0 ∷ 0 ∷ 1 ∷ 1 ∷ 0 ∷ 1 ∷ 0 ∷ 1 ∷ 0 ∷ 1 ∷ 1 ∷ [])
     ∷ case (starts cardA 4) (0 ∷ 10 ∷ 20 ∷ 30 ∷ 30 ∷ [])
     -- the word of 5 is 11 110 10 000 00, separator 2 ties, and it reads 5 by rule 2; that of 9, 11 110 11 110 10, reads 9 by rule 1
@@ -104,8 +113,8 @@ starredCases =
     -- 00 100 00 000 00 is refusal 10
     ∷ case (read cardA (0b00000100 ∷ 0b0000 ∷ [])) (10 ∷ [])
     -- cards: 512 zero bytes, k 13, rows 3 and 3, 511 bytes
-    ∷ case (check (replicate 512 0)) (3 ∷ [])
-    ∷ case (check (cardOf 13 13 0 [])) (3 ∷ [])
-    ∷ case (check (cardOf 3 2 0 (3 ∷ 3 ∷ []))) (5 ∷ [])
-    ∷ case (check (replicate 511 0)) (1 ∷ [])
+    ∷ case (checkCard (replicate 512 0)) (3 ∷ [])
+    ∷ case (checkCard (cardOf 13 13 0 [])) (3 ∷ [])
+    ∷ case (checkCard (cardOf 3 2 0 (3 ∷ 3 ∷ []))) (5 ∷ [])
+    ∷ case (checkCard (replicate 511 0)) (1 ∷ [])
     ∷ []

@@ -1,8 +1,8 @@
 -- What the answers stand for in document 01's words, for every case of each answer's enum: its status, which is 0 where the call
 -- is served and the refusal's number in the table where it is turned down, and its values. A refusal carries its number alone.
 -- Assumes nothing.
-use Prim.Native.Nat.{ℕ}
 use mathlib.Core.List.{List, [], _∷_}
+use Prim.Native.Nat.{ℕ}
 use Rattle.model.specs.declared.CardAnswer.{CardAnswer}
 use Rattle.model.specs.declared.CardAnswer.the-variants.{Sound, Refused as CardRefused}
 use Rattle.model.specs.declared.WriteAnswer.{WriteAnswer}

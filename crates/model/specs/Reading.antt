@@ -1,7 +1,7 @@
 -- Document 01, "Reading a word": the separators, the code chunks, the three rules, and the nearest allowed position.
 -- A received word is a bit function here; Answers.antt takes it from bytes. Assumes nothing.
-use Prim.Native.Nat.{ℕ, _+_, _-_, _*_, _^_, min}
 use mathlib.Core.Bool.{cond}
+use Prim.Native.Nat.{ℕ, _+_, _-_, _*_, _^_, min}
 use lib.Dec.{leb, ltb, eqb}
 use Rattle.bits.specs.Sums.{sumBelow, distance, from}
 use Rattle.bits.specs.Places.{bit}
@@ -14,21 +14,7 @@ use Rattle.model.specs.declared.Chunk.the-variants.{Codeword, Unreadable
 use Rattle.model.specs.declared.ReadAnswer.{ReadAnswer}
 use Rattle.model.specs.declared.ReadAnswer.the-variants.{At, Refused}
 
--- a separator of D bits reads 1 if more than half its bits are 1, else 0; a tie reads 0
-unfoldable pub majority : ℕ → (ℕ → ℕ) → ℕ
-majority D x = cond (ltb D (2 * sumBelow x D)) 1 0
-
--- in how many places a chunk and c(p) differ
-unfoldable pub chunkDistance : Code → (ℕ → ℕ) → ℕ → ℕ
-chunkDistance C x p = distance (C .n) (bit (codeword C p)) x
-
--- a code chunk reads as p if c(p) lies within t bits of it (the first such p; `one-within-radius` says that there is one at most)
-unfoldable pub chunkReading : Code → (ℕ → ℕ) → Chunk
-chunkReading C x =
-    let p = first (λ i. leb (chunkDistance C x i) (radius C)) (2 ^ C .k) in
-    cond (ltb p (2 ^ C .k)) (Codeword p (chunkDistance C x p)) Unreadable
-
--- where the five chunks of a word start
+-- the chunks of a word after the first, separator 1, which is its first D places
 abbrev pub chunk₁ : Code → (ℕ → ℕ) → ℕ → ℕ
 chunk₁ C = from (C .D)
 
@@ -41,9 +27,27 @@ chunk₂ C = from (C .D + C .n + C .D)
 abbrev pub separator₃ : Code → (ℕ → ℕ) → ℕ → ℕ
 separator₃ C = from (C .D + C .n + C .D + C .n)
 
+-- a separator of D bits reads 1 if more than half its bits are 1, else 0; a tie reads 0
+unfoldable pub majority : (D : ℕ) (x : ℕ → ℕ) → ℕ
+majority D x = cond (ltb D (2 * sumBelow x D)) 1 0
+
+-- in how many places a chunk and c(p) differ
+unfoldable pub chunkDistance : Code → (x : ℕ → ℕ) (p : ℕ) → ℕ
+chunkDistance C x p = distance (C .n) (bit (codeword C p)) x
+
+-- a code chunk reads as p if c(p) lies within t bits of it (the first such p; there is one at most, by the law `one-within-radius`)
+unfoldable pub chunkReading : Code → (x : ℕ → ℕ) → Chunk
+chunkReading C x =
+    let p = first (λ i. leb (chunkDistance C x i) (radius C)) (2 ^ C .k) in
+    cond (ltb p (2 ^ C .k)) (Codeword p (chunkDistance C x p)) Unreadable
+
 -- the rule that three separators name: 1 for b b c, 2 for b c c, 3 for b b b, and 0 for b c b
 unfoldable pub ruleOf : (s₁ s₂ s₃ : ℕ) → ℕ
 ruleOf s₁ s₂ s₃ = cond (eqb s₁ s₂) (cond (eqb s₂ s₃) 3 1) (cond (eqb s₂ s₃) 2 0)
+
+-- the rule that a word's separators name
+unfoldable pub ruleNamed : Code → (x : ℕ → ℕ) → ℕ
+ruleNamed C x = ruleOf (majority (C .D) x) (majority (C .D) (separator₂ C x)) (majority (C .D) (separator₃ C x))
 
 -- the positions that a word may be read as: from low to high by a rule, ends included, or none, by a refusal's number
 pub data Allowed : Type 0 where
@@ -51,57 +55,56 @@ pub data Allowed : Type 0 where
   refusedBy : (refusal : ℕ) → Allowed
 
 -- rule 1: chunk 1 reads p; block p - 1; allowed are r(p-1) + D + A(p-1) to r(p)
-abbrev pub range₁ : Code → ℕ → Allowed
+abbrev pub range₁ : Code → (p : ℕ) → Allowed
 range₁ C p = fromTo 1 (start C (p - 1) + C .D + changedWeight C (p - 1)) (start C p)
 
-unfoldable pub rule₁ : Code → Chunk → Allowed
+-- what chunk 1 allows by it, refusals included
+unfoldable pub rule₁ : Code → (read₁ : Chunk) → Allowed
 rule₁ C (Codeword p e) = cond (eqb p 0) (refusedBy 12) (range₁ C p)
 rule₁ C Unreadable = refusedBy 10
 
 -- rule 2: chunk 2 reads p; allowed are r(p) to r(p) + 2D + A(p)
-abbrev pub range₂ : Code → ℕ → Allowed
+abbrev pub range₂ : Code → (p : ℕ) → Allowed
 range₂ C p = fromTo 2 (start C p) (start C p + 2 * C .D + changedWeight C p)
 
-unfoldable pub rule₂ : Code → Chunk → Allowed
+-- what chunk 2 allows by it, refusals included
+unfoldable pub rule₂ : Code → (read₂ : Chunk) → Allowed
 rule₂ C (Codeword p e) = cond (eqb p (lastCodeword C)) (refusedBy 12) (range₂ C p)
 rule₂ C Unreadable = refusedBy 10
 
 -- rule 3: both chunks read the same p; allowed are r(p) - D to r(p) + D, cut to 0 and the last position
-abbrev pub range₃ : Code → ℕ → Allowed
+abbrev pub range₃ : Code → (p : ℕ) → Allowed
 range₃ C p = fromTo 3 (start C p - C .D) (min (start C p + C .D) (lastPosition C))
 
-unfoldable pub rule₃ : Code → Chunk → Chunk → Allowed
+-- what the two chunks allow by it, refusals included
+unfoldable pub rule₃ : Code → (read₁ read₂ : Chunk) → Allowed
 rule₃ C (Codeword p e) (Codeword q f) = cond (eqb p q) (range₃ C p) (refusedBy 11)
 rule₃ C (Codeword p e) Unreadable = refusedBy 10
 rule₃ C Unreadable (Codeword q f) = refusedBy 10
 rule₃ C Unreadable Unreadable = refusedBy 10
 
--- what the rule with this number allows, or refusal 9 if the separators name none; only the chunks that it names are read
-unfoldable pub allowedBy : Code → (ℕ → ℕ) → ℕ → Allowed
+-- what the rule with this number allows, or refusal 9 if it is 0; only the code chunks that the rule names are read
+unfoldable pub allowedBy : Code → (x : ℕ → ℕ) (rule : ℕ) → Allowed
 allowedBy C x rule =
     cond (eqb rule 1) (rule₁ C (chunkReading C (chunk₁ C x)))
     (cond (eqb rule 2) (rule₂ C (chunkReading C (chunk₂ C x)))
     (cond (eqb rule 3) (rule₃ C (chunkReading C (chunk₁ C x)) (chunkReading C (chunk₂ C x)))
     (refusedBy 9)))
 
--- the rule that a word's separators name
-unfoldable pub ruleNamed : Code → (ℕ → ℕ) → ℕ
-ruleNamed C x = ruleOf (majority (C .D) x) (majority (C .D) (separator₂ C x)) (majority (C .D) (separator₃ C x))
-
 -- what the word's separators and chunks allow
-unfoldable pub allowed : Code → (ℕ → ℕ) → Allowed
+unfoldable pub allowed : Code → (x : ℕ → ℕ) → Allowed
 allowed C x = allowedBy C x (ruleNamed C x)
 
 -- the residual of a position: in how many of all d bits its word is unlike the received word
-unfoldable pub residual : Code → (ℕ → ℕ) → ℕ → ℕ
+unfoldable pub residual : Code → (x : ℕ → ℕ) (position : ℕ) → ℕ
 residual C x position = distance (wordBits C) (wordAt C position) x
 
 -- the allowed position whose word has fewest bits unlike the received word, the smallest on a tie; that count; and the rule
-unfoldable pub nearest : Code → (ℕ → ℕ) → Allowed → ReadAnswer
+unfoldable pub nearest : Code → (x : ℕ → ℕ) → Allowed → ReadAnswer
 nearest C x (fromTo rule low high) =
     let position : ℕ = leastAt (residual C x) low (high - low) in At position (residual C x position) rule
 nearest C x (refusedBy refusal) = Refused refusal
 
 -- the reading of a received word, given as a bit function
-unfoldable pub reading : Code → (ℕ → ℕ) → ReadAnswer
+unfoldable pub reading : Code → (x : ℕ → ℕ) → ReadAnswer
 reading C x = nearest C x (allowed C x)

@@ -1,6 +1,6 @@
 -- Document 01, "Order and words", second half: the word of a position, its bytes, and millimetres. Assumes nothing.
-use Prim.Native.Nat.{ℕ, _+_, _-_, _*_, _%_}
 use mathlib.Core.List.{List}
+use Prim.Native.Nat.{ℕ, _+_, _-_, _*_, _%_}
 use lib.Dec.{leb}
 use Rattle.bits.specs.Sums.{joinAt}
 use Rattle.bits.specs.Walk.{walk}
@@ -18,24 +18,24 @@ unfoldable pub fiveChunks : Code → (s₁ c₁ s₂ c₂ s₃ : ℕ → ℕ) �
 fiveChunks C s₁ c₁ s₂ c₂ s₃ = joinAt (C .D) s₁ (joinAt (C .n) c₁ (joinAt (C .D) s₂ (joinAt (C .n) c₂ s₃)))
 
 -- w(i): c(i) in both code chunks and the parity of i in every separator bit
-unfoldable pub word : Code → ℕ → ℕ → ℕ
+unfoldable pub word : Code → (i p : ℕ) → ℕ
 word C i =
     let parity : ℕ → ℕ = λ p. i % 2 in let c : ℕ → ℕ = bit (codeword C i) in fiveChunks C parity c parity c parity
 
 -- the block of a position: the greatest i up to 2^k - 1 with r(i) at most the position
-unfoldable pub blockOf : Code → ℕ → ℕ
+unfoldable pub blockOf : Code → (position : ℕ) → ℕ
 blockOf C position = greatest (λ i. leb (start C i) position) (lastCodeword C)
 
 -- the word of a position r(i) + m of block i: w(i) with the first m places in which w(i) and w(i+1) differ taken from w(i+1)
--- (for a position up to the last, where m is 0 and nothing is taken from w(2^k), which doesn't exist)
-unfoldable pub wordAt : Code → ℕ → ℕ → ℕ
+-- (for positions up to the last, at which m is 0, so that nothing is taken from w(2^k), which doesn't exist)
+unfoldable pub wordAt : Code → (position p : ℕ) → ℕ
 wordAt C position =
     let i : ℕ = blockOf C position in walk (word C i) (word C (i + 1)) (position - start C i)
 
 -- the word of a position as it travels: place p is bit p mod 8, lowest first, of byte p / 8; bits past d are zero
-unfoldable pub wordBytes : Code → ℕ → List ℕ
+unfoldable pub wordBytes : Code → (position : ℕ) → List ℕ
 wordBytes C position = pack (wordBits C) (wordAt C position)
 
 -- distance from the buffer face: 50 mm × position
-abbrev pub millimetresOf : ℕ → ℕ
+abbrev pub millimetresOf : (position : ℕ) → ℕ
 millimetresOf position = 50 * position

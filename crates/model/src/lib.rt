@@ -1,5 +1,5 @@
-// What a code chunk reads as, what a card decodes to, and what the public calls answer. The definitions of specs/ give these values their meaning.
-// A refusal carries document 01's number for it and nothing else.
+// What a code chunk reads as, what a card decodes to, and what the public calls answer. The definitions of specs/ give these
+// values their meaning. A refusal carries document 01's number for it and nothing else.
 
 // What a code chunk reads as: the number p of the codeword c(p) within the radius, and in how many places the two differ.
 pub enum Chunk {

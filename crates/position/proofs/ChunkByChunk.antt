@@ -8,7 +8,7 @@ use native.Mathlib.Omega.{arith}
 use Rattle.bits.specs.Sums.{joinAt}
 use Rattle.bits.specs.Places.{bit, cut}
 use Rattle.bits.proofs.Binary.{bit-high}
-use Rattle.bits.proofs.Distance.{join-left, join-right}
+use Rattle.bits.proofs.Joins.{join-left, join-right}
 use Rattle.bits.proofs.Numbers.{lt-or-le}
 use Rattle.bits.proofs.Places.{cut-below, cut-above}
 

@@ -11,7 +11,7 @@ use Rattle.bits.proofs.Places.{length-pack, place-pack, byte-of-places, same-pl
 use Rattle.model.specs.Answers.{wordLength}
 use Rattle.model.specs.Card.{Code}
 use Rattle.model.specs.Words.{wordBits, wordAt, wordBytes}
-use Rattle.position_theory.proofs.BoundedError.{word-at-bits}
+use Rattle.position_theory.proofs.WordBytes.{word-at-bit}
 
 -- a list of which each byte is one of another's
 module _ (lent word : List ℕ) (copied : (i : ℕ) → i < length lent → getD lent i 0 ≡ getD word i 0) where
@@ -31,6 +31,6 @@ module _ (lent word : List ℕ) (copied : (i : ℕ) → i < length lent → getD
   copied-word C position long bytes holds =
       let d = wordBits C in
       let u = wordAt C position in
-      let bits = word-at-bits C position in
+      let bits = word-at-bit C position in
       same-places lent (wordBytes C position) (long ∙ sym (length-pack d u)) (copied-bytes bytes) (byte-of-places d u bits)
       (λ p h. copied-places p h ∙ holds p ∙ sym (place-pack d u bits p))

@@ -5,7 +5,7 @@ use Prim.Native.Nat.{ℕ, _+_, _-_, _≤_, _<_}
 use native.Mathlib.Omega.{arith}
 use borrow.Author.Tests.{lt-ltb, le-ltb}
 use Rattle.bits.specs.Searches.{leastAt}
-use Rattle.position_theory.proofs.Stepping.{leastAt-next}
+use Rattle.bits.proofs.Searches.{leastAt-next}
 use Rattle.position.specs.declared.scan.Scan.{Scan}
 use Rattle.position.specs.Scanned.{Scanned}
 

@@ -1,22 +1,36 @@
--- Whatever word is received, the positions that it allows are some on the track, with words as far apart as they are:
--- by rules 1 and 2 they lie in one block, by rule 3 within D of a start. Assumes nothing.
+-- Whatever word is received, the positions that it allows are on the track, and their words differ in as many bits as they in
+-- steps: by rules 1 and 2 they lie in one block, by rule 3 within D steps of a start. Assumes nothing.
 use mathlib.Core.Path.{_≡_, refl}
-use mathlib.Core.Bool.{Bool, true, false, cond}
 use mathlib.Core.Logic.{⊎-elim}
 use Prim.Native.Nat.{ℕ, _+_, _≤_, _<_}
 use native.Mathlib.Nat.{eq-or-lt-of-le, le-dest, add-sub-cancel}
 use native.Mathlib.Omega.{arith}
 use lib.Dec.{eqb}
 use borrow.Author.Tests.{eqb-false}
+use Rattle.bits.proofs.Numbers.{by-test}
 use Rattle.model.specs.Card.{Code}
 use Rattle.model.specs.Order.{lastCodeword, changedWeight, start, lastPosition}
-use Rattle.model.specs.Reading.{ruleNamed, chunkReading, chunk₁, separator₂, chunk₂, separator₃, Allowed, fromTo, refusedBy, rule₁, rule₂, rule₃, allowedBy, allowed}
+use Rattle.model.specs.Reading.{chunkReading, chunk₁, chunk₂, Allowed, fromTo, refusedBy}
+use Rattle.model.specs.Reading.{rule₁, rule₂, rule₃, allowedBy, ruleNamed, allowed}
 use Rattle.model.specs.declared.Chunk.{Chunk}
 use Rattle.model.specs.declared.Chunk.the-variants.{Codeword, Unreadable}
 use Rattle.code_theory.specs.Promise.{ChunkPromise}
-use Rattle.position_theory.specs.Ranges.{GoodRange}
 use Rattle.position_theory.proofs.Blocks.{starts-rise}
-use Rattle.position_theory.proofs.Isometry.{isometric-part, isometric-block, isometric-around}
+use Rattle.position_theory.proofs.Isometry.{Isometric, isometric-part, isometric-block, isometric-around}
+
+-- a range that is not empty, on the track, and isometric; of a refusal nothing is said
+unfoldable pub IsometricOnTrack : Code → Allowed → Type 0
+IsometricOnTrack C (fromTo rule low high) = (low ≤ high) × (high ≤ lastPosition C) × Isometric C low high
+IsometricOnTrack C (refusedBy refusal) = Unit {0}
+
+-- the received word x allows this position
+pub record Allows (C : Code) (x : ℕ → ℕ) (position : ℕ) : Type 0 where
+  pub rule : ℕ
+  pub low : ℕ
+  pub high : ℕ
+  pub is : allowed C x ≡ fromTo rule low high
+  pub from-low : low ≤ position
+  pub to-high : position ≤ high
 
 module _ (C : Code) (promise : ChunkPromise C) where
   -- the starts are on the track
@@ -28,38 +42,32 @@ module _ (C : Code) (promise : ChunkPromise C) where
       (λ (l : i < lastCodeword C). omega (arith, starts-rise C promise i (lastCodeword C) l (omega arith)))
       (eq-or-lt-of-le h)
 
-  good-none : (refusal : ℕ) → GoodRange C (refusedBy refusal)
-  unfolding GoodRange
-  good-none refusal = tt
-
-  good-cond : (t : Bool) (a b : Allowed) → (t ≡ true → GoodRange C a) → (t ≡ false → GoodRange C b) → GoodRange C (cond t a b)
-  good-cond true a b ha hb = ha refl
-  good-cond false a b ha hb = hb refl
-
-  -- the part of block i that rule 1 allows, and the part that rule 2 allows
-  good-end-of-block : (i : ℕ) → i + 1 ≤ lastCodeword C → GoodRange C (fromTo 1 (start C i + C .D + changedWeight C i) (start C (i + 1)))
-  unfolding GoodRange
-  good-end-of-block i inside = (
+  -- rule 1: the part of block i from offset D + A(i) on
+  end-of-block : (i : ℕ) → i + 1 ≤ lastCodeword C
+      → IsometricOnTrack C (fromTo 1 (start C i + C .D + changedWeight C i) (start C (i + 1)))
+  unfolding IsometricOnTrack
+  end-of-block i inside = (
     omega (arith, promise .start-next i (omega arith)),
     start-on-track (i + 1) inside,
     isometric-part C (start C i) (start C (i + 1)) (isometric-block C promise i (omega arith)) (omega arith) (omega arith),
   )
 
-  good-rule₁ : (c : Chunk) → ((p e : ℕ) → c ≡ Codeword p e → p ≤ lastCodeword C) → GoodRange C (rule₁ C c)
-  unfolding rule₁ GoodRange
-  good-rule₁ (Codeword p e) h =
-      good-cond (eqb p 0) _ _ (λ _. tt)
+  rule₁-isometric : (c : Chunk) → ((p e : ℕ) → c ≡ Codeword p e → p ≤ lastCodeword C) → IsometricOnTrack C (rule₁ C c)
+  unfolding rule₁ IsometricOnTrack
+  rule₁-isometric (Codeword p e) h =
+      by-test (IsometricOnTrack C) (eqb p 0) (λ _. tt)
       (λ f.
       let low : 1 ≤ p = omega (arith, eqb-false p 0 f) in
       let before : (i : ℕ) × (1 + i ≡ p) = le-dest low in
       let here : p ≡ before .0 + 1 = omega arith in
-      rw (here, add-sub-cancel (before .0) 1) (good-end-of-block (before .0) (rw (← here) (h p e refl))))
-  good-rule₁ Unreadable h = tt
+      rw (here, add-sub-cancel (before .0) 1) (end-of-block (before .0) (rw (← here) (h p e refl))))
+  rule₁-isometric Unreadable h = tt
 
-  good-rule₂ : (c : Chunk) → ((p e : ℕ) → c ≡ Codeword p e → p ≤ lastCodeword C) → GoodRange C (rule₂ C c)
-  unfolding rule₂ GoodRange
-  good-rule₂ (Codeword p e) h =
-      good-cond (eqb p (lastCodeword C)) _ _ (λ _. tt)
+  -- rule 2: the part of block p up to offset 2D + A(p)
+  rule₂-isometric : (c : Chunk) → ((p e : ℕ) → c ≡ Codeword p e → p ≤ lastCodeword C) → IsometricOnTrack C (rule₂ C c)
+  unfolding rule₂ IsometricOnTrack
+  rule₂-isometric (Codeword p e) h =
+      by-test (IsometricOnTrack C) (eqb p (lastCodeword C)) (λ _. tt)
       (λ f.
       let inside : p < lastCodeword C = omega (arith, eqb-false p (lastCodeword C) f, h p e refl) in (
         omega arith,
@@ -67,33 +75,29 @@ module _ (C : Code) (promise : ChunkPromise C) where
         isometric-part C (start C p) (start C (p + 1)) (isometric-block C promise p inside) (omega arith)
             (omega (arith, promise .start-next p inside)),
       ))
-  good-rule₂ Unreadable h = tt
+  rule₂-isometric Unreadable h = tt
 
-  good-rule₃ : (c c′ : Chunk) → ((p e : ℕ) → c ≡ Codeword p e → p ≤ lastCodeword C) → GoodRange C (rule₃ C c c′)
-  unfolding rule₃ GoodRange
-  good-rule₃ (Codeword p e) (Codeword q f) h =
-      good-cond (eqb p q) _ _
+  -- rule 3: the positions within D steps of a start
+  rule₃-isometric : (c c′ : Chunk) → ((p e : ℕ) → c ≡ Codeword p e → p ≤ lastCodeword C) → IsometricOnTrack C (rule₃ C c c′)
+  unfolding rule₃ IsometricOnTrack
+  rule₃-isometric (Codeword p e) (Codeword q f) h =
+      by-test (IsometricOnTrack C) (eqb p q)
       (λ _. (omega (arith, start-on-track p (h p e refl)), omega arith, isometric-around C promise p (h p e refl)))
       (λ _. tt)
-  good-rule₃ (Codeword p e) Unreadable h = tt
-  good-rule₃ Unreadable (Codeword q f) h = tt
-  good-rule₃ Unreadable Unreadable h = tt
+  rule₃-isometric (Codeword p e) Unreadable h = tt
+  rule₃-isometric Unreadable (Codeword q f) h = tt
+  rule₃-isometric Unreadable Unreadable h = tt
 
-  pub allowed-good : (x : ℕ → ℕ) → GoodRange C (allowed C x)
-  unfolding allowed allowedBy
-  allowed-good x = by-rule (eqb rule 1) (eqb rule 2) (eqb rule 3)
+  pub allowed-isometric : (x : ℕ → ℕ) → IsometricOnTrack C (allowed C x)
+  unfolding allowed allowedBy IsometricOnTrack
+  allowed-isometric x =
+      by-test (IsometricOnTrack C) (eqb rule 1) (λ _. rule₁-isometric _ (codeword-of (chunk₁ C x)))
+      (λ _. by-test (IsometricOnTrack C) (eqb rule 2) (λ _. rule₂-isometric _ (codeword-of (chunk₂ C x)))
+      (λ _. by-test (IsometricOnTrack C) (eqb rule 3) (λ _. rule₃-isometric _ _ (codeword-of (chunk₁ C x)))
+      (λ _. tt)))
     where
       rule : ℕ
       rule = ruleNamed C x
 
       codeword-of : (chunk : ℕ → ℕ) (p e : ℕ) → chunkReading C chunk ≡ Codeword p e → p ≤ lastCodeword C
       codeword-of chunk p e r = promise .chunks .within chunk p e r .0
-
-      by-rule : (first second third : Bool)
-          → GoodRange C (cond first (rule₁ C (chunkReading C (chunk₁ C x)))
-          (cond second (rule₂ C (chunkReading C (chunk₂ C x)))
-          (cond third (rule₃ C (chunkReading C (chunk₁ C x)) (chunkReading C (chunk₂ C x))) (refusedBy 9))))
-      by-rule true second third = good-rule₁ _ (codeword-of (chunk₁ C x))
-      by-rule false true third = good-rule₂ _ (codeword-of (chunk₂ C x))
-      by-rule false false true = good-rule₃ _ _ (codeword-of (chunk₁ C x))
-      by-rule false false false = good-none 9

@@ -10,14 +10,20 @@ use native.Mathlib.Omega.{arith}
 use lib.Dec.{leb}
 use borrow.Author.Tests.{le-leb, lt-leb, leb-true, leb-false}
 use Rattle.bits.specs.Walk.{walk}
-use Rattle.bits.proofs.Searches.{greatest-is, greatest-le, greatest-holds, greatest-above}
 use Rattle.bits.proofs.Walk.{walk-none, walk-before}
+use Rattle.bits.proofs.Searches.{greatest-is, greatest-le, greatest-holds, greatest-above}
 use Rattle.model.specs.Card.{Code}
 use Rattle.model.specs.Order.{lastCodeword, blockLength, start, lastPosition}
 use Rattle.model.specs.Words.{wordBits, word, blockOf, wordAt}
 use Rattle.code_theory.specs.Promise.{ChunkPromise}
-use Rattle.position_theory.specs.InBlock.{InBlock}
-use Rattle.position_theory.proofs.Words.{word-bits, apart}
+use Rattle.position_theory.proofs.Words.{word-bit, apart}
+
+-- the position is one of the steps of block i, or, in the last block, which has none, its start
+pub record InBlock (C : Code) (position i : ℕ) : Type 0 where
+  pub on-track : i ≤ lastCodeword C
+  pub from-start : start C i ≤ position
+  pub before-end : i < lastCodeword C → position < start C i + blockLength C i
+  pub at-last : i ≡ lastCodeword C → position ≡ start C i
 
 module _ (C : Code) (promise : ChunkPromise C) where
   -- a later block starts no earlier than where an earlier one ends
@@ -30,7 +36,7 @@ module _ (C : Code) (promise : ChunkPromise C) where
       (eq-or-lt-of-le {n = i} {m = j} (omega arith))
   starts-rise i zero h b = absurd (omega arith)
 
-  -- the block of a position is the one that starts at or before it and is followed by none that does
+  -- the block of a position is the last that starts at or before it
   block-is : (i position : ℕ) → i ≤ lastCodeword C → start C i ≤ position
       → ((j : ℕ) → i < j → j ≤ lastCodeword C → position < start C j) → blockOf C position ≡ i
   unfolding blockOf
@@ -42,11 +48,11 @@ module _ (C : Code) (promise : ChunkPromise C) where
   block-inside i m inside h =
       block-is i _ (omega arith) (omega arith) (λ j l b. omega (arith, starts-rise i j l b))
 
-  -- a start is in its own block, the last position too
+  -- the block of r(i) is block i, of the last position too
   pub block-start : (i : ℕ) → i ≤ lastCodeword C → blockOf C (start C i) ≡ i
   block-start i h = block-is i _ h (omega arith) (λ j l b. omega (arith, starts-rise i j l b, promise .D-pos))
 
-  -- the block of a position is one of the track's, starts at or before it, and no later one does
+  -- so it is one of the track's, starts at or before the position, and no later one does
   pub block-le : (position : ℕ) → blockOf C position ≤ lastCodeword C
   unfolding blockOf
   block-le position = greatest-le (λ i. leb (start C i) position) (lastCodeword C)
@@ -80,7 +86,7 @@ module _ (C : Code) (promise : ChunkPromise C) where
       sym (block-is i position (b .on-track) (b .from-start) (λ j l h.
       omega (arith, starts-rise i j l h, b .before-end (omega arith))))
 
-  -- so it stands at the start of its block, or inside a block that is not the last
+  -- a position stands at the start of its block, or inside a block that is not the last
   pub in-its-block : (position : ℕ) → position ≤ lastPosition C
       → (position ≡ start C (blockOf C position))
       ⊎ ((blockOf C position < lastCodeword C)
@@ -93,7 +99,7 @@ module _ (C : Code) (promise : ChunkPromise C) where
   pub word-at-start : (i : ℕ) → i ≤ lastCodeword C → (p : ℕ) → wordAt C (start C i) p ≡ word C i p
   unfolding wordAt
   word-at-start i h p =
-      rw (block-start i h, sub-self (start C i)) (walk-none (word-bits C i) (word-bits C (i + 1)) p)
+      rw (block-start i h, sub-self (start C i)) (walk-none (word-bit C i) (word-bit C (i + 1)) p)
 
   -- the word m steps into block i, its end included, is the walk of m steps from w(i) to w(i+1)
   pub word-in-block : (i m : ℕ) → i < lastCodeword C → m ≤ blockLength C i
@@ -103,6 +109,6 @@ module _ (C : Code) (promise : ChunkPromise C) where
       ⊎-elim
       (λ (e : m ≡ blockLength C i).
       rw (e, ← (promise .start-next i inside), word-at-start (i + 1) (omega arith) p)
-      (sym (walk-before (word-bits C i) (word-bits C (i + 1)) (blockLength C i) b (omega (arith, apart C promise i inside)))))
+      (sym (walk-before (word-bit C i) (word-bit C (i + 1)) (blockLength C i) b (omega (arith, apart C promise i inside)))))
       (λ (l : m < blockLength C i). rw (block-inside i m inside l, add-sub-cancel-left))
       (eq-or-lt-of-le h)

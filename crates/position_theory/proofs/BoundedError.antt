@@ -1,7 +1,7 @@
--- Demand 3, of bit functions and then of bytes: a word within the radius in every chunk allows the true position, so the
--- answer is near it. No two positions share a word: read with nothing turned, a word gives back its position.
+-- Demand 3, for a code that keeps the chunk promise: a word with at most t bits turned in each chunk allows the true position, so
+-- the answer is off by at most the bits turned and the residual together, and the residual is at most the bits turned.
 -- Assumes nothing.
-use mathlib.Core.Path.{_≡_, refl, sym, _∙_}
+use mathlib.Core.Path.{_≡_, sym, _∙_}
 use mathlib.Core.Bool.{false}
 use mathlib.Core.List.{List}
 use mathlib.Core.Logic.{⊎-elim}
@@ -12,9 +12,8 @@ use lib.ListN.{length}
 use borrow.Author.Tests.{eq-eqb}
 use Rattle.bits.specs.Sums.{distance, from}
 use Rattle.bits.specs.Places.{place}
-use Rattle.bits.proofs.Distance.{distance-ext}
-use Rattle.bits.proofs.Places.{place-pack, place-bit, cut-below}
-use Rattle.bits.proofs.Walk.{walk-bits}
+use Rattle.bits.proofs.Distance.{distance-ext-left}
+use Rattle.bits.proofs.Places.{place-bit}
 use Rattle.model.specs.Card.{Code, radius}
 use Rattle.model.specs.Order.{lastCodeword, blockLength, start, lastPosition}
 use Rattle.model.specs.Words.{wordBits, blockOf, wordAt, wordBytes}
@@ -23,36 +22,26 @@ use Rattle.model.specs.Answers.{wordLength, spareSet, readWord}
 use Rattle.model.specs.declared.ReadAnswer.{ReadAnswer}
 use Rattle.model.specs.declared.ReadAnswer.the-variants.{At, Refused}
 use Rattle.code_theory.specs.Promise.{ChunkPromise}
-use Rattle.position_theory.specs.Ranges.{Allows}
 use Rattle.position_theory.specs.Damage.{ChunksWithin, WithinRadius, turnedInAll, turned, Near, residualOf}
-use Rattle.position_theory.proofs.Words.{five-distance, word-bits}
+use Rattle.position_theory.proofs.Words.{five-distance}
+use Rattle.position_theory.proofs.WordBytes.{place-of-word}
 use Rattle.position_theory.proofs.Blocks.{in-its-block, block-le, block-low}
-use Rattle.position_theory.proofs.TrueAllowed.{start-allowed, inside-allowed}
+use Rattle.position_theory.proofs.Allowed.{Allows}
 use Rattle.position_theory.proofs.WholeChunks.{whole-at-start, whole-in-block}
+use Rattle.position_theory.proofs.TrueAllowed.{start-allowed, inside-allowed}
 use Rattle.position_theory.proofs.Nearest.{answer-near}
 
-pub word-at-bits : (C : Code) (position p : ℕ) → wordAt C position p < 2
-unfolding wordAt
-word-at-bits C position p = walk-bits (word-bits C (blockOf C position)) (word-bits C (blockOf C position + 1)) _ p
-
 module _ (C : Code) where
-  -- the places of a position's word as bytes
-  pub place-of-word : (position p : ℕ) → p < wordBits C → place (wordBytes C position) p ≡ wordAt C position p
-  unfolding wordBytes
-  place-of-word position p b =
-      place-pack (wordBits C) (wordAt C position) (word-at-bits C position) p ∙ cut-below (wordBits C) (wordAt C position) p b
-
-  -- so of any part of it, the bits turned are those of its bytes
+  -- of any part of a position's word, the bits turned are those turned in its bytes
   turned-in-part : (position : ℕ) (x : ℕ → ℕ) (a m : ℕ) → a + m ≤ wordBits C
       → distance m (from a (place (wordBytes C position))) (from a x) ≡ distance m (from a (wordAt C position)) (from a x)
-  turned-in-part position x a m h = distance-ext m (λ p b. place-of-word position (a + p) (omega arith)) (λ p b. refl)
+  turned-in-part position x a m h = distance-ext-left m (from a x) (λ p b. place-of-word C position (a + p) (omega arith))
 
   within-of-bytes : (e position : ℕ) (x : ℕ → ℕ) → ChunksWithin C e (place (wordBytes C position)) x
       → ChunksWithin C e (wordAt C position) x
   within-of-bytes e position x d =
       record {
-        in-separator₁ =
-            rw (distance-ext {v = x} {v′ = x} (C .D) (λ p b. place-of-word position p (omega arith)) (λ p b. refl)) at (d .in-separator₁);
+        in-separator₁ = rw (distance-ext-left (C .D) x (λ p b. place-of-word C position p (omega arith))) at (d .in-separator₁);
         in-chunk₁ = rw (turned-in-part position x (C .D) (C .n) (omega arith)) at (d .in-chunk₁);
         in-separator₂ = rw (turned-in-part position x (C .D + C .n) (C .D) (omega arith)) at (d .in-separator₂);
         in-chunk₂ = rw (turned-in-part position x (C .D + C .n + C .D) (C .n) (omega arith)) at (d .in-chunk₂);
@@ -64,7 +53,7 @@ module _ (C : Code) where
   unfolding turned turnedInAll residual
   turned-is-residual position received =
       sym (five-distance C (place (wordBytes C position)) (place received))
-      ∙ distance-ext (wordBits C) (place-of-word position) (λ p b. refl)
+      ∙ distance-ext-left (wordBits C) (place received) (place-of-word C position)
 
   -- a word of the right length with spare bits zero is read
   pub read-word : (received : List ℕ) → length received ≡ wordLength C → spareSet C received ≡ false
@@ -84,9 +73,8 @@ module _ (C : Code) (promise : ChunkPromise C) where
       (λ (inside : (blockOf C position < lastCodeword C) × (position < start C (blockOf C position) + blockLength C (blockOf C position))).
       let offset = le-dest (block-low C promise position) in
       rw (← (offset .1))
-      (inside-allowed C promise x (blockOf C position) (offset .0) (inside .0)
-      (whole-in-block C promise (blockOf C position) (offset .0) x (inside .0) (omega arith) hx (rw (← (offset .1)) at d))
-      (omega arith)))
+      (inside-allowed C promise x (blockOf C position) (offset .0) (inside .0) (omega arith)
+      (whole-in-block C promise (blockOf C position) (offset .0) x (inside .0) (omega arith) hx (rw (← (offset .1)) at d))))
       (in-its-block C promise position h)
 
   -- demand 3 and the sharper bound, for a code that keeps the chunk promise

@@ -24,4 +24,9 @@ module _ (C : Code) (sound : Sound C) where
   -- the positions of a block and its end
   pub position-bound : (i m : ℕ) → i < lastCodeword C → m ≤ blockLength C i → start C i + m ≤ 1310400
   position-bound i m inside room =
-      omega (arith, promise C sound .start-next i inside, start-on-track C (promise C sound) (i + 1) (omega arith), last-position-bound C sound)
+      omega (
+        arith,
+        promise C sound .start-next i inside,
+        start-on-track C (promise C sound) (i + 1) (omega arith),
+        last-position-bound C sound,
+      )

@@ -1,105 +1,65 @@
 -- Demands 2 and 3 of cards and words as bytes: every sound card's code keeps the chunk promise, and the theorems follow.
 -- Assumes nothing.
-use mathlib.Core.Path.{_≡_, refl, _∙_, sym}
-use mathlib.Core.Bool.{false}
+use mathlib.Core.Path.{_≡_, _∙_, sym}
 use mathlib.Core.List.{List}
 use mathlib.Core.Logic.{⊎-elim}
-use Prim.Native.Nat.{ℕ, _+_, _-_, _*_, _≤_, _<_}
-use native.Mathlib.Nat.{le-dest}
+use Prim.Native.Nat.{ℕ, _+_, _≤_}
 use native.Mathlib.Omega.{arith}
-use borrow.Author.Tests.{eq-eqb, eqb-false}
-use lib.Dec.{eqb}
-use lib.ListN.{length}
-use Rattle.bits.specs.Sums.{distance, from}
+use borrow.Author.Tests.{eq-eqb}
 use Rattle.bits.specs.Places.{place, differingBits}
-use Rattle.bits.proofs.Distance.{distance-comm, distance-ext, distance-self, distance-split}
-use Rattle.bits.proofs.Places.{length-pack, place-bit, place-pack, cut-above}
-use Rattle.bits.proofs.Searches.{none-of-any}
-use Rattle.bits.proofs.PackedDistance.{packed-distance}
-use Rattle.model.specs.Card.{Code, cardRefusal, codeOf}
+use Rattle.bits.proofs.Distance.{distance-comm}
+use Rattle.model.specs.Card.{Code, cardRefusal, codeOf, SoundCard}
 use Rattle.model.specs.Order.{lastPosition}
 use Rattle.model.specs.Words.{wordBits, wordAt, wordBytes}
-use Rattle.model.specs.Reading.{residual}
-use Rattle.model.specs.Answers.{wordLength, spareSet, readWord, readAnswer}
+use Rattle.model.specs.Answers.{readWord, readAnswer}
 use Rattle.code_theory.specs.Promise.{ChunkPromise}
-use Rattle.code_theory.proofs.Promise.{promise}
 use Rattle.code_theory.proofs.SoundCard.{sound-card}
+use Rattle.code_theory.proofs.Promise.{promise}
 use Rattle.position_theory.specs.Damage.{turned, residualOf}
-use Rattle.position_theory.specs.Demands.{NeighboursDifferInOneBit, NoOtherPositionsWord, NearestOfAllowed, OffByAtMostTwiceTurned, OffByAtMostTurnedAndResidual}
+use Rattle.position_theory.specs.Demands.{NeighboursDifferInOneBit, NoOtherPositionsWord, NearestOfAllowed}
+use Rattle.position_theory.specs.Demands.{OffByAtMostTwiceTurned, OffByAtMostTurnedAndResidual}
+use Rattle.position_theory.proofs.WordBytes.{differing-words, residual-counts}
 use Rattle.position_theory.proofs.Nearest.{reading-is-nearest}
-use Rattle.position_theory.proofs.BoundedError.{word-at-bits, place-of-word, read-word, error-bounded, near-loosen}
-use Rattle.position_theory.proofs.DistinctWords.{neighbours-differ, words-differ}
+use Rattle.position_theory.proofs.BoundedError.{read-word, error-bounded, near-loosen}
+use Rattle.position_theory.proofs.DistinctWords.{neighbours-differ, words-distinct}
 
-kept : (card : List ℕ) → cardRefusal card ≡ 0 → ChunkPromise (codeOf card)
-kept card sound = promise (codeOf card) (sound-card card sound)
+card-promise : (card : List ℕ) → SoundCard card → ChunkPromise (codeOf card)
+card-promise card sound = promise (codeOf card) (sound-card card sound)
 
 -- in how many bits two positions' words differ does not go by their order
 differing-comm : (C : Code) (p q : ℕ) → differingBits (wordBytes C p) (wordBytes C q) ≡ differingBits (wordBytes C q) (wordBytes C p)
-unfolding wordBytes
 differing-comm C p q =
-    packed-distance (wordBits C) (word-at-bits C p) (word-at-bits C q)
-    ∙ distance-comm (wordBits C) (wordAt C p) (wordAt C q)
-    ∙ sym (packed-distance (wordBits C) (word-at-bits C q) (word-at-bits C p))
+    differing-words C p q ∙ distance-comm (wordBits C) (wordAt C p) (wordAt C q) ∙ sym (differing-words C q p)
 
 -- demand 2, writing
-pub neighbours-differ-in-one-bit : (card : List ℕ) (position : ℕ) → cardRefusal card ≡ 0 → position ≤ lastPosition (codeOf card)
+pub neighbours-differ-in-one-bit : (card : List ℕ) (position : ℕ) → SoundCard card → position ≤ lastPosition (codeOf card)
     → NeighboursDifferInOneBit card position (wordBytes (codeOf card) position)
 unfolding NeighboursDifferInOneBit
 neighbours-differ-in-one-bit card position sound h neighbour h′ =
     ⊎-elim
-    (λ (next : neighbour ≡ position + 1). rw next (neighbours-differ (codeOf card) (kept card sound) position (omega arith)))
+    (λ (next : neighbour ≡ position + 1). rw next (neighbours-differ (codeOf card) (card-promise card sound) position (omega arith)))
     (λ (last : position ≡ neighbour + 1).
     rw (last, differing-comm (codeOf card) (neighbour + 1) neighbour)
-    (neighbours-differ (codeOf card) (kept card sound) neighbour (omega arith)))
+    (neighbours-differ (codeOf card) (card-promise card sound) neighbour (omega arith)))
 
-pub no-other-positions-word : (card : List ℕ) (position : ℕ) → cardRefusal card ≡ 0 → position ≤ lastPosition (codeOf card)
+pub no-other-positions-word : (card : List ℕ) (position : ℕ) → SoundCard card → position ≤ lastPosition (codeOf card)
     → NoOtherPositionsWord card position (wordBytes (codeOf card) position)
 unfolding NoOtherPositionsWord
 no-other-positions-word card position sound h other h′ same =
-    words-differ (codeOf card) (kept card sound) other position h′ h same
+    words-distinct (codeOf card) (card-promise card sound) other position h′ h same
 
 -- of a sound card, the public call's answer is that of the inner call, which is handed the card's code
-pub read-sound : (card received : List ℕ) → cardRefusal card ≡ 0 → readAnswer card received ≡ readWord (codeOf card) received
+pub read-sound : (card received : List ℕ) → SoundCard card → readAnswer card received ≡ readWord (codeOf card) received
 unfolding readAnswer
 read-sound card received sound = rw (eq-eqb (cardRefusal card) 0 sound)
-
--- the spare bits of a received word that has none set are zero
-spare-bits-zero : (C : Code) (received : List ℕ) → spareSet C received ≡ false
-    → (q : ℕ) → q < 8 * wordLength C - wordBits C → place received (wordBits C + q) ≡ 0
-unfolding spareSet
-spare-bits-zero C received spare q b =
-    let not-one = eqb-false (place received (wordBits C + q)) 1 (none-of-any (λ q. eqb (place received (wordBits C + q)) 1) _ spare q b) in
-    omega (arith, place-bit received (wordBits C + q), not-one)
-
--- so the residual of a position, taken over the d bits of a word, is the count of bits in which the bytes differ
-residual-counts : (C : Code) (received : List ℕ) → length received ≡ wordLength C → spareSet C received ≡ false
-    → (position : ℕ) → residual C (place received) position ≡ differingBits (wordBytes C position) received
-unfolding residual differingBits wordBytes
-residual-counts C received h spare position =
-    let rest : (m : ℕ) × (wordBits C + m ≡ 8 * wordLength C) = le-dest (omega arith) in
-    let alike : distance (rest .0) (from (wordBits C) (place (wordBytes C position))) (from (wordBits C) (place received)) ≡ 0 =
-    distance-ext (rest .0)
-    (λ p b. place-pack (wordBits C) (wordAt C position) (word-at-bits C position) (wordBits C + p)
-    ∙ cut-above (wordBits C) (wordAt C position) (wordBits C + p) (omega arith))
-    (λ p b. spare-bits-zero C received spare p (omega arith))
-    ∙ distance-self (rest .0) (λ p. 0)
-    in
-    let same : distance (wordBits C) (place (wordBytes C position)) (place received) ≡ residual C (place received) position =
-    distance-ext (wordBits C) (place-of-word C position) (λ p b. refl)
-    in
-    rw (
-      length-pack (wordBits C) (wordAt C position),
-      ← (rest .1),
-      distance-split (wordBits C) (rest .0) (place (wordBytes C position)) (place received),
-    ) (omega arith)
 
 -- demand 2, reading
 pub nearest-of-allowed : (card received : List ℕ) → NearestOfAllowed card received (readAnswer card received)
 unfolding NearestOfAllowed
 nearest-of-allowed card received sound h spare = (
   rw (read-sound card received sound, read-word (codeOf card) received h spare)
-      (reading-is-nearest (codeOf card) (kept card sound) (place received)),
-  residual-counts (codeOf card) received h spare,
+      (reading-is-nearest (codeOf card) (card-promise card sound) (place received)),
+  residual-counts (codeOf card) received spare,
 )
 
 -- the sharper bound, and demand 3 as its corollary, since the answer's residual is at most the bits turned
@@ -107,12 +67,12 @@ pub off-by-at-most-turned-and-residual : (card received : List ℕ)
     → OffByAtMostTurnedAndResidual card received (readAnswer card received)
 unfolding OffByAtMostTurnedAndResidual
 off-by-at-most-turned-and-residual card received position sound h within =
-    rw (read-sound card received sound) (error-bounded (codeOf card) (kept card sound) position received h within .0)
+    rw (read-sound card received sound) (error-bounded (codeOf card) (card-promise card sound) position received h within .0)
 
 pub off-by-at-most-twice-turned : (card received : List ℕ) → OffByAtMostTwiceTurned card received (readAnswer card received)
 unfolding OffByAtMostTwiceTurned
 off-by-at-most-twice-turned card received position sound h within =
-    let bound = error-bounded (codeOf card) (kept card sound) position received h within in
+    let bound = error-bounded (codeOf card) (card-promise card sound) position received h within in
     rw (read-sound card received sound)
     (near-loosen (readWord (codeOf card) received) position
     (turned (codeOf card) position received + residualOf (readWord (codeOf card) received)) _ (omega arith) (bound .0))

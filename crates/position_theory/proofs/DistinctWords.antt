@@ -2,7 +2,6 @@
 -- positions share a word, since a word with nothing turned is read as each position that has it.
 -- Assumes nothing.
 use mathlib.Core.Path.{_≡_, _∙_}
-use mathlib.Core.Bool.{false}
 use mathlib.Core.Logic.{⊎-elim}
 use Prim.Native.Nat.{ℕ, _+_, _≤_, _<_}
 use native.Mathlib.Nat.{eq-or-lt-of-le}
@@ -10,21 +9,18 @@ use native.Mathlib.Omega.{arith}
 use Rattle.bits.specs.Sums.{distance}
 use Rattle.bits.specs.Places.{differingBits}
 use Rattle.bits.proofs.Distance.{distance-self}
-use Rattle.bits.proofs.Searches.{any-none}
-use Rattle.bits.proofs.Places.{length-pack, place-pack, cut-above}
-use Rattle.bits.proofs.PackedDistance.{packed-distance}
 use Rattle.model.specs.Card.{Code}
 use Rattle.model.specs.Order.{lastCodeword, lastPosition}
 use Rattle.model.specs.Words.{wordBits, blockOf, wordAt, wordBytes}
-use Rattle.model.specs.Answers.{spareSet, readWord}
+use Rattle.model.specs.Answers.{readWord}
 use Rattle.model.specs.declared.ReadAnswer.{ReadAnswer}
 use Rattle.model.specs.declared.ReadAnswer.the-variants.{At, Refused}
 use Rattle.code_theory.specs.Promise.{ChunkPromise}
-use Rattle.position_theory.specs.Ranges.{Isometric}
 use Rattle.position_theory.specs.Damage.{WithinRadius, turnedInAll, turned, Near}
+use Rattle.position_theory.proofs.WordBytes.{length-of-word, no-spare-set, differing-words}
 use Rattle.position_theory.proofs.Blocks.{block-le, block-low, block-high}
-use Rattle.position_theory.proofs.Isometry.{isometric-block}
-use Rattle.position_theory.proofs.BoundedError.{word-at-bits, error-bounded, near-loosen}
+use Rattle.position_theory.proofs.Isometry.{Isometric, isometric-block}
+use Rattle.position_theory.proofs.BoundedError.{error-bounded, near-loosen}
 
 module _ (C : Code) (promise : ChunkPromise C) where
   -- a position before the last is in a block that is not the last
@@ -50,25 +46,14 @@ module _ (C : Code) (promise : ChunkPromise C) where
 
   pub neighbours-differ : (position : ℕ) → position < lastPosition C
       → differingBits (wordBytes C position) (wordBytes C (position + 1)) ≡ 1
-  unfolding wordBytes
-  neighbours-differ position h =
-      packed-distance (wordBits C) (word-at-bits C position) (word-at-bits C (position + 1)) ∙ step-turns-one-bit position h
+  neighbours-differ position h = differing-words C position (position + 1) ∙ step-turns-one-bit position h
 
   -- an undamaged word is within the radius, with nothing turned
-  spare-zero : (position : ℕ) → spareSet C (wordBytes C position) ≡ false
-  unfolding spareSet wordBytes
-  spare-zero position =
-      any-none _ _ (λ q b. rw (
-        place-pack (wordBits C) (wordAt C position) (word-at-bits C position) (wordBits C + q),
-        cut-above (wordBits C) (wordAt C position) (wordBits C + q) (omega arith),
-      ))
-
   undamaged : (position : ℕ) → WithinRadius C position (wordBytes C position)
-  unfolding wordBytes
   undamaged position =
       record {
-        right-length = length-pack (wordBits C) (wordAt C position);
-        spare-zero = spare-zero position;
+        right-length = length-of-word C position;
+        spare-zero = no-spare-set C position;
         chunks =
             record {
               in-separator₁ = rw distance-self (omega arith);
@@ -83,17 +68,18 @@ module _ (C : Code) (promise : ChunkPromise C) where
   unfolding turned turnedInAll
   nothing-turned position = simp distance-self
 
-  -- an answer no steps from two positions is one position
+  -- two positions that are no steps from one answer are one
   one-answer : (answer : ReadAnswer) (p q : ℕ) → Near answer p 0 → Near answer q 0 → p ≡ q
   unfolding Near
   one-answer (At a r rule) p q near near′ = omega arith
   one-answer (Refused refusal) p q near near′ = absurd near
 
+  -- so a word that is read with nothing turned gives back its position, and no other has it
   read-as-itself : (position : ℕ) → position ≤ lastPosition C → Near (readWord C (wordBytes C position)) position 0
   read-as-itself position h =
       let bound = error-bounded C promise position (wordBytes C position) h (undamaged position) in
       near-loosen (readWord C (wordBytes C position)) position _ 0 (omega (arith, nothing-turned position)) (bound .0)
 
-  pub words-differ : (p q : ℕ) → p ≤ lastPosition C → q ≤ lastPosition C → wordBytes C p ≡ wordBytes C q → p ≡ q
-  words-differ p q hp hq e =
+  pub words-distinct : (p q : ℕ) → p ≤ lastPosition C → q ≤ lastPosition C → wordBytes C p ≡ wordBytes C q → p ≡ q
+  words-distinct p q hp hq e =
       one-answer (readWord C (wordBytes C q)) p q (rw e at (read-as-itself p hp)) (read-as-itself q hq)

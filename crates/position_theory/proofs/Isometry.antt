@@ -1,5 +1,5 @@
--- Words are as far apart as positions within a block, ends included, and within D of a start: before a start only
--- separator 3 is changed, after it only separator 1, and these places don't meet, so the distances add.
+-- The words of two positions differ in as many bits as the positions in steps, within a block, ends included, and within D steps of
+-- a start: before a start only separator 3 changes, after it only separator 1, and since these share no place, the distances add.
 -- Assumes nothing.
 use mathlib.Core.Path.{_≡_}
 use mathlib.Core.Logic.{_⊎_, inl, inr, ⊎-elim}
@@ -14,9 +14,13 @@ use Rattle.model.specs.Card.{Code}
 use Rattle.model.specs.Order.{lastCodeword, blockLength, start, lastPosition}
 use Rattle.model.specs.Words.{wordBits, word, wordAt}
 use Rattle.code_theory.specs.Promise.{ChunkPromise}
-use Rattle.position_theory.specs.Ranges.{Isometric}
-use Rattle.position_theory.proofs.Words.{word-bits, apart, apart-separator₁, apart-chunk₂}
+use Rattle.position_theory.proofs.Words.{word-bit, apart, apart-separator₁, apart-chunk₂}
 use Rattle.position_theory.proofs.Blocks.{word-in-block, word-at-start}
+
+-- of two positions from low to high the words differ in as many bits as the positions in steps
+unfoldable pub Isometric : Code → (low high : ℕ) → Type 0
+Isometric C low high =
+    (q q′ : ℕ) → low ≤ q → q ≤ q′ → q′ ≤ high → distance (wordBits C) (wordAt C q) (wordAt C q′) + q ≡ q′
 
 -- a part of such a range is one
 pub isometric-part : (C : Code) (low high : ℕ) {low′ high′ : ℕ} → Isometric C low high → low ≤ low′ → high′ ≤ high
@@ -29,7 +33,7 @@ module _ (C : Code) (promise : ChunkPromise C) where
       → distance (wordBits C) (wordAt C (start C i + m)) (wordAt C (start C i + m′)) + m ≡ m′
   block-apart i m m′ inside h h′ =
       rw (distance-ext (wordBits C) (word-in-block C promise i m inside (omega arith)) (word-in-block C promise i m′ inside h′))
-      (walk-isometry (word-bits C i) (word-bits C (i + 1)) (wordBits C) m m′ h (rw (apart C promise i inside) h′))
+      (walk-isometry (word-bit C i) (word-bit C (i + 1)) (wordBits C) m m′ h (rw (apart C promise i inside) h′))
 
   -- a block and its end
   pub isometric-block : (i : ℕ) → i < lastCodeword C → Isometric C (start C i) (start C (i + 1))
@@ -38,7 +42,11 @@ module _ (C : Code) (promise : ChunkPromise C) where
       let offset = le-dest a in
       let offset′ : (m : ℕ) × (start C i + m ≡ q′) = le-dest (omega arith) in
       rw (← (offset .1), ← (offset′ .1))
-      (omega (arith, promise .start-next i inside, block-apart i (offset .0) (offset′ .0) inside (omega arith) (omega (arith, promise .start-next i inside))))
+      (omega (
+        arith,
+        promise .start-next i inside,
+        block-apart i (offset .0) (offset′ .0) inside (omega arith) (omega (arith, promise .start-next i inside)),
+      ))
 
   -- from D steps before the start of block i + 1 on, up to separator 3 the word is w(i+1)
   before-start : (i q : ℕ) → i < lastCodeword C → start C (i + 1) ≤ q + C .D → q ≤ start C (i + 1)
@@ -46,7 +54,7 @@ module _ (C : Code) (promise : ChunkPromise C) where
   before-start i q inside h h′ p b =
       let offset : (m : ℕ) × (start C i + m ≡ q) = le-dest (omega (arith, promise .start-next i inside)) in
       rw (← (offset .1), word-in-block C promise i (offset .0) inside (omega (arith, promise .start-next i inside)) p (omega arith))
-      (walk-before (word-bits C i) (word-bits C (i + 1)) (offset .0) b
+      (walk-before (word-bit C i) (word-bit C (i + 1)) (offset .0) b
       (rw (apart-chunk₂ C promise i inside) (omega (arith, promise .start-next i inside))))
 
   -- up to D steps after the start of block i, from separator 1 on the word is w(i)
@@ -55,8 +63,9 @@ module _ (C : Code) (promise : ChunkPromise C) where
   after-start i q inside h h′ p b b′ =
       let offset = le-dest h in
       rw (← (offset .1), word-in-block C promise i (offset .0) inside (omega arith) p b′)
-      (walk-after (word-bits C i) (word-bits C (i + 1)) (offset .0) b (rw (apart-separator₁ C promise i inside) (omega arith)))
+      (walk-after (word-bit C i) (word-bit C (i + 1)) (offset .0) b (rw (apart-separator₁ C promise i inside) (omega arith)))
 
+  -- up to D steps before a start, and after it
   isometric-before : (i : ℕ) → i < lastCodeword C → Isometric C (start C (i + 1) - C .D) (start C (i + 1))
   isometric-before i inside =
       isometric-part C (start C i) (start C (i + 1)) (isometric-block i inside) (omega (arith, promise .start-next i inside)) (omega arith)
@@ -65,6 +74,7 @@ module _ (C : Code) (promise : ChunkPromise C) where
   isometric-after i inside =
       isometric-part C (start C i) (start C (i + 1)) (isometric-block i inside) (omega arith) (omega (arith, promise .start-next i inside))
 
+  -- a range of one position
   isometric-point : (s q q′ : ℕ) → s ≤ q → q ≤ q′ → q′ ≤ s → distance (wordBits C) (wordAt C q) (wordAt C q′) + q ≡ q′
   isometric-point s q q′ a b c =
       let same : q′ ≡ q = omega arith in rw (same, distance-self (wordBits C) (wordAt C q)) (omega arith)
@@ -86,7 +96,8 @@ module _ (C : Code) (promise : ChunkPromise C) where
           → (wordAt C q p ≡ wordAt C (start C (i + 1)) p) ⊎ (wordAt C q′ p ≡ wordAt C (start C (i + 1)) p)
       one-agrees p h =
           ⊎-elim
-          (λ (l : p < C .D + C .n + C .D + C .n). inl (rw (word-at-start C promise (i + 1) (omega arith) p) (before-start i q (omega arith) a b p l)))
+          (λ (l : p < C .D + C .n + C .D + C .n).
+          inl (rw (word-at-start C promise (i + 1) (omega arith) p) (before-start i q (omega arith) a b p l)))
           (λ (l : C .D + C .n + C .D + C .n ≤ p).
           inr (rw (word-at-start C promise (i + 1) (omega arith) p) (after-start (i + 1) q′ inside c e p (omega arith) h)))
           (lt-or-le p (C .D + C .n + C .D + C .n))

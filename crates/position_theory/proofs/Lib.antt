@@ -1,13 +1,14 @@
 pub mod Words
+pub mod WordBytes
 pub mod Blocks
 pub mod Isometry
 pub mod Allowed
-pub mod TrueAllowed
 pub mod WholeChunks
+pub mod TrueAllowed
 pub mod Nearest
 pub mod BoundedError
 pub mod DistinctWords
 pub mod Demands
+pub mod Writing
 pub mod Stepping
 pub mod Bounds
-pub mod Writing

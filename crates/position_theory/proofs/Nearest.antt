@@ -1,6 +1,6 @@
 -- The reading of every word is the nearest allowed position, or the refusal of a word that allows none. Of a word that
--- allows the true position, the answer is off by at most the bits turned and the residual together, since the words of
--- allowed positions are as far apart as the positions. Assumes nothing.
+-- allows the true position, the answer is off by at most the bits turned and the residual together, since the words of allowed
+-- positions differ in as many bits as the positions in steps (triangle inequality). Assumes nothing.
 use mathlib.Core.Path.{_≡_, refl}
 use mathlib.Core.Logic.{⊎-elim}
 use Prim.Native.Nat.{ℕ, _+_, _-_, _≤_, _<_}
@@ -15,15 +15,17 @@ use Rattle.model.specs.Order.{lastPosition}
 use Rattle.model.specs.Words.{wordBits, wordAt}
 use Rattle.model.specs.Reading.{Allowed, fromTo, refusedBy, allowed, residual, nearest, reading}
 use Rattle.code_theory.specs.Promise.{ChunkPromise}
-use Rattle.position_theory.specs.Ranges.{Isometric, GoodRange, Allows}
-use Rattle.position_theory.specs.Nearest.{NearestAllowed, IsReading}
 use Rattle.position_theory.specs.Damage.{Near, residualOf}
-use Rattle.position_theory.proofs.Allowed.{allowed-good}
+use Rattle.position_theory.specs.Nearest.{NearestAllowed, IsReading}
+use Rattle.position_theory.proofs.Isometry.{Isometric}
+use Rattle.position_theory.proofs.Allowed.{IsometricOnTrack, Allows, allowed-isometric}
 
 module _ (C : Code) (promise : ChunkPromise C) (x : ℕ → ℕ) where
-  good : (rule low high : ℕ) → allowed C x ≡ fromTo rule low high → GoodRange C (fromTo rule low high)
-  good rule low high is = rw is at (allowed-good C promise x)
+  -- of whatever range is allowed, what is known of every one
+  range : (rule low high : ℕ) → allowed C x ≡ fromTo rule low high → IsometricOnTrack C (fromTo rule low high)
+  range rule low high is = rw is at (allowed-isometric C promise x)
 
+  -- what the search for the least residual finds is the nearest allowed position
   nearest-is : (rule low high : ℕ) → allowed C x ≡ fromTo rule low high → low ≤ high → high ≤ lastPosition C
       → NearestAllowed C x (leastAt (residual C x) low (high - low)) (residual C x (leastAt (residual C x) low (high - low))) rule
   nearest-is rule low high is h top =
@@ -41,8 +43,8 @@ module _ (C : Code) (promise : ChunkPromise C) (x : ℕ → ℕ) where
       }
 
   reading-of : (a : Allowed) → allowed C x ≡ a → IsReading C x (nearest C x a)
-  unfolding nearest IsReading GoodRange
-  reading-of (fromTo rule low high) is = nearest-is rule low high is (good rule low high is .0) (good rule low high is .1)
+  unfolding nearest IsReading IsometricOnTrack
+  reading-of (fromTo rule low high) is = nearest-is rule low high is (range rule low high is .0) (range rule low high is .1)
   reading-of (refusedBy refusal) is = is
 
   -- demand 2, reading: for every word
@@ -69,9 +71,9 @@ module _ (C : Code) (promise : ChunkPromise C) (x : ℕ → ℕ) where
   -- the answer to a word that allows a position is as near to that position as the bits turned and the residual say
   pub answer-near : (position : ℕ) → Allows C x position
       → Near (reading C x) position (residual C x position + residualOf (reading C x)) × (residualOf (reading C x) ≤ residual C x position)
-  unfolding reading nearest Near residualOf GoodRange nearest-is
+  unfolding reading nearest Near residualOf IsometricOnTrack nearest-is
   answer-near position a =
-      let facts = good (a .rule) (a .low) (a .high) (a .is) in
+      let facts = range (a .rule) (a .low) (a .high) (a .is) in
       let q : ℕ = leastAt (residual C x) (a .low) (a .high - a .low) in
       let n = nearest-is (a .rule) (a .low) (a .high) (a .is) (facts .0) (facts .1) in
       rw (a .is) (

@@ -1,37 +1,25 @@
 -- Stepping through a block place by place: each place in which w(i) and w(i+1) differ is one step, and a step changes the
 -- residual by that place alone. So a search need not make a new word for each position. Assumes nothing.
-use mathlib.Core.Path.{_≡_, refl}
+use mathlib.Core.Path.{_≡_}
 use mathlib.Core.Bool.{cond}
 use mathlib.Core.Logic.{⊎-elim}
-use Prim.Native.Nat.{ℕ, suc, _+_, _-_, _≤_, _<_}
-use native.Mathlib.Nat.{add-assoc, add-suc, le-dest, add-sub-cancel-left}
-use native.Mathlib.Numerals.{add-one}
+use Prim.Native.Nat.{ℕ, suc, _+_, _≤_, _<_}
+use native.Mathlib.Nat.{add-assoc}
 use native.Mathlib.Omega.{arith}
 use lib.Dec.{ltb}
 use borrow.Author.Tests.{lt-ltb, le-ltb}
 use Rattle.bits.specs.Sums.{distance, unlike}
 use Rattle.bits.specs.Walk.{walk}
-use Rattle.bits.specs.Searches.{leastAt}
 use Rattle.bits.proofs.Numbers.{lt-or-le}
-use Rattle.bits.proofs.Distance.{distance-ext, distance-suc, distance-longer}
+use Rattle.bits.proofs.Distance.{distance-ext-left, distance-suc, distance-longer}
 use Rattle.bits.proofs.Walk.{walk-step, walk-before, walk-after}
 use Rattle.model.specs.Card.{Code}
 use Rattle.model.specs.Order.{lastCodeword, blockLength, start}
 use Rattle.model.specs.Words.{wordBits, word, wordAt}
 use Rattle.model.specs.Reading.{residual}
 use Rattle.code_theory.specs.Promise.{ChunkPromise}
-use Rattle.position_theory.proofs.Words.{word-bits, apart}
+use Rattle.position_theory.proofs.Words.{word-bit, apart}
 use Rattle.position_theory.proofs.Blocks.{word-in-block}
-
--- the nearest of one position more
-pub leastAt-next : (f : ℕ → ℕ) (low position : ℕ) → low ≤ position
-    → leastAt f low (position + 1 - low)
-    ≡ cond (ltb (f (position + 1)) (f (leastAt f low (position - low)))) (position + 1) (leastAt f low (position - low))
-unfolding leastAt
-leastAt-next f low position h =
-    let offset = le-dest h in
-    let next : low + (offset .0) + 1 - low ≡ suc (offset .0) = omega arith in
-    rw (← (offset .1), next, add-sub-cancel-left low (offset .0), add-suc low (offset .0), add-one (low + (offset .0)))
 
 module _ (C : Code) (promise : ChunkPromise C) (i : ℕ) (inside : i < lastCodeword C) where
   -- no more steps are made below any place than the block has
@@ -41,7 +29,7 @@ module _ (C : Code) (promise : ChunkPromise C) (i : ℕ) (inside : i < lastCodew
   residual-in-block : (x : ℕ → ℕ) (m : ℕ) → m ≤ blockLength C i
       → residual C x (start C i + m) ≡ distance (wordBits C) (walk (word C i) (word C (i + 1)) m) x
   unfolding residual
-  residual-in-block x m room = distance-ext (wordBits C) (word-in-block C promise i m inside room) (λ p b. refl)
+  residual-in-block x m room = distance-ext-left (wordBits C) x (word-in-block C promise i m inside room)
 
   -- a place that differs is one step, which turns that place from w(i)'s bit to w(i+1)'s
   pub residual-step : (x : ℕ → ℕ) (q m : ℕ) → q < wordBits C → distance q (word C i) (word C (i + 1)) ≡ m
@@ -52,7 +40,7 @@ module _ (C : Code) (promise : ChunkPromise C) (i : ℕ) (inside : i < lastCodew
       omega (arith, distance-suc q (word C i) (word C (i + 1)), steps-room (suc q) h)
       in
       rw (add-assoc (start C i) m 1, residual-in-block x (m + 1) room, residual-in-block x m (omega arith))
-      (walk-step (word-bits C i) (word-bits C (i + 1)) x (wordBits C) m q h e differs)
+      (walk-step (word-bit C i) (word-bit C (i + 1)) x (wordBits C) m q h e differs)
 
   -- where the places below a have been passed, the word is w(i+1) below a and w(i) from there on
   pub word-passed : (a p : ℕ) → a ≤ wordBits C → p < wordBits C
@@ -60,6 +48,6 @@ module _ (C : Code) (promise : ChunkPromise C) (i : ℕ) (inside : i < lastCodew
   word-passed a p h b =
       rw (word-in-block C promise i (distance a (word C i) (word C (i + 1))) inside (steps-room a h) p b)
       (⊎-elim
-      (λ (l : p < a). rw (lt-ltb p a l) (walk-before (word-bits C i) (word-bits C (i + 1)) _ l (omega arith)))
-      (λ (l : a ≤ p). rw (le-ltb p a l) (walk-after (word-bits C i) (word-bits C (i + 1)) _ l (omega arith)))
+      (λ (l : p < a). rw (lt-ltb p a l) (walk-before (word-bit C i) (word-bit C (i + 1)) _ l (omega arith)))
+      (λ (l : a ≤ p). rw (le-ltb p a l) (walk-after (word-bit C i) (word-bit C (i + 1)) _ l (omega arith)))
       (lt-or-le p a))

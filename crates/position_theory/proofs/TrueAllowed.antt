@@ -2,7 +2,6 @@
 -- rule that reads whole chunks only and allows the position. Five cases by the offset m into block i.
 -- Assumes nothing.
 use mathlib.Core.Path.{_≡_, refl}
-use mathlib.Core.Bool.{Bool, true, false, cond}
 use mathlib.Core.Logic.{_⊎_, inl, inr, ⊎-elim}
 use Prim.Native.Nat.{ℕ, _+_, _-_, _*_, _%_, _≤_, _<_, min}
 use native.Mathlib.Nat.{add-sub-cancel}
@@ -10,132 +9,138 @@ use native.Mathlib.Omega.{arith}
 use lib.Dec.{ltb}
 use borrow.Author.Tests.{eq-eqb, ne-eqb}
 use Rattle.bits.specs.Sums.{sumBelow}
-use Rattle.bits.proofs.Numbers.{lt-or-le, eq-or-ne}
+use Rattle.bits.proofs.Numbers.{lt-or-le, eq-or-ne, by-test}
 use Rattle.model.specs.Card.{Code}
 use Rattle.model.specs.Order.{lastCodeword, changedWeight, blockLength, start, lastPosition}
-use Rattle.model.specs.Reading.{majority, ruleOf, ruleNamed, chunk₁, separator₂, chunk₂, separator₃, fromTo, rule₁, rule₂, rule₃, allowedBy, allowed}
+use Rattle.model.specs.Reading.{majority, chunk₁, separator₂, chunk₂, separator₃}
+use Rattle.model.specs.Reading.{ruleOf, rule₁, rule₂, rule₃, allowedBy, ruleNamed, allowed}
 use Rattle.code_theory.specs.Promise.{ChunkPromise}
-use Rattle.position_theory.specs.Ranges.{Allows}
-use Rattle.position_theory.specs.WholeChunks.{ReadsAs, WholeChunksRead}
-use Rattle.position_theory.proofs.Allowed.{start-on-track}
+use Rattle.position_theory.proofs.Allowed.{Allows, start-on-track}
+use Rattle.position_theory.proofs.WholeChunks.{ReadsAs, WholeChunksRead}
 
 -- a separator reads 0 or 1
 majority-bit : (D : ℕ) (y : ℕ → ℕ) → majority D y < 2
 unfolding majority
-majority-bit D y = by-test (ltb D (2 * sumBelow y D))
-  where
-    by-test : (t : Bool) → cond t 1 0 < 2
-    by-test true = omega arith
-    by-test false = omega arith
+majority-bit D y = by-test (λ b. b < 2) (ltb D (2 * sumBelow y D)) (λ _. omega arith) (λ _. omega arith)
 
-module _ (C : Code) (x : ℕ → ℕ) (b c : ℕ) where
-  allowed₁ : (p : ℕ) → majority (C .D) x ≡ b → majority (C .D) (separator₂ C x) ≡ b → majority (C .D) (separator₃ C x) ≡ c
-      → (b ≡ c → ⊥) → ReadsAs C (chunk₁ C x) (p + 1)
-      → allowed C x ≡ fromTo 1 (start C p + C .D + changedWeight C p) (start C (p + 1))
+-- the three separators of the received word x read s₁, s₂ and s₃
+abbrev Separators : Code → (ℕ → ℕ) → (s₁ s₂ s₃ : ℕ) → Type 0
+Separators C x s₁ s₂ s₃ =
+    (majority (C .D) x ≡ s₁) × (majority (C .D) (separator₂ C x) ≡ s₂) × (majority (C .D) (separator₃ C x) ≡ s₃)
+
+-- what each rule allows
+module _ (C : Code) (x : ℕ → ℕ) (b c p position : ℕ) where
+  by-rule₁ : Separators C x b b c → (b ≡ c → ⊥) → ReadsAs C (chunk₁ C x) (p + 1)
+      → start C p + C .D + changedWeight C p ≤ position → position ≤ start C (p + 1) → Allows C x position
   unfolding allowed ruleNamed ruleOf allowedBy rule₁ ReadsAs
-  allowed₁ p h₁ h₂ h₃ ne r =
-      simp (h₁, h₂, h₃, eq-eqb b b refl, ne-eqb b c ne, r .1, ne-eqb (p + 1) 0 (omega arith), add-sub-cancel)
+  by-rule₁ s ne r low high =
+      record {
+        rule = 1;
+        low = start C p + C .D + changedWeight C p;
+        high = start C (p + 1);
+        is = simp (s .0, s .1, s .2, eq-eqb b b refl, ne-eqb b c ne, r .1, ne-eqb (p + 1) 0 (omega arith), add-sub-cancel);
+        from-low = low;
+        to-high = high;
+      }
 
-  allowed₂ : (p : ℕ) → majority (C .D) x ≡ b → majority (C .D) (separator₂ C x) ≡ c → majority (C .D) (separator₃ C x) ≡ c
-      → (b ≡ c → ⊥) → ReadsAs C (chunk₂ C x) p → p < lastCodeword C
-      → allowed C x ≡ fromTo 2 (start C p) (start C p + 2 * C .D + changedWeight C p)
+  by-rule₂ : Separators C x b c c → (b ≡ c → ⊥) → ReadsAs C (chunk₂ C x) p → p < lastCodeword C
+      → start C p ≤ position → position ≤ start C p + 2 * C .D + changedWeight C p → Allows C x position
   unfolding allowed ruleNamed ruleOf allowedBy rule₂ ReadsAs
-  allowed₂ p h₁ h₂ h₃ ne r l =
-      simp (h₁, h₂, h₃, eq-eqb c c refl, ne-eqb b c ne, r .1, ne-eqb p (lastCodeword C) (omega arith))
+  by-rule₂ s ne r inside low high =
+      record {
+        rule = 2;
+        low = start C p;
+        high = start C p + 2 * C .D + changedWeight C p;
+        is = simp (s .0, s .1, s .2, eq-eqb c c refl, ne-eqb b c ne, r .1, ne-eqb p (lastCodeword C) (omega arith));
+        from-low = low;
+        to-high = high;
+      }
 
-  allowed₃ : (p : ℕ) → majority (C .D) x ≡ b → majority (C .D) (separator₂ C x) ≡ b → majority (C .D) (separator₃ C x) ≡ b
-      → ReadsAs C (chunk₁ C x) p → ReadsAs C (chunk₂ C x) p
-      → allowed C x ≡ fromTo 3 (start C p - C .D) (min (start C p + C .D) (lastPosition C))
+  by-rule₃ : Separators C x b b b → ReadsAs C (chunk₁ C x) p → ReadsAs C (chunk₂ C x) p
+      → start C p ≤ position + C .D → position ≤ start C p + C .D → position ≤ lastPosition C → Allows C x position
   unfolding allowed ruleNamed ruleOf allowedBy rule₃ ReadsAs
-  allowed₃ p h₁ h₂ h₃ r r′ = simp (h₁, h₂, h₃, eq-eqb b b refl, r .1, r′ .1, eq-eqb p p refl)
+  by-rule₃ s r r′ low high on-track =
+      record {
+        rule = 3;
+        low = start C p - C .D;
+        high = min (start C p + C .D) (lastPosition C);
+        is = simp (s .0, s .1, s .2, eq-eqb b b refl, r .1, r′ .1, eq-eqb p p refl);
+        from-low = omega arith;
+        to-high = omega arith;
+      }
 
 -- at a start no chunk is divided
 pub start-allowed : (C : Code) (promise : ChunkPromise C) (x : ℕ → ℕ) (i : ℕ) → i ≤ lastCodeword C → WholeChunksRead C x i 0
     → Allows C x (start C i)
 start-allowed C promise x i h w =
-    record {
-      rule = 3;
-      low = start C i - C .D;
-      high = min (start C i + C .D) (lastPosition C);
-      is =
-          allowed₃ C x (i % 2) 0 i (w .separator₁-old refl) (w .separator₂-old (omega arith)) (w .separator₃-old (omega arith))
-          (w .chunk₁-old (omega arith)) (w .chunk₂-old (omega arith));
-      from-low = omega arith;
-      to-high = omega (arith, start-on-track C promise i h);
-    }
+    by-rule₃ C x (i % 2) 0 i (start C i)
+    (w .separator₁-old refl, w .separator₂-old (omega arith), w .separator₃-old (omega arith))
+    (w .chunk₁-old (omega arith)) (w .chunk₂-old (omega arith)) (omega arith) (omega arith) (start-on-track C promise i h)
 
--- inside a block that is not the last
-module _ (C : Code) (promise : ChunkPromise C) (x : ℕ → ℕ) (i m : ℕ) (inside : i < lastCodeword C) (w : WholeChunksRead C x i m) where
-  parities-differ : ((i + 1) % 2 ≡ i % 2 → ⊥)
-  parities-differ e = omega arith
-
-  -- a separator that doesn't read as the parity of i reads as that of i + 1
-  either : (y : ℕ → ℕ) → (majority (C .D) y ≡ i % 2) ⊎ (majority (C .D) y ≡ (i + 1) % 2)
-  either y =
+-- m steps into a block that is not the last, by which chunk is divided there
+module _ (C : Code) (promise : ChunkPromise C) (x : ℕ → ℕ) (i m : ℕ) (inside : i < lastCodeword C) (room : m ≤ blockLength C i)
+    (w : WholeChunksRead C x i m) where
+  -- a separator reads as the parity of i or as that of i + 1
+  old-or-new : (y : ℕ → ℕ) → (majority (C .D) y ≡ i % 2) ⊎ (majority (C .D) y ≡ (i + 1) % 2)
+  old-or-new y =
       ⊎-elim inl (λ (ne : majority (C .D) y ≡ i % 2 → ⊥). inr (omega (arith, majority-bit (C .D) y)))
       (eq-or-ne (majority (C .D) y) (i % 2))
 
-  -- rule 2 of block i, rule 1 of block i, and rule 3 around the starts at either end
-  by-rule₂ : majority (C .D) x ≡ (i + 1) % 2 → majority (C .D) (separator₂ C x) ≡ i % 2 → majority (C .D) (separator₃ C x) ≡ i % 2
-      → m ≤ 2 * C .D + changedWeight C i → Allows C x (start C i + m)
-  by-rule₂ h₁ h₂ h₃ b =
-      record {
-        rule = 2;
-        low = start C i;
-        high = start C i + 2 * C .D + changedWeight C i;
-        is = allowed₂ C x _ _ i h₁ h₂ h₃ parities-differ (w .chunk₂-old b) inside;
-        from-low = omega arith;
-        to-high = omega arith;
-      }
+  parities-differ : (i + 1) % 2 ≡ i % 2 → ⊥
+  parities-differ e = omega arith
 
-  by-rule₁ : majority (C .D) x ≡ (i + 1) % 2 → majority (C .D) (separator₂ C x) ≡ (i + 1) % 2
-      → majority (C .D) (separator₃ C x) ≡ i % 2 → C .D + changedWeight C i ≤ m → m ≤ blockLength C i → Allows C x (start C i + m)
-  by-rule₁ h₁ h₂ h₃ b b′ =
-      record {
-        rule = 1;
-        low = start C i + C .D + changedWeight C i;
-        high = start C (i + 1);
-        is = allowed₁ C x _ _ i h₁ h₂ h₃ parities-differ (w .chunk₁-new b);
-        from-low = omega arith;
-        to-high = omega (arith, promise .start-next i inside);
-      }
+  on-track : start C i + m ≤ lastPosition C
+  on-track =
+      let next : i + 1 ≤ lastCodeword C = omega arith in
+      omega (arith, promise .start-next i inside, start-on-track C promise (i + 1) next)
 
-  by-rule₃-old : majority (C .D) x ≡ i % 2 → m ≤ C .D → Allows C x (start C i + m)
-  by-rule₃-old h₁ b =
-      record {
-        rule = 3;
-        low = start C i - C .D;
-        high = min (start C i + C .D) (lastPosition C);
-        is =
-            allowed₃ C x (i % 2) 0 i h₁ (w .separator₂-old (omega arith)) (w .separator₃-old (omega arith)) (w .chunk₁-old b)
-            (w .chunk₂-old (omega arith));
-        from-low = omega arith;
-        to-high = omega (arith, promise .start-next i inside, start-on-track C promise (i + 1) inside-next);
-      }
-    where
-      inside-next : i + 1 ≤ lastCodeword C
-      inside-next = omega arith
+  -- rule 3 around the start, rule 2, rule 1, and rule 3 around the end
+  around-start : majority (C .D) x ≡ i % 2 → m < C .D → Allows C x (start C i + m)
+  around-start s₁ h =
+      by-rule₃ C x (i % 2) 0 i _ (s₁, w .separator₂-old (omega arith), w .separator₃-old (omega arith))
+      (w .chunk₁-old (omega arith)) (w .chunk₂-old (omega arith)) (omega arith) (omega arith) on-track
 
-  by-rule₃-new : majority (C .D) (separator₃ C x) ≡ (i + 1) % 2 → 2 * C .D + 2 * changedWeight C i ≤ m → m ≤ blockLength C i
-      → Allows C x (start C i + m)
-  by-rule₃-new h₃ b b′ =
-      record {
-        rule = 3;
-        low = start C (i + 1) - C .D;
-        high = min (start C (i + 1) + C .D) (lastPosition C);
-        is =
-            allowed₃ C x ((i + 1) % 2) 0 (i + 1) (w .separator₁-new (omega arith)) (w .separator₂-new (omega arith)) h₃
-            (w .chunk₁-new (omega arith)) (w .chunk₂-new b);
-        from-low = omega (arith, promise .start-next i inside);
-        to-high = omega (arith, promise .start-next i inside, start-on-track C promise (i + 1) inside-next);
-      }
-    where
-      inside-next : i + 1 ≤ lastCodeword C
-      inside-next = omega arith
+  first-part : majority (C .D) x ≡ (i + 1) % 2 → majority (C .D) (separator₂ C x) ≡ i % 2
+      → m < 2 * C .D + changedWeight C i → Allows C x (start C i + m)
+  first-part s₁ s₂ h =
+      by-rule₂ C x _ _ i _ (s₁, s₂, w .separator₃-old (omega arith)) parities-differ (w .chunk₂-old (omega arith)) inside
+      (omega arith) (omega arith)
 
-  -- the five cases: which chunk is divided
-  pub inside-allowed : m ≤ blockLength C i → Allows C x (start C i + m)
-  inside-allowed room =
+  last-part : majority (C .D) (separator₂ C x) ≡ (i + 1) % 2 → majority (C .D) (separator₃ C x) ≡ i % 2
+      → C .D + changedWeight C i ≤ m → Allows C x (start C i + m)
+  last-part s₂ s₃ l =
+      by-rule₁ C x _ _ i _ (w .separator₁-new (omega arith), s₂, s₃) parities-differ (w .chunk₁-new l)
+      (omega arith) (omega (arith, promise .start-next i inside))
+
+  around-end : majority (C .D) (separator₃ C x) ≡ (i + 1) % 2 → 2 * C .D + 2 * changedWeight C i ≤ m → Allows C x (start C i + m)
+  around-end s₃ l =
+      by-rule₃ C x ((i + 1) % 2) 0 (i + 1) _ (w .separator₁-new (omega arith), w .separator₂-new (omega arith), s₃)
+      (w .chunk₁-new (omega arith)) (w .chunk₂-new l)
+      (omega (arith, promise .start-next i inside)) (omega (arith, promise .start-next i inside)) on-track
+
+  in-separator₁ : m < C .D → Allows C x (start C i + m)
+  in-separator₁ h =
+      ⊎-elim (λ old. around-start old h) (λ new. first-part new (w .separator₂-old (omega arith)) (omega arith)) (old-or-new x)
+
+  in-chunk₁ : C .D ≤ m → m < C .D + changedWeight C i → Allows C x (start C i + m)
+  in-chunk₁ l h = first-part (w .separator₁-new l) (w .separator₂-old (omega arith)) (omega arith)
+
+  in-separator₂ : C .D + changedWeight C i ≤ m → m < 2 * C .D + changedWeight C i → Allows C x (start C i + m)
+  in-separator₂ l h =
+      ⊎-elim (λ old. first-part (w .separator₁-new (omega arith)) old h)
+      (λ new. last-part new (w .separator₃-old (omega arith)) l)
+      (old-or-new (separator₂ C x))
+
+  in-chunk₂ : 2 * C .D + changedWeight C i ≤ m → m < 2 * C .D + 2 * changedWeight C i → Allows C x (start C i + m)
+  in-chunk₂ l h = last-part (w .separator₂-new l) (w .separator₃-old (omega arith)) (omega arith)
+
+  in-separator₃ : 2 * C .D + 2 * changedWeight C i ≤ m → Allows C x (start C i + m)
+  in-separator₃ l =
+      ⊎-elim (λ old. last-part (w .separator₂-new (omega arith)) old (omega arith)) (λ new. around-end new l)
+      (old-or-new (separator₃ C x))
+
+  pub inside-allowed : Allows C x (start C i + m)
+  inside-allowed =
       ⊎-elim in-separator₁
       (λ (h₁ : C .D ≤ m). ⊎-elim (in-chunk₁ h₁)
       (λ (h₂ : C .D + changedWeight C i ≤ m). ⊎-elim (in-separator₂ h₂)
@@ -144,28 +149,3 @@ module _ (C : Code) (promise : ChunkPromise C) (x : ℕ → ℕ) (i m : ℕ) (in
       (lt-or-le m (2 * C .D + changedWeight C i)))
       (lt-or-le m (C .D + changedWeight C i)))
       (lt-or-le m (C .D))
-    where
-      in-separator₁ : m < C .D → Allows C x (start C i + m)
-      in-separator₁ h =
-          ⊎-elim (λ old. by-rule₃-old old (omega arith))
-          (λ new. by-rule₂ new (w .separator₂-old (omega arith)) (w .separator₃-old (omega arith)) (omega arith))
-          (either x)
-
-      in-chunk₁ : C .D ≤ m → m < C .D + changedWeight C i → Allows C x (start C i + m)
-      in-chunk₁ l h = by-rule₂ (w .separator₁-new l) (w .separator₂-old (omega arith)) (w .separator₃-old (omega arith)) (omega arith)
-
-      in-separator₂ : C .D + changedWeight C i ≤ m → m < 2 * C .D + changedWeight C i → Allows C x (start C i + m)
-      in-separator₂ l h =
-          ⊎-elim (λ old. by-rule₂ (w .separator₁-new (omega arith)) old (w .separator₃-old (omega arith)) (omega arith))
-          (λ new. by-rule₁ (w .separator₁-new (omega arith)) new (w .separator₃-old (omega arith)) l room)
-          (either (separator₂ C x))
-
-      in-chunk₂ : 2 * C .D + changedWeight C i ≤ m → m < 2 * C .D + 2 * changedWeight C i → Allows C x (start C i + m)
-      in-chunk₂ l h =
-          by-rule₁ (w .separator₁-new (omega arith)) (w .separator₂-new l) (w .separator₃-old (omega arith)) (omega arith) room
-
-      in-separator₃ : 2 * C .D + 2 * changedWeight C i ≤ m → Allows C x (start C i + m)
-      in-separator₃ l =
-          ⊎-elim (λ old. by-rule₁ (w .separator₁-new (omega arith)) (w .separator₂-new (omega arith)) old (omega arith) room)
-          (λ new. by-rule₃-new new l room)
-          (either (separator₃ C x))

@@ -6,7 +6,8 @@ use native.Mathlib.Nat.{add-assoc, mod-lt}
 use native.Mathlib.Omega.{arith}
 use Rattle.bits.specs.Sums.{distance}
 use Rattle.bits.specs.Places.{bit}
-use Rattle.bits.proofs.Distance.{distance-ext, distance-split, distance-everywhere, join-left, join-right, join-bits}
+use Rattle.bits.proofs.Distance.{distance-ext, distance-split, distance-everywhere}
+use Rattle.bits.proofs.Joins.{join-left, join-right, join-bit}
 use Rattle.model.specs.Card.{Code}
 use Rattle.model.specs.Order.{codeword, lastCodeword, changedWeight, blockLength}
 use Rattle.model.specs.Words.{wordBits, fiveChunks, word}
@@ -56,10 +57,10 @@ module _ (C : Code) (i : ℕ) where
   unfolding word
   word-separator₃ p = five-separator₃ C _ _ _ _ _ p
 
-  pub word-bits : (p : ℕ) → word C i p < 2
+  pub word-bit : (p : ℕ) → word C i p < 2
   unfolding word fiveChunks
-  word-bits =
-      join-bits (C .D) parity-bit (join-bits (C .n) code-bit (join-bits (C .D) parity-bit (join-bits (C .n) code-bit parity-bit)))
+  word-bit =
+      join-bit (C .D) parity-bit (join-bit (C .n) code-bit (join-bit (C .D) parity-bit (join-bit (C .n) code-bit parity-bit)))
     where
       parity-bit : ℕ → i % 2 < 2
       parity-bit p = omega arith
@@ -85,25 +86,26 @@ five-distance C x y =
       distance-split (C .D) (C .n) x y,
     )
 
--- how far w(i) and w(i+1) are apart up to the end of each chunk: each separator is turned over, each code chunk by a row
+-- how far w(i) and w(i+1) are apart up to the end of each chunk: a separator's bits all change, and of a code chunk as many as the
+-- changed row's weight
 module _ (C : Code) (promise : ChunkPromise C) (i : ℕ) (inside : i < lastCodeword C) where
-  turned-over : (u v : ℕ → ℕ) → ((p : ℕ) → p < C .D → u p ≡ i % 2) → ((p : ℕ) → p < C .D → v p ≡ (i + 1) % 2)
+  separators-apart : (u v : ℕ → ℕ) → ((p : ℕ) → p < C .D → u p ≡ i % 2) → ((p : ℕ) → p < C .D → v p ≡ (i + 1) % 2)
       → distance (C .D) u v ≡ C .D
-  turned-over u v hu hv = distance-everywhere u v (C .D) (λ p b. rw (hu p b, hv p b) (omega arith))
+  separators-apart u v hu hv = distance-everywhere u v (C .D) (λ p b. rw (hu p b, hv p b) (omega arith))
 
-  by-a-row : (u v : ℕ → ℕ) → ((p : ℕ) → p < C .n → u p ≡ bit (codeword C i) p)
+  chunks-apart : (u v : ℕ → ℕ) → ((p : ℕ) → p < C .n → u p ≡ bit (codeword C i) p)
       → ((p : ℕ) → p < C .n → v p ≡ bit (codeword C (i + 1)) p) → distance (C .n) u v ≡ changedWeight C i
-  by-a-row u v hu hv = rw (distance-ext (C .n) hu hv) (promise .step i inside)
+  chunks-apart u v hu hv = rw (distance-ext (C .n) hu hv) (promise .step i inside)
 
   pub apart-separator₁ : distance (C .D) (word C i) (word C (i + 1)) ≡ C .D
-  apart-separator₁ = turned-over _ _ (word-separator₁ C i) (word-separator₁ C (i + 1))
+  apart-separator₁ = separators-apart _ _ (word-separator₁ C i) (word-separator₁ C (i + 1))
 
   pub apart-chunk₁ : distance (C .D + C .n) (word C i) (word C (i + 1)) ≡ C .D + changedWeight C i
   apart-chunk₁ =
       rw (
         distance-split (C .D) (C .n) (word C i) (word C (i + 1)),
         apart-separator₁,
-        by-a-row _ _ (word-chunk₁ C i) (word-chunk₁ C (i + 1)),
+        chunks-apart _ _ (word-chunk₁ C i) (word-chunk₁ C (i + 1)),
       )
 
   pub apart-separator₂ : distance (C .D + C .n + C .D) (word C i) (word C (i + 1)) ≡ 2 * C .D + changedWeight C i
@@ -111,7 +113,7 @@ module _ (C : Code) (promise : ChunkPromise C) (i : ℕ) (inside : i < lastCodew
       rw (
         distance-split (C .D + C .n) (C .D) (word C i) (word C (i + 1)),
         apart-chunk₁,
-        turned-over _ _ (word-separator₂ C i) (word-separator₂ C (i + 1)),
+        separators-apart _ _ (word-separator₂ C i) (word-separator₂ C (i + 1)),
       ) (omega arith)
 
   pub apart-chunk₂ : distance (C .D + C .n + C .D + C .n) (word C i) (word C (i + 1)) ≡ 2 * C .D + 2 * changedWeight C i
@@ -119,7 +121,7 @@ module _ (C : Code) (promise : ChunkPromise C) (i : ℕ) (inside : i < lastCodew
       rw (
         distance-split (C .D + C .n + C .D) (C .n) (word C i) (word C (i + 1)),
         apart-separator₂,
-        by-a-row _ _ (word-chunk₂ C i) (word-chunk₂ C (i + 1)),
+        chunks-apart _ _ (word-chunk₂ C i) (word-chunk₂ C (i + 1)),
       ) (omega arith)
 
   pub apart : distance (wordBits C) (word C i) (word C (i + 1)) ≡ blockLength C i
@@ -128,5 +130,5 @@ module _ (C : Code) (promise : ChunkPromise C) (i : ℕ) (inside : i < lastCodew
         word-in-order C,
         distance-split (C .D + C .n + C .D + C .n) (C .D) (word C i) (word C (i + 1)),
         apart-chunk₂,
-        turned-over _ _ (λ p _. word-separator₃ C i p) (λ p _. word-separator₃ C (i + 1) p),
+        separators-apart _ _ (λ p _. word-separator₃ C i p) (λ p _. word-separator₃ C (i + 1) p),
       ) (omega arith)

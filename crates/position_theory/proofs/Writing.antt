@@ -3,12 +3,14 @@
 use mathlib.Core.Path.{_≡_, refl}
 use mathlib.Core.Bool.{Bool, true, false, cond, not}
 use mathlib.Core.List.{List}
+use mathlib.Core.Logic.{⊎-elim}
 use Prim.Native.Nat.{ℕ, _≤_}
 use native.Mathlib.Omega.{arith}
 use lib.Dec.{eqb, ltb}
 use lib.ListN.{length}
-use borrow.Author.Tests.{eq-eqb, eqb-true, eqb-false, le-ltb, ltb-false}
-use Rattle.model.specs.Card.{cardRefusal, codeOf}
+use borrow.Author.Tests.{eq-eqb, ne-eqb, eqb-true, eqb-false, le-ltb, ltb-false}
+use Rattle.bits.proofs.Numbers.{eq-or-ne}
+use Rattle.model.specs.Card.{cardRefusal, codeOf, SoundCard}
 use Rattle.model.specs.Order.{lastPosition}
 use Rattle.model.specs.Words.{wordBytes}
 use Rattle.model.specs.Answers.{wordLength, writeRefusal, writeAnswer, lentAfterWrite}
@@ -16,6 +18,10 @@ use Rattle.model.specs.declared.WriteAnswer.the-variants.{Written, Refused}
 use Rattle.position_theory.specs.Demands.{WrittenIfServable, UnchangedIfRefused}
 
 module _ (card : List ℕ) (position : ℕ) (lent : List ℕ) where
+  -- the refusal's number, or 0
+  abbrev refusal : ℕ
+  refusal = writeRefusal card position lent
+
   pub written-if-servable : WrittenIfServable card position lent (writeAnswer card position lent)
   unfolding WrittenIfServable writeAnswer writeRefusal
   written-if-servable sound on-track whole =
@@ -27,38 +33,38 @@ module _ (card : List ℕ) (position : ℕ) (lent : List ℕ) where
 
   pub unchanged-if-refused : UnchangedIfRefused lent (lentAfterWrite card position lent) (writeAnswer card position lent)
   unfolding UnchangedIfRefused writeAnswer lentAfterWrite
-  unchanged-if-refused = by-test (eqb (writeRefusal card position lent) 0)
-    where
-      by-test : (ok : Bool) → (cond ok Written (Refused (writeRefusal card position lent)) ≡ Written → ⊥)
-          → cond ok (wordBytes (codeOf card) position) lent ≡ lent
-      by-test true ne = absurd (ne refl)
-      by-test false ne = refl
+  unchanged-if-refused not-written =
+      ⊎-elim (λ (e : refusal ≡ 0). absurd (not-written (rw (eq-eqb refusal 0 e))))
+      (λ (ne : refusal ≡ 0 → ⊥). rw (ne-eqb refusal 0 ne))
+      (eq-or-ne refusal 0)
 
   -- a write that answers Written had a sound card, a position on its track, and leaves the position's word
-  none-refused : writeAnswer card position lent ≡ Written → writeRefusal card position lent ≡ 0
+  none-refused : writeAnswer card position lent ≡ Written → refusal ≡ 0
   unfolding writeAnswer
-  none-refused = by-test (eqb (writeRefusal card position lent) 0) refl
-    where
-      by-test : (ok : Bool) → eqb (writeRefusal card position lent) 0 ≡ ok
-          → cond ok Written (Refused (writeRefusal card position lent)) ≡ Written → writeRefusal card position lent ≡ 0
-      by-test true e w = eqb-true (writeRefusal card position lent) 0 e
-      by-test false e w = let never : _≡_ {A = ℕ} 0 1 = cc in absurd (omega arith)
+  none-refused written =
+      ⊎-elim (λ (e : refusal ≡ 0). e)
+      (λ (ne : refusal ≡ 0 → ⊥).
+      let refused : writeAnswer card position lent ≡ Refused refusal = rw (ne-eqb refusal 0 ne) in
+      let never : _≡_ {A = ℕ} 0 1 = cc in absurd (omega arith))
+      (eq-or-ne refusal 0)
 
-  served : writeRefusal card position lent ≡ 0 → (cardRefusal card ≡ 0) × (position ≤ lastPosition (codeOf card))
+  served : refusal ≡ 0 → SoundCard card × (position ≤ lastPosition (codeOf card))
   unfolding writeRefusal
   served =
-      by-tests (eqb (cardRefusal card) 0) (eqb (length lent) (wordLength (codeOf card))) (ltb (lastPosition (codeOf card)) position) refl refl
+      by-tests (eqb (cardRefusal card) 0) (eqb (length lent) (wordLength (codeOf card))) (ltb (lastPosition (codeOf card)) position)
+      refl refl
     where
       by-tests : (sound whole above : Bool) → eqb (cardRefusal card) 0 ≡ sound → ltb (lastPosition (codeOf card)) position ≡ above
           → cond (not sound) (cardRefusal card) (cond (not whole) 6 (cond above 7 0)) ≡ 0
-          → (cardRefusal card ≡ 0) × (position ≤ lastPosition (codeOf card))
+          → SoundCard card × (position ≤ lastPosition (codeOf card))
       by-tests true true false s a e = (eqb-true (cardRefusal card) 0 s, ltb-false (lastPosition (codeOf card)) position a)
       by-tests true true true s a e = absurd (omega arith)
       by-tests true false above s a e = absurd (omega arith)
       by-tests false whole above s a e = absurd (eqb-false (cardRefusal card) 0 s e)
 
   pub written-means : writeAnswer card position lent ≡ Written
-      → (cardRefusal card ≡ 0) × (position ≤ lastPosition (codeOf card)) × (lentAfterWrite card position lent ≡ wordBytes (codeOf card) position)
+      → SoundCard card × (position ≤ lastPosition (codeOf card))
+      × (lentAfterWrite card position lent ≡ wordBytes (codeOf card) position)
   unfolding lentAfterWrite
-  written-means w =
-      let none = none-refused w in (served none .0, served none .1, rw (eq-eqb (writeRefusal card position lent) 0 none))
+  written-means written =
+      let none = none-refused written in (served none .0, served none .1, rw (eq-eqb refusal 0 none))

@@ -1,1 +1,1 @@
-// No code: the laws of words, blocks and reading, and the demands as theorems (proofs/).
+// No code: the demands (specs/), and the laws of words, blocks and reading with the demands as theorems (proofs/).

@@ -5,14 +5,28 @@ use Rattle.bits.specs.Sums.{sumBelow, distance, joinAt}
 use Rattle.bits.specs.Walk.{walk}
 use Rattle.bits.specs.Places.{weight, place, cut, byteOf, listOf, pack, differingBits}
 use Rattle.bits.specs.Searches.{anyBelow, firstFrom, first, leastAt, greatest}
-use Rattle.model.specs.Card.{highFirst, trackOf, rowOf, storedCheck, computedCheck, sumOfRows, leastWeight, codeOf, withinLimits, rowTooWide, unusedRowSet, unusedByteSet, misplaced, dependent, cardRefusal}
+use Rattle.model.specs.Card.{highFirst, trackOf, rowOf, storedCheck, computedCheck, sumOfRows, leastWeight, codeOf}
+use Rattle.model.specs.Card.{withinLimits, rowTooWide, unusedRowSet, unusedByteSet, misplaced, dependent, cardRefusal}
 use Rattle.model.specs.Order.{gray, lastCodeword, codeword, changedRow, changedWeight, start, lastPosition}
 use Rattle.model.specs.Words.{fiveChunks, word, blockOf, wordAt, wordBytes}
-use Rattle.model.specs.Reading.{majority, chunkDistance, chunkReading, ruleOf, ruleNamed, rule₁, rule₂, rule₃, allowedBy, allowed, residual, nearest, reading}
+use Rattle.model.specs.Reading.{majority, chunkDistance, chunkReading, ruleOf, rule₁, rule₂, rule₃}
+use Rattle.model.specs.Reading.{allowedBy, ruleNamed, allowed, residual, nearest, reading}
 use Rattle.model.specs.Answers.{summaryOf, cardAnswer, writeRefusal, writeAnswer, lentAfterWrite, spareSet, readWord, readAnswer}
 use Rattle.model.specs.Numbers.{cardStatus, cardValues, writeStatus, writeValues, readStatus, readValues}
 use Rattle.model.specs.Cases.{Case, rowBytes, sealed, cardOf, cardA, cardB, numbersOf, codewordPlaces, answerTo, starredCases}
 
 pub starred-cases : map (λ (c : Case). answerTo (c .question)) starredCases ≡ map (λ (c : Case). c .answer) starredCases
-unfolding sumBelow distance joinAt walk weight place cut byteOf listOf pack differingBits anyBelow firstFrom first leastAt greatest highFirst trackOf rowOf storedCheck computedCheck sumOfRows leastWeight codeOf withinLimits rowTooWide unusedRowSet unusedByteSet misplaced dependent cardRefusal gray lastCodeword codeword changedRow changedWeight start lastPosition fiveChunks word blockOf wordAt wordBytes majority chunkDistance chunkReading ruleOf ruleNamed rule₁ rule₂ rule₃ allowedBy allowed residual nearest reading summaryOf cardAnswer writeRefusal writeAnswer lentAfterWrite spareSet readWord readAnswer rowBytes sealed cardOf cardA cardB cardStatus cardValues writeStatus writeValues readStatus readValues numbersOf codewordPlaces answerTo starredCases
+unfolding sumBelow distance joinAt
+    walk
+    weight place cut byteOf listOf pack differingBits
+    anyBelow firstFrom first leastAt greatest
+    highFirst trackOf rowOf storedCheck computedCheck sumOfRows leastWeight codeOf
+    withinLimits rowTooWide unusedRowSet unusedByteSet misplaced dependent cardRefusal
+    gray lastCodeword codeword changedRow changedWeight start lastPosition
+    fiveChunks word blockOf wordAt wordBytes
+    majority chunkDistance chunkReading ruleOf rule₁ rule₂ rule₃
+    allowedBy ruleNamed allowed residual nearest reading
+    summaryOf cardAnswer writeRefusal writeAnswer lentAfterWrite spareSet readWord readAnswer
+    cardStatus cardValues writeStatus writeValues readStatus readValues
+    rowBytes sealed cardOf cardA cardB numbersOf codewordPlaces answerTo starredCases
 starred-cases = refl

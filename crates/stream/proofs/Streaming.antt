@@ -7,7 +7,7 @@ use native.Mathlib.Nat.{zero-add, div-mul-le-self, mod-eq-sub-div-mul, mod-lt}
 use native.Mathlib.Omega.{arith}
 use lib.ListN.{length, take, drop, length-drop, take-append-drop}
 use lib.Seq.{length-take-le, take-append-seam}
-use Rattle.model.specs.Card.{Code, cardRefusal, codeOf}
+use Rattle.model.specs.Card.{Code, codeOf, SoundCard}
 use Rattle.model.specs.Answers.{wordLength, cardAnswer}
 use Rattle.report.specs.Lines.{cardLine, shortLine, lastLine}
 use Rattle.report.specs.Puts.{Puts}
@@ -56,7 +56,7 @@ module _ (C : Code) {all text held : List ℕ} {met read : ℕ} (s : Streamed C 
       }
 
 -- the end: all that has been printed is the report of the card and all the bytes
-pub streamed-report : (card : List ℕ) → cardRefusal card ≡ 0
+pub streamed-report : (card : List ℕ) → SoundCard card
     → {all text held : List ℕ} {met read : ℕ} → Streamed (codeOf card) all text held met read
     → {out out′ : List ℕ} {next : ℕ} → Puts out 0 (shortLine (length held) ++ lastLine met read) out′ next
     → reportOf (card ++ all) ≡ cardLine (cardAnswer card) ++ text ++ take next out′

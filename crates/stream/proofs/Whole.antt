@@ -9,7 +9,7 @@ use borrow.Author.Tests.{eq-eqb, ne-eqb}
 use lib.ListN.{length, length-append}
 use lib.Seq.{take-at, drop-at}
 use Rattle.bits.specs.Sums.{sumBelow}
-use Rattle.model.specs.Card.{Code, cardRefusal, codeOf}
+use Rattle.model.specs.Card.{Code, cardRefusal, codeOf, SoundCard}
 use Rattle.model.specs.Answers.{wordLength, cardAnswer}
 use Rattle.code_theory.proofs.SoundCard.{card-tests}
 use Rattle.report.specs.Lines.{cardLine, shortLine, lastLine}
@@ -51,7 +51,7 @@ module _ (C : Code) {bytes text : List ℕ} {met read : ℕ} (told : Told C byte
       rw (words, rest, told .lines, told .count, lines-of-first C met bytes tail (told .whole) 0, read-of-first C met bytes tail (told .whole))
 
 -- a sound card, the words told, and the bytes short of a word
-pub report-of-sound : (card : List ℕ) → cardRefusal card ≡ 0
+pub report-of-sound : (card : List ℕ) → SoundCard card
     → {bytes text : List ℕ} {met read : ℕ} → Told (codeOf card) bytes text met read
     → (tail : List ℕ) → length tail < wordLength (codeOf card)
     → reportOf (card ++ (bytes ++ tail)) ≡ cardLine (cardAnswer card) ++ text ++ shortLine (length tail) ++ lastLine met read
@@ -62,7 +62,7 @@ report-of-sound card sound {bytes} told tail short =
     (rw (told-all (codeOf card) told tail short) (simp append-assoc))
 
 -- of a refused card its line alone, whatever follows
-pub report-of-refused : (input : List ℕ) → (cardRefusal (cardPart input) ≡ 0 → ⊥)
+pub report-of-refused : (input : List ℕ) → (SoundCard (cardPart input) → ⊥)
     → reportOf input ≡ cardLine (cardAnswer (cardPart input))
 unfolding reportOf
 report-of-refused input refused = rw (ne-eqb (cardRefusal (cardPart input)) 0 refused) (append-nil _)

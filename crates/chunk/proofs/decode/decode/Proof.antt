@@ -5,7 +5,7 @@ use mathlib.Core.Bool.{true}
 use borrow.Author.Needs.{needs}
 use borrow.Author.Tests.{eqb-false, not-true, not-false}
 use lib.ListN.{length}
-use Rattle.model.specs.Card.{lengthOf, rowsOf, rowOf, storedCheck, computedCheck, withinLimits, misplaced}
+use Rattle.model.specs.Card.{lengthOf, rowCountOf, rowOf, storedCheck, computedCheck, withinLimits, misplaced}
 use Rattle.code_theory.proofs.SoundCard.{limits-of-test}
 use Rattle.chunk.proofs.Decoding.{least, least-of-card, rows-refusal, code-of-least, refused-from, decoded-from}
 use Rattle.chunk.proofs.LeastWeightLoop.{Narrow}
@@ -24,18 +24,18 @@ checked c = sym (c .before .before .stored-check .ensures) ∙ c .if2 .left ∙ 
 -- what the third test asks
 limits : (c : tie.After-within-limits)
     → let b = c .before .before .before .before .before .before .before .before .before .args .card .now in
-    c .within-limits .result ≡ withinLimits (lengthOf b) (rowsOf b)
+    c .within-limits .result ≡ withinLimits (lengthOf b) (rowCountOf b)
 limits c = rw (c .before .before .byte-at .ensures .0, c .before .byte-at2 .ensures .0) at (c .within-limits .ensures)
 
 within : (c : tie.Else3)
     → let b = c .before .before .before .before .before .before .before .before .before .before .args .card .now in
-    withinLimits (lengthOf b) (rowsOf b) ≡ true
+    withinLimits (lengthOf b) (rowCountOf b) ≡ true
 within c = sym (limits (c .before)) ∙ not-false _ (c .if3 .left)
 
 -- the least weight of the rows that the card has, and the fourth test of them
 is-least : (c : tie.After-least-weight)
     → let b = c .before .before .before .before .before .before .before .before .before .before .before .before .args .card .now in
-    Narrow (lengthOf b) (rowsOf b) (rowOf b) → c .least-weight .result ≡ least b
+    Narrow (lengthOf b) (rowCountOf b) (rowOf b) → c .least-weight .result ≡ least b
 is-least c =
     let limited = c .before .before .before in
     least-of-card _ _ _ _ _ (limited .before .before .byte-at .ensures .0) (limited .before .byte-at2 .ensures .0) (c .before .rows-of .ensures) (c .least-weight .ensures)
