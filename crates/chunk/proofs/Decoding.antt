@@ -1,5 +1,5 @@
--- What decoding a card shows once refusals 1 to 3 are past: the least weight of the rows in Gray order, where no row is too wide,
--- is 0 where the rows are dependent, refusal 5, and the code's least distance where they are not. Assumes nothing.
+-- What decoding a card shows once refusals 1 to 3 are past: the least weight of the sets of rows, where no row is too wide, is
+-- 0 where the rows are dependent, refusal 5, and the code's least distance where they are not. Assumes nothing.
 use mathlib.Core.Path.{_≡_, refl, sym, _∙_}
 use mathlib.Core.Bool.{Bool, true, false, cond}
 use mathlib.Core.List.{List}
@@ -13,8 +13,8 @@ use Rattle.bits.proofs.Numbers.{eq-or-ne, or-false-left}
 use Rattle.model.specs.Card.{lengthOf, rowCountOf, rowOf, codeOf, trackOf, storedCheck, computedCheck, withinLimits, misplaced, cardRefusal, dependent}
 use Rattle.model.specs.Decoded.{meaning}
 use Rattle.model.specs.declared.Decoded.{Decoded}
-use Rattle.code_theory.specs.LeastInOrder.{leastInOrder}
-use Rattle.code_theory.proofs.LeastInOrder.{least-of-order, independent-of-order, dependent-of-order}
+use Rattle.code_theory.specs.LeastOfSets.{leastOfSets}
+use Rattle.code_theory.proofs.LeastOfSets.{least-if-independent, independent-of-least, dependent-of-least}
 use Rattle.code_theory.proofs.SoundCard.{limits-of-test, narrow-of-test, card-tests, sound-card}
 use Rattle.chunk.specs.FirstRefusal.{refusalIf, firstOf}
 use Rattle.chunk.proofs.FirstRefusal.{first-by-tests}
@@ -24,11 +24,11 @@ use Rattle.chunk.proofs.Refusals.{refusal-4-5-or-0}
 
 -- the least weight of a card's rows, as it is met in Gray order
 abbrev pub least : List ℕ → ℕ
-least b = leastInOrder (lengthOf b) (rowCountOf b) (rowOf b) (2 ^ rowCountOf b - 1)
+least b = leastOfSets (lengthOf b) (rowCountOf b) (rowOf b) (2 ^ rowCountOf b - 1)
 
 -- a least weight of the rows that the card has, said of the card
 pub least-of-card : (b : List ℕ) (n k distance : ℕ) (row : ℕ → ℕ) → n ≡ lengthOf b → k ≡ rowCountOf b → row ≡ rowOf b
-    → (Narrow n k row → distance ≡ leastInOrder n k row (2 ^ k - 1)) → Narrow (lengthOf b) (rowCountOf b) (rowOf b) → distance ≡ least b
+    → (Narrow n k row → distance ≡ leastOfSets n k row (2 ^ k - 1)) → Narrow (lengthOf b) (rowCountOf b) (rowOf b) → distance ≡ least b
 least-of-card b n k distance row is-n is-k is-row is-least = rw (← is-n, ← is-k, ← is-row) is-least
 
 module _ (b : List ℕ) (limits : withinLimits (lengthOf b) (rowCountOf b) ≡ true) where
@@ -44,9 +44,9 @@ module _ (b : List ℕ) (limits : withinLimits (lengthOf b) (rowCountOf b) ≡ t
       ⊎-elim
       (λ (zero : least b ≡ 0).
       rw (eq-eqb (least b) 0 zero)
-      (dependent-of-order (lengthOf b) (rowCountOf b) (rowOf b) (limits-of-test (lengthOf b) (rowCountOf b) limits .0) (narrow placed) zero))
+      (dependent-of-least (lengthOf b) (rowCountOf b) (rowOf b) (limits-of-test (lengthOf b) (rowCountOf b) limits .0) (narrow placed) zero))
       (λ (ne : least b ≡ 0 → ⊥).
-      rw (ne-eqb (least b) 0 ne) (independent-of-order (lengthOf b) (rowCountOf b) (rowOf b) (omega arith)))
+      rw (ne-eqb (least b) 0 ne) (independent-of-least (lengthOf b) (rowCountOf b) (rowOf b) (omega arith)))
       (eq-or-ne (least b) 0)
 
   -- refusal 4 first, then refusal 5 by a number that is the least weight of rows that are narrow
@@ -72,7 +72,7 @@ code-of-least b sound n k distance rows is-n is-k is-rows is-least =
     let fit : Narrow (lengthOf b) (rowCountOf b) (rowOf b) =
     λ z h. narrow-of-test (lengthOf b) (rowOf b) (tests .rows-narrow) z
     (omega (arith, limits-of-test (lengthOf b) (rowCountOf b) (tests .limits) .3)) in
-    rw (is-n, is-k, is-rows, is-least fit, least-of-order (lengthOf b) (rowCountOf b) (rowOf b) (tests .rows-independent))
+    rw (is-n, is-k, is-rows, is-least fit, least-if-independent (lengthOf b) (rowCountOf b) (rowOf b) (tests .rows-independent))
 
 -- a refusal handed back alone
 pub refused-from : (b : List ℕ) (r : Decoded) (refusal : ℕ) → r .refusal ≡ refusal → cardRefusal b ≡ refusal

@@ -1,6 +1,6 @@
 -- The outer loop of the least weight. Each set of rows is a set of the low rows, whose sums stand in the table, and a set of the
 -- rows behind them, whose sums the loop steps through; both go in Gray order, and so meet each set once. The least that is kept is
--- the greatest number that is at most n and each weight met: that tells it, and the least in order is such a number too.
+-- the greatest number that is at most n and each weight met: that tells it, in whichever order the sets are met.
 -- Assumes nothing.
 use mathlib.Core.Path.{_≡_, sym, ap, _∙_}
 use mathlib.Core.List.{List}
@@ -18,10 +18,10 @@ use Rattle.bits.proofs.Binary.{weight-ones}
 use Rattle.bits.proofs.Numbers.{eq-or-ne}
 use Rattle.model.specs.Card.{sumOfRows}
 use Rattle.model.specs.Order.{gray}
-use Rattle.code_theory.specs.LeastInOrder.{leastInOrder}
+use Rattle.code_theory.specs.LeastOfSets.{leastOfSets}
 use Rattle.code_theory.proofs.Codewords.{rows-start, rows-below}
 use Rattle.code_theory.proofs.Gray.{gray-zero, gray-below, gray-positive, gray-onto, changed-below}
-use Rattle.code_theory.proofs.LeastInOrder.{AtMostEach, order-of-sets}
+use Rattle.code_theory.proofs.LeastOfSets.{AtMostEach, least-in-any-order}
 use Rattle.chunk.proofs.GrayStep.{word-next}
 use Rattle.chunk.proofs.LeastOf.{LeastOf, least-of-same}
 use Rattle.chunk.proofs.LowSums.{Table}
@@ -151,11 +151,11 @@ module _ (n low high : ℕ) (row : ℕ → ℕ) where
         (each g some (rw (pow-add 2 low high) (omega arith)))
 
   pub at-end : (k last word least h : ℕ) → low + high ≡ k → AtBehind n low high row last word least h → last ≤ h
-      → Narrow n k row → least ≡ leastInOrder n k row (2 ^ k - 1)
+      → Narrow n k row → least ≡ leastOfSets n k row (2 ^ k - 1)
   at-end k last word least h is-k at done =
       let all : h ≡ 2 ^ high - 1 = omega (arith, at .end, at .within) in
       rw (← is-k)
       (λ narrow.
-      order-of-sets n (low + high) row least (at .at-most-n)
+      least-in-any-order n (low + high) row least (at .at-most-n)
       (each-met narrow least (rw all at (at .at-most-met)))
       (λ b hi each. at .greatest b hi (rw all (only-met narrow b each))))

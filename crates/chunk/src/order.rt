@@ -8,7 +8,7 @@ ghost use lib.Count.{ones};
 ghost use lib.ListN.{getD};
 ghost use Rattle.model.specs.Card.{sumOfRows};
 ghost use Rattle.model.specs.Order.{gray};
-ghost use Rattle.code_theory.specs.LeastInOrder.{leastInOrder};
+ghost use Rattle.code_theory.specs.LeastOfSets.{leastOfSets};
 
 // 2 to the power k.
 pub fn two_to(k: u32) -> u32
@@ -75,11 +75,11 @@ fn least_of(sums: &[u64; 32], from: usize, size: usize, word: u64, start: u8) ->
     least
 }
 
-// The least weight of the codewords 1 to 2^k - 1, if no row has a bit at n or above: 0 where the rows are dependent, the code's
+// The least weight of the sums of nonempty sets of rows, if no row has a bit at n or above: 0 where the rows are dependent, the code's
 // least distance where they are not. The sum of no rows, entry 0 of the table with no row behind added, is left out.
 pub fn least_weight(n: u32, k: u32, rows: [u64; 12]) -> u32
     requires { ⌜ (n ≤ 64) × (k ≤ 12) ⌝ }
-    ensures { λ r. ⌜ (((z : ℕ) → z < k → getD rows z 0 < 2 ^ n) → r ≡ leastInOrder n k (λ z. getD rows z 0) (2 ^ k - 1)) ⌝ }
+    ensures { λ r. ⌜ (((z : ℕ) → z < k → getD rows z 0 < 2 ^ n) → r ≡ leastOfSets n k (λ z. getD rows z 0) (2 ^ k - 1)) ⌝ }
 {
     let low = low_rows(k);
     let size = two_to(low) as usize;

@@ -3,7 +3,7 @@ pub mod Gray
 pub mod Codewords
 pub mod SoundCard
 pub mod LeastWeight
-pub mod LeastInOrder
+pub mod LeastOfSets
 pub mod LeastDistance
 pub mod Starts
 pub mod ChunkReading

@@ -1,3 +1,3 @@
 pub mod LeastDistance
-pub mod LeastInOrder
+pub mod LeastOfSets
 pub mod Promise
