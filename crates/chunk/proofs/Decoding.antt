@@ -22,7 +22,7 @@ use Rattle.chunk.specs.DecodedFrom.{DecodedFrom}
 use Rattle.chunk.proofs.LeastWeightLoop.{Narrow}
 use Rattle.chunk.proofs.Refusals.{refusal-4-5-or-0}
 
--- the least weight of a card's rows, as it is met in Gray order
+-- the least weight of the sets of a card's rows
 abbrev pub least : List ℕ → ℕ
 least b = leastOfSets (lengthOf b) (rowCountOf b) (rowOf b) (2 ^ rowCountOf b - 1)
 
