@@ -1,9 +1,11 @@
 //! The library against the plain implementation of document 01 in `plain`, on cards of every shape and words of every kind.
 mod cards;
+mod codes;
 mod plain;
 mod random;
 
 use cards::{card_of, seal};
+use codes::{golay, reed_muller};
 use dunnavish::{block_start, check_card, millimetres, read_word, write_word, Refusal};
 use plain::{unlike, Code};
 use random::Random;
@@ -171,24 +173,6 @@ fn small_codes_of_random_rows() {
         let rows = any_rows(&mut random, n, k);
         both_answer(&card_of(n as u8, k as u8, random.next() as u16, &rows), &mut random, 8);
     }
-}
-
-/// The Reed-Muller code of first order: the ones, and for each bit of a place the places that have it. D is half the length.
-fn reed_muller(m: usize) -> Vec<u64> {
-    let n = 1 << m;
-    let ones = u64::MAX >> (64 - n);
-    let halves = (0..m).map(|bit| (0..n).filter(|p| p >> bit & 1 == 1).fold(0, |row, p| row | 1u64 << p));
-    [ones].into_iter().chain(halves).collect()
-}
-
-/// The extended Golay code: n 24, k 12, D 8.
-fn golay() -> Vec<u64> {
-    (0..12)
-        .map(|z| {
-            let row = 0xc75u64 << z;
-            row | u64::from(row.count_ones() % 2) << 23
-        })
-        .collect()
 }
 
 #[test]
