@@ -1,6 +1,6 @@
 //! Measures the library against the baseline: `bench/run` says how it is started.
 //!
-//!     bench measure [TRAMREAD]        the table; TRAMREAD is the program of that name
+//!     bench measure TRAMREAD          the table; TRAMREAD is the path of the program of that name
 //!     bench count CARD CALL WAY N     makes N calls and prints nothing: for an instruction counter
 //!     bench input CARD N              a card and N words, as tramread reads them
 //!     bench tramread                  tramread by the baseline that keeps its card: standard input to standard output
@@ -24,8 +24,7 @@ fn main() {
     let args: Vec<String> = env::args().collect();
     let args: Vec<&str> = args.iter().map(String::as_str).collect();
     match args[1..] {
-        ["measure"] => table::print(None),
-        ["measure", program] => table::print(Some(program)),
+        ["measure", tramread] => table::print(tramread),
         ["count", card, call, way, count] => {
             // the same words are made for every N, so that the difference of two counts is that of the calls
             Work::new(card, 1000).all(call, way, count.parse().unwrap());
@@ -33,6 +32,6 @@ fn main() {
         ["input", card, count] => io::stdout().write_all(&inputs::card_and_words(card, count.parse().unwrap())).unwrap(),
         ["tramread"] => tramread::run(Kept::new),
         ["tramread-nested"] => tramread::run(|code| KeptNested(Kept::new(code))),
-        _ => panic!("usage: bench measure [TRAMREAD] | count CARD CALL WAY N | input CARD N | tramread | tramread-nested"),
+        _ => panic!("usage: bench measure TRAMREAD | count CARD CALL WAY N | input CARD N | tramread | tramread-nested"),
     }
 }

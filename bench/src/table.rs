@@ -1,4 +1,5 @@
-//! The table: what each way takes for a word, and the library's part of it. All ways are seen to answer alike first.
+//! The table: what each way takes for a word, and how many times that the library takes. A way is measured only after its answers
+//! were found equal to the others'.
 use crate::calls::{Work, CALLS};
 use crate::inputs::{card_and_words, is_large, CARDS};
 use std::env;
@@ -14,17 +15,15 @@ struct Cost {
     instructions: Option<f64>,
 }
 
-/// Prints the table of every card, with rows for the program tramread if it is named.
-pub fn print(tramread: Option<&str>) {
+/// Prints the table of every card: the calls, and the program tramread.
+pub fn print(tramread: &str) {
     println!("| card | call | by | words a second | library's time / this | instructions a word | library's instructions / this |");
     println!("|---|---|---|---|---|---|---|");
     let me = env::current_exe().unwrap();
     let me = me.to_str().unwrap();
     for card in CARDS {
         calls(card, me);
-        if let Some(tramread) = tramread {
-            programs(card, tramread, me);
-        }
+        programs(card, tramread, me);
     }
 }
 
