@@ -63,10 +63,12 @@ pub fn decode(card: &[u8]) -> Result<Code, u32> {
 }
 
 impl Code {
+    /// d, the bits of a word.
     pub fn bits(&self) -> usize {
         2 * self.n + 3 * self.distance
     }
 
+    /// The bytes of a word.
     pub fn bytes(&self) -> usize {
         self.bits().div_ceil(8)
     }
@@ -75,16 +77,18 @@ impl Code {
         (1 << self.k) - 1
     }
 
-    /// A(i)
+    /// A(i), the weight of the row in which c(i) and c(i+1) differ.
     fn changed(&self, i: usize) -> usize {
         self.rows[(i + 1).trailing_zeros() as usize].count_ones() as usize
     }
 
+    /// c(i)
     fn codeword(&self, i: usize) -> u64 {
         let gray = i ^ (i / 2);
         (0..self.k).filter(|z| gray >> z & 1 == 1).fold(0, |sum, z| sum ^ self.rows[z])
     }
 
+    /// r(i)
     fn start(&self, i: usize) -> usize {
         let turns: usize =
             (0..self.k).map(|z| self.rows[z].count_ones() as usize * ((i + (1 << z)) >> (z + 1))).sum();
@@ -285,7 +289,6 @@ pub fn write(order: &impl Order, position: u32, lent: &mut [u8]) -> Result<(), u
 }
 
 /// A position and its residual.
-#[derive(Clone, Copy)]
 struct Near {
     residual: u32,
     position: usize,

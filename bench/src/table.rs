@@ -1,5 +1,4 @@
-//! The table: what each way takes for a word, and how many times that the library takes. A way is measured only after its answers
-//! were found equal to the others'.
+//! The table: what each way takes for a word, and the library's cost divided by it. The ways of a call are first seen to answer alike.
 use crate::calls::{Work, CALLS};
 use crate::inputs::{card_and_words, is_large, CARDS};
 use std::env;
