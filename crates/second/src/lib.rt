@@ -1,10 +1,9 @@
 // A second reader of robust Gray position words: cards, words, positions and readings, written from document 01's words
 // by plain search, to be compared with the library.
 //
-// Words are made by walking from position 0 and turning one bit a step, block starts by
-// counting those steps, the least distance by summing every set of rows, a chunk's codeword by trying all, and the
-// nearest allowed position by trying each with its full word. The functions are proved safe and ending; their answers
-// are not proved, they are compared.
+// Words are made by walking from position 0 and turning one bit a step, block starts by counting those steps, the least
+// distance by summing every set of rows, a chunk's codeword by trying all, and the nearest allowed position by trying
+// each with its full word. The functions are proved safe and ending; their answers are not proved, they are compared.
 //
 // Every function takes any input. A refusal is the number of document 01's table; 0 means that there is none.
 pub mod bits;

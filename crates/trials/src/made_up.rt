@@ -1,4 +1,4 @@
-// Words that are no position's with damage: of random bits, or of codewords and any separators.
+// Words that are not made from a position's word: random bits, or codewords between any separators.
 use crate::damage;
 use crate::layout::Sizes;
 use crate::numbers;
