@@ -15,10 +15,10 @@
 
 #include "dunnavish.h"
 
-/* One byte more than the widest word, so that a word that is too long is refused by the library, as one too short is. */
+/* One byte more than the widest word: a word that is too long is refused by the library, as one too short is. */
 #define MOST_WORD_BYTES (DUNNAVISH_WIDEST_WORD_BYTES + 1)
 
-/* One byte more than a card: a file that is longer is no card. */
+/* The bytes of the file, at most one more than a card has: a longer file is refused by the library too. */
 static size_t read_card(const char *path, uint8_t card[DUNNAVISH_CARD_BYTES + 1])
 {
     FILE *file = fopen(path, "rb");

@@ -11,6 +11,8 @@
  * Arguments
  *   Every array is a pointer and the count of its elements (bytes of a card or a word; numbers, not bytes, of `values`).
  *   A card is the card's 512 bytes, checked anew by each call. A card of any other length is answered DUNNAVISH_CARD_LENGTH.
+ *   A word is its d bits in (d + 7) / 8 bytes: bit p of the word is bit p % 8, lowest first, of byte p / 8. The spare bits of the
+ *   last byte are zero.
  *   `values` is where the call puts its answer. Its count must be exactly the call's (DUNNAVISH_CARD_VALUES and so on), or the
  *   call is answered DUNNAVISH_VALUE_COUNT before anything else is looked at.
  *   No pointer may be NULL, not even with a count of 0: pass the address of any object then. An array that a call writes
@@ -43,7 +45,7 @@ extern "C" {
 #define DUNNAVISH_CARD_BYTES 512
 #define DUNNAVISH_WIDEST_WORD_BYTES 40
 
-/* The status of a call. They are seen in this order; the first that holds is the answer. */
+/* The status of a call. The reasons are tested in this order, the last one first of all; the first that holds is the answer. */
 enum dunnavish_status {
     DUNNAVISH_OK = 0,
     DUNNAVISH_CARD_LENGTH = 1,      /* card: not 512 bytes */
@@ -51,14 +53,14 @@ enum dunnavish_status {
     DUNNAVISH_CARD_LIMITS = 3,      /* card: n outside 1 to 64, or k outside 1 to 12 or above n */
     DUNNAVISH_CARD_STRAY_BITS = 4,  /* card: a row has a bit at n or above, or an unused row or byte 100 to 509 is not zero */
     DUNNAVISH_CARD_DEPENDENT = 5,   /* card: some nonempty set of rows sums to zero */
-    DUNNAVISH_WORD_LENGTH = 6,      /* word: not exactly the bytes of this card's words, d / 8 rounded up */
+    DUNNAVISH_WORD_LENGTH = 6,      /* word: not exactly the bytes of this card's words */
     DUNNAVISH_OFF_THE_TRACK = 7,    /* position above the last one, or block above 2^k - 1 */
-    DUNNAVISH_SPARE_BIT = 8,        /* received word: a bit past the d bits of a word is set */
+    DUNNAVISH_SPARE_BIT = 8,        /* received word: a spare bit is set */
     DUNNAVISH_SEPARATORS = 9,       /* received word: its separators read 0 1 0 or 1 0 1 */
     DUNNAVISH_CHUNK_UNREADABLE = 10, /* received word: a code chunk that the rule names has no codeword within the radius */
     DUNNAVISH_CHUNKS_DIFFER = 11,   /* received word: rule 3, and the two code chunks read differently */
     DUNNAVISH_NO_BLOCK = 12,        /* received word: rule 1 before the first block, or rule 2 after the last */
-    DUNNAVISH_VALUE_COUNT = 100     /* `values` has not exactly the count of the call; seen before all the others */
+    DUNNAVISH_VALUE_COUNT = 100     /* `values` has not exactly the count of the call; tested before all the others */
 };
 
 /* Check a card. Answers 0 to 5, or 100. On 0 the seven values are those of the indices below. */
@@ -68,7 +70,7 @@ enum dunnavish_card_value {
     DUNNAVISH_CARD_TRACK = 2,    /* the track number */
     DUNNAVISH_CARD_DISTANCE = 3, /* D, the least Hamming distance of the code */
     DUNNAVISH_CARD_RADIUS = 4,   /* t, the radius: (D - 1) / 2 rounded down */
-    DUNNAVISH_CARD_BITS = 5,     /* d, the bits of a word: it travels as (d + 7) / 8 bytes, at most 40 */
+    DUNNAVISH_CARD_BITS = 5,     /* d, the bits of a word: at most 320, in at most DUNNAVISH_WIDEST_WORD_BYTES */
     DUNNAVISH_CARD_LAST = 6,     /* the last position on the track */
     DUNNAVISH_CARD_VALUES = 7    /* the count of `values` */
 };
@@ -93,7 +95,7 @@ enum dunnavish_read_value {
 uint32_t dunnavish_read_word(const uint8_t *card, size_t card_bytes, const uint8_t *word, size_t word_bytes, uint32_t *values,
                              size_t values_count);
 
-/* The count of `values` of the two calls below: one number. */
+/* The count of `values` of the two calls below, which put their answer into values[0]. */
 #define DUNNAVISH_NUMBER_VALUES 1
 
 /* The position at which block `block` starts; blocks are 0 to 2^k - 1. Answers 0 to 5, 7, or 100. */

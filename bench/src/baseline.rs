@@ -1,6 +1,7 @@
 //! The baseline: document 01's rules in straightforward Rust, with words as five 64-bit numbers and counts by `count_ones`. A code
-//! is used in one of two ways: `Kept` holds every codeword and start of a card that was decoded once; `Stepped` holds the rows alone
-//! and is decoded anew for each word, which is what a public call has to do with its card.
+//! is used in one of three ways: `Kept` holds every codeword and start of a card that was decoded once; `KeptNested` is the same with
+//! the chunk search in C; `EachCall` holds the rows alone and is decoded anew for each word, which is what a public call has to do
+//! with its card.
 
 /// A word: place p is bit p % 64 of number p / 64.
 pub type Word = [u64; 5];
@@ -16,13 +17,14 @@ pub struct Code {
     pub rows: [u64; 12],
 }
 
-#[derive(Clone, Copy, Debug, PartialEq, Eq)]
+/// What a received word reads as.
 pub struct Read {
     pub position: u32,
     pub residual: u32,
     pub rule: u32,
 }
 
+/// A card's code, or the number of its refusal.
 pub fn decode(card: &[u8]) -> Result<Code, u32> {
     if card.len() != 512 {
         return Err(1);
@@ -61,10 +63,12 @@ pub fn decode(card: &[u8]) -> Result<Code, u32> {
 }
 
 impl Code {
+    /// d, the bits of a word.
     pub fn bits(&self) -> usize {
         2 * self.n + 3 * self.distance
     }
 
+    /// The bytes of a word.
     pub fn bytes(&self) -> usize {
         self.bits().div_ceil(8)
     }
@@ -73,42 +77,52 @@ impl Code {
         (1 << self.k) - 1
     }
 
-    /// A(i)
+    /// A(i), the weight of the row in which c(i) and c(i+1) differ.
     fn changed(&self, i: usize) -> usize {
         self.rows[(i + 1).trailing_zeros() as usize].count_ones() as usize
     }
 
+    /// c(i)
     fn codeword(&self, i: usize) -> u64 {
         let gray = i ^ (i / 2);
         (0..self.k).filter(|z| gray >> z & 1 == 1).fold(0, |sum, z| sum ^ self.rows[z])
     }
 
+    /// r(i)
     fn start(&self, i: usize) -> usize {
         let turns: usize =
             (0..self.k).map(|z| self.rows[z].count_ones() as usize * ((i + (1 << z)) >> (z + 1))).sum();
         3 * self.distance * i + 2 * turns
     }
 
-    /// w(i)
+    /// The five chunks of a word: their first place and their length.
+    pub fn chunks(&self) -> [(usize, usize); 5] {
+        let (n, d) = (self.n, self.distance);
+        [(0, d), (d, n), (d + n, d), (2 * d + n, n), (2 * d + 2 * n, d)]
+    }
+
+    /// w(i), where `codeword` is c(i) and `parity` that of i.
+    #[inline(always)]
     fn word(&self, codeword: u64, parity: bool) -> Word {
         let mut word = [0; 5];
         let separator = if parity { u64::MAX } else { 0 };
-        let (n, d) = (self.n, self.distance);
-        put(&mut word, 0, d, separator);
-        put(&mut word, d, n, codeword);
-        put(&mut word, d + n, d, separator);
-        put(&mut word, 2 * d + n, n, codeword);
-        put(&mut word, 2 * d + 2 * n, d, separator);
+        let [s1, c1, s2, c2, s3] = self.chunks();
+        put(&mut word, s1, separator);
+        put(&mut word, c1, codeword);
+        put(&mut word, s2, separator);
+        put(&mut word, c2, codeword);
+        put(&mut word, s3, separator);
         word
     }
 }
 
+/// The `length` lowest bits set, 1 to 64.
 fn low(length: usize) -> u64 {
     u64::MAX >> (64 - length)
 }
 
 /// Puts the `length` lowest bits of `bits`, 1 to 64, into a word from place `at` on, where it is zero.
-fn put(word: &mut Word, at: usize, length: usize, bits: u64) {
+fn put(word: &mut Word, (at, length): (usize, usize), bits: u64) {
     let bits = bits & low(length);
     word[at / 64] |= bits << (at % 64);
     if at % 64 + length > 64 {
@@ -134,6 +148,10 @@ pub trait Order {
     fn block_of(&self, position: usize) -> usize;
     /// The number of the codeword within the radius of a chunk.
     fn find(&self, chunk: u64) -> Option<usize>;
+    /// The last position.
+    fn last(&self) -> usize {
+        self.start(self.code().last_block())
+    }
 }
 
 /// Every codeword and start, made once.
@@ -171,11 +189,11 @@ impl Order for Kept {
     }
 }
 
-/// As `Kept`, with the chunk search in C, in its nested form.
+/// As `Kept`, with the chunk search of nested.c.
 pub struct KeptNested(pub Kept);
 
-/// The rows alone, and the chunk search in C, in its nested form.
-pub struct Stepped(pub Code);
+/// The rows alone, and the chunk search of nested.c.
+pub struct EachCall(pub Code);
 
 extern "C" {
     fn nested_search(rows: *const u64, n: u32, k: u32, t: u32, x: u64) -> i32;
@@ -205,7 +223,7 @@ impl Order for KeptNested {
     }
 }
 
-impl Order for Stepped {
+impl Order for EachCall {
     fn code(&self) -> &Code {
         &self.0
     }
@@ -239,8 +257,7 @@ pub fn write(order: &impl Order, position: u32, lent: &mut [u8]) -> Result<(), u
         return Err(6);
     }
     let position = position as usize;
-    let last = code.last_block();
-    if position > order.start(last) {
+    if position > order.last() {
         return Err(7);
     }
     let block = order.block_of(position);
@@ -271,17 +288,20 @@ pub fn write(order: &impl Order, position: u32, lent: &mut [u8]) -> Result<(), u
     Ok(())
 }
 
+/// A position and its residual.
+struct Near {
+    residual: u32,
+    position: usize,
+}
+
 /// The positions from `low` to `high`, which stand in this block or at its end: the one nearest to the received word, the
-/// smallest on a tie, and its residual.
-fn nearest_in_block(order: &impl Order, block: usize, low: usize, high: usize, received: &Word) -> (u32, usize) {
+/// smallest on a tie.
+fn nearest_in_block(order: &impl Order, block: usize, low: usize, high: usize, received: &Word) -> Near {
     let code = order.code();
     let from = code.word(order.codeword(block), block % 2 == 1);
     let mut residual: u32 = from.iter().zip(received).map(|(a, b)| (a ^ b).count_ones()).sum();
     let mut position = order.start(block);
-    let mut best = (u32::MAX, low);
-    if position >= low {
-        best = (residual, position);
-    }
+    let mut best = Near { residual: if position >= low { residual } else { u32::MAX }, position };
     if position == high {
         return best;
     }
@@ -294,8 +314,8 @@ fn nearest_in_block(order: &impl Order, block: usize, low: usize, high: usize, r
             differing ^= place;
             residual = if unlike & place != 0 { residual - 1 } else { residual + 1 };
             position += 1;
-            if position >= low && residual < best.0 {
-                best = (residual, position);
+            if position >= low && residual < best.residual {
+                best = Near { residual, position };
             }
             if position == high {
                 return best;
@@ -303,6 +323,57 @@ fn nearest_in_block(order: &impl Order, block: usize, low: usize, high: usize, r
         }
     }
     best
+}
+
+/// The number that code chunk 1 reads as.
+fn chunk_1(order: &impl Order, received: &Word) -> Result<usize, u32> {
+    let code = order.code();
+    order.find(get(received, code.distance, code.n)).ok_or(10)
+}
+
+/// The number that code chunk 2 reads as.
+fn chunk_2(order: &impl Order, received: &Word) -> Result<usize, u32> {
+    let code = order.code();
+    order.find(get(received, 2 * code.distance + code.n, code.n)).ok_or(10)
+}
+
+fn by_rule_1(order: &impl Order, received: &Word) -> Result<Near, u32> {
+    let p = chunk_1(order, received)?;
+    if p == 0 {
+        return Err(12);
+    }
+    let code = order.code();
+    let low = order.start(p - 1) + code.distance + code.changed(p - 1);
+    Ok(nearest_in_block(order, p - 1, low, order.start(p), received))
+}
+
+fn by_rule_2(order: &impl Order, received: &Word) -> Result<Near, u32> {
+    let code = order.code();
+    let p = chunk_2(order, received)?;
+    if p == code.last_block() {
+        return Err(12);
+    }
+    let start = order.start(p);
+    Ok(nearest_in_block(order, p, start, start + 2 * code.distance + code.changed(p), received))
+}
+
+fn by_rule_3(order: &impl Order, received: &Word) -> Result<Near, u32> {
+    let p = chunk_1(order, received)?;
+    if p != chunk_2(order, received)? {
+        return Err(11);
+    }
+    let (start, distance) = (order.start(p), order.code().distance);
+    let mut best = Near { residual: u32::MAX, position: 0 };
+    if p > 0 {
+        best = nearest_in_block(order, p - 1, start - distance, start, received);
+    }
+    if p < order.code().last_block() {
+        let after = nearest_in_block(order, p, start, start + distance, received);
+        if after.residual < best.residual {
+            best = after;
+        }
+    }
+    Ok(best)
 }
 
 /// Reads a received word.
@@ -324,42 +395,14 @@ pub fn read(order: &impl Order, bytes: &[u8]) -> Result<Read, u32> {
     let (n, d) = (code.n, code.distance);
     let separator = |at| 2 * get(&received, at, d).count_ones() as usize > d;
     let (s1, s2, s3) = (separator(0), separator(d + n), separator(2 * d + 2 * n));
-    let first = || order.find(get(&received, d, n)).ok_or(10u32);
-    let second = || order.find(get(&received, 2 * d + n, n)).ok_or(10u32);
-    let (rule, (residual, position)) = if s1 == s2 && s2 == s3 {
-        let p = first()?;
-        if p != second()? {
-            return Err(11);
-        }
-        let start = order.start(p);
-        let last = code.last_block();
-        let mut best = (u32::MAX, 0);
-        if p > 0 {
-            best = nearest_in_block(order, p - 1, start - d, start, &received);
-        }
-        if p < last {
-            let after = nearest_in_block(order, p, start, start + d, &received);
-            if after.0 < best.0 {
-                best = after;
-            }
-        }
-        (3, best)
+    let (rule, near) = if s1 == s2 && s2 == s3 {
+        (3, by_rule_3(order, &received)?)
     } else if s1 == s2 {
-        let p = first()?;
-        if p == 0 {
-            return Err(12);
-        }
-        let low = order.start(p - 1) + d + code.changed(p - 1);
-        (1, nearest_in_block(order, p - 1, low, order.start(p), &received))
+        (1, by_rule_1(order, &received)?)
     } else if s2 == s3 {
-        let p = second()?;
-        if p == code.last_block() {
-            return Err(12);
-        }
-        let start = order.start(p);
-        (2, nearest_in_block(order, p, start, start + 2 * d + code.changed(p), &received))
+        (2, by_rule_2(order, &received)?)
     } else {
         return Err(9);
     };
-    Ok(Read { position: position as u32, residual, rule })
+    Ok(Read { position: near.position as u32, residual: near.residual, rule })
 }

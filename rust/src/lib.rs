@@ -37,54 +37,46 @@ pub const CARD_BYTES: usize = 512;
 /// The bytes of the widest word.
 pub const WIDEST_WORD_BYTES: usize = 40;
 
-/// Why a call was turned down. The discriminants are the specification's numbers, and a call reports the first that holds in their
-/// order.
-#[derive(Clone, Copy, Debug, PartialEq, Eq, PartialOrd, Ord, Hash)]
-#[repr(u32)]
-pub enum Refusal {
-    /// The card has not 512 bytes.
-    CardLength = 1,
-    /// The card's check differs from its bytes.
-    CardCheck = 2,
-    /// The card's n is outside 1 to 64, or its k outside 1 to 12 or above n.
-    CardLimits = 3,
-    /// A row of the card has a bit at n or above, or an unused row or byte is not zero.
-    CardStrayBits = 4,
-    /// Some nonempty set of the card's rows sums to zero.
-    DependentRows = 5,
-    /// The word has not exactly the bytes of this card's words.
-    WordLength = 6,
-    /// The position is above the last, or the block above 2^k - 1.
-    OffTheTrack = 7,
-    /// A bit past the end of the received word is set.
-    SpareBit = 8,
-    /// The separators of the received word read 0 1 0 or 1 0 1.
-    Separators = 9,
-    /// A code chunk that the rule names has no codeword within the radius.
-    ChunkUnreadable = 10,
-    /// The separators are alike, and the two code chunks read differently.
-    ChunksDiffer = 11,
-    /// The word points to a block before the first or after the last.
-    NoBlock = 12,
+/// Defines [`Refusal`] by one table: a name, the specification's number, and the reason, which is its documentation and its text.
+macro_rules! refusals {
+    ($($name:ident = $number:literal: $reason:literal,)+) => {
+        /// Why a call was turned down. The discriminants are the specification's numbers, and a call reports the first that
+        /// holds in their order.
+        #[derive(Clone, Copy, Debug, PartialEq, Eq, PartialOrd, Ord, Hash)]
+        #[repr(u32)]
+        pub enum Refusal {
+            $(#[doc = $reason] $name = $number,)+
+        }
+
+        impl Refusal {
+            /// Every refusal, in the order in which they are looked for.
+            pub const ALL: [Refusal; 12] = [$(Refusal::$name,)+];
+
+            fn reason(self) -> &'static str {
+                match self {
+                    $(Refusal::$name => $reason,)+
+                }
+            }
+        }
+    };
+}
+
+refusals! {
+    CardLength = 1: "the card has not 512 bytes",
+    CardCheck = 2: "the card's check differs from its bytes",
+    CardLimits = 3: "the card's n is outside 1 to 64, or its k outside 1 to 12 or above n",
+    CardStrayBits = 4: "a row of the card has a bit at n or above, or an unused row or byte is not zero",
+    DependentRows = 5: "some nonempty set of the card's rows sums to zero",
+    WordLength = 6: "the word has not exactly the bytes of this card's words",
+    OffTheTrack = 7: "the position is above the last, or the block above 2^k - 1",
+    SpareBit = 8: "a bit past the end of the received word is set",
+    Separators = 9: "the separators of the received word read 0 1 0 or 1 0 1",
+    ChunkUnreadable = 10: "a code chunk that the rule names has no codeword within the radius",
+    ChunksDiffer = 11: "the separators are alike, and the two code chunks read differently",
+    NoBlock = 12: "the received word points to a block before the first or after the last",
 }
 
 impl Refusal {
-    /// Every refusal, in the order in which they are looked for.
-    pub const ALL: [Refusal; 12] = [
-        Refusal::CardLength,
-        Refusal::CardCheck,
-        Refusal::CardLimits,
-        Refusal::CardStrayBits,
-        Refusal::DependentRows,
-        Refusal::WordLength,
-        Refusal::OffTheTrack,
-        Refusal::SpareBit,
-        Refusal::Separators,
-        Refusal::ChunkUnreadable,
-        Refusal::ChunksDiffer,
-        Refusal::NoBlock,
-    ];
-
     /// The specification's number, 1 to 12.
     pub fn number(self) -> u32 {
         self as u32
@@ -98,21 +90,7 @@ impl Refusal {
 
 impl fmt::Display for Refusal {
     fn fmt(&self, f: &mut fmt::Formatter<'_>) -> fmt::Result {
-        let text = match self {
-            Refusal::CardLength => "the card has not 512 bytes",
-            Refusal::CardCheck => "the card's check differs from its bytes",
-            Refusal::CardLimits => "the card's n or k is outside its limits",
-            Refusal::CardStrayBits => "the card has a bit set that it doesn't use",
-            Refusal::DependentRows => "some of the card's rows sum to zero",
-            Refusal::WordLength => "the word has not exactly the bytes of this card's words",
-            Refusal::OffTheTrack => "the position or block is past the end of the track",
-            Refusal::SpareBit => "a spare bit of the word is set",
-            Refusal::Separators => "the word's separators name no rule",
-            Refusal::ChunkUnreadable => "a code chunk has no codeword within the radius",
-            Refusal::ChunksDiffer => "the two code chunks read differently",
-            Refusal::NoBlock => "the word points to a block that the track doesn't have",
-        };
-        write!(f, "{text} (refusal {})", self.number())
+        write!(f, "{} (refusal {})", self.reason(), self.number())
     }
 }
 
@@ -192,16 +170,17 @@ mod exported {
     }
 }
 
+/// The status of a call as a result.
 fn served(status: u32) -> Result<(), Refusal> {
     if status == 0 {
         return Ok(());
     }
-    // The calls below lend exactly as many numbers as the library asks for, so that its other status, 100, does not occur.
+    // The library's other status, 100, says that too few or too many numbers were lent; the calls below lend exactly enough.
     Err(Refusal::from_number(status).expect("the library answers 0 or a refusal of the table"))
 }
 
-// Of every call below: the pointers and counts are those of live slices, never null; what the library writes is borrowed mutably,
-// so that it overlaps nothing else.
+// SAFETY, of every call below: the pointers and counts are those of live slices, never null; what the library writes is borrowed
+// mutably, so that it overlaps nothing else; the library keeps no pointer.
 
 /// Checks a card.
 ///

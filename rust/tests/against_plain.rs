@@ -1,9 +1,11 @@
 //! The library against the plain implementation of document 01 in `plain`, on cards of every shape and words of every kind.
 mod cards;
+mod codes;
 mod plain;
 mod random;
 
 use cards::{card_of, seal};
+use codes::{golay, reed_muller};
 use dunnavish::{block_start, check_card, millimetres, read_word, write_word, Refusal};
 use plain::{unlike, Code};
 use random::Random;
@@ -76,59 +78,72 @@ fn both_read_damaged(card: &[u8], code: &Code, random: &mut Random, position: us
 /// Everything that may be asked of one card.
 fn both_answer(card: &[u8], random: &mut Random, rounds: usize) {
     let Some(code) = both_check(card) else {
-        // a refused card is refused alike by every call
-        let refusal = check_card(card).err();
-        assert_eq!(read_word(card, &[0, 0]).err(), refusal);
-        let mut word = [0xaa; 2];
-        assert_eq!(write_word(card, 0, &mut word).err(), refusal);
-        assert_eq!(word, [0xaa; 2]);
-        assert_eq!(block_start(card, 0).err(), refusal);
-        assert_eq!(millimetres(card, 0).err(), refusal);
+        every_call_refuses(card);
         return;
     };
-    let (last, bytes) = (code.last(), code.word_bytes());
-    for block in [0, 1, code.last_codeword() / 2, code.last_codeword(), code.last_codeword() + 1, u32::MAX as usize] {
-        assert_eq!(number(block_start(card, block as u32)).map(|r| r as usize), code.block_start(block));
-    }
-    for position in [0, 1, last / 2, last, last + 1, u32::MAX as usize] {
-        assert_eq!(number(millimetres(card, position as u32)).map(|mm| mm as usize), code.millimetres(position));
-        both_write(card, &code, position, bytes);
-    }
-    for lent in [0, bytes - 1, bytes + 1, 41, 512] {
-        both_write(card, &code, 0, lent);
-        both_write(card, &code, last + 1, lent);
-        both_read(card, &code, &vec![0; lent]).unwrap_err();
-    }
-    let widest = [code.distance, code.n, code.distance, code.n, code.distance];
+    at_the_ends(card, &code);
     for round in 0..rounds {
         let position = match round % 4 {
             // near a block's start, where rule 3 looks to both sides
             0 => (code.starts[random.below(code.starts.len())] + random.below(2 * code.distance + 1))
                 .saturating_sub(code.distance)
-                .min(last),
-            _ => random.below(last + 1),
+                .min(code.last()),
+            _ => random.below(code.last() + 1),
         };
-        both_write(card, &code, position, bytes);
-        assert_eq!(both_read(card, &code, &code.packed(&code.word(position))).unwrap().position, position);
-        let within = [0; 5].map(|_: usize| random.below(code.radius + 1));
-        both_read_damaged(card, &code, random, position, within);
-        both_read_damaged(card, &code, random, position, [code.radius; 5]);
-        // just past the radius in one chunk, then anything
-        let mut past = within;
-        past[random.below(5)] = code.radius + 1;
-        both_read_damaged(card, &code, random, position, past);
-        let anything = widest.map(|length| random.below(length + 1));
-        both_read_damaged(card, &code, random, position, anything);
-        // noise over all the bytes, spare bits too
-        let noise: Vec<u8> = (0..bytes).map(|_| random.next() as u8).collect();
-        let _ = both_read(card, &code, &noise);
-        // an undamaged word with a spare bit set
-        if code.word_bits() % 8 != 0 {
-            let mut spare = code.packed(&code.word(position));
-            let place = code.word_bits() + random.below(8 * bytes - code.word_bits());
-            spare[place / 8] |= 1 << (place % 8);
-            assert_eq!(both_read(card, &code, &spare), Err(8));
-        }
+        at_position(card, &code, random, position);
+    }
+}
+
+/// A refused card is refused alike by every call, and no lent byte is changed.
+fn every_call_refuses(card: &[u8]) {
+    let refusal = check_card(card).err();
+    let mut word = [0xaa; 2];
+    assert_eq!(write_word(card, 0, &mut word).err(), refusal);
+    assert_eq!(word, [0xaa; 2]);
+    assert_eq!(read_word(card, &[0, 0]).err(), refusal);
+    assert_eq!(block_start(card, 0).err(), refusal);
+    assert_eq!(millimetres(card, 0).err(), refusal);
+}
+
+/// Blocks and positions at the ends of what there is and past them, and words of other lengths.
+fn at_the_ends(card: &[u8], code: &Code) {
+    let (last, top, bytes) = (code.last(), code.last_codeword(), code.word_bytes());
+    for block in [0, 1, top / 2, top, top + 1, u32::MAX as usize] {
+        assert_eq!(number(block_start(card, block as u32)).map(|r| r as usize), code.block_start(block));
+    }
+    for position in [0, 1, last / 2, last, last + 1, u32::MAX as usize] {
+        assert_eq!(number(millimetres(card, position as u32)).map(|mm| mm as usize), code.millimetres(position));
+        both_write(card, code, position, bytes);
+    }
+    for lent in [0, bytes - 1, bytes + 1, 41, 512] {
+        both_write(card, code, 0, lent);
+        both_write(card, code, last + 1, lent);
+        both_read(card, code, &vec![0; lent]).unwrap_err();
+    }
+}
+
+/// The word of a position, undamaged and damaged within the radius and beyond, and noise.
+fn at_position(card: &[u8], code: &Code, random: &mut Random, position: usize) {
+    both_write(card, code, position, code.word_bytes());
+    let undamaged = code.packed(&code.word(position));
+    assert_eq!(both_read(card, code, &undamaged).unwrap().position, position);
+    let within = [0; 5].map(|_: usize| random.below(code.radius + 1));
+    both_read_damaged(card, code, random, position, within);
+    both_read_damaged(card, code, random, position, [code.radius; 5]);
+    // just past the radius in one chunk, then anything
+    let mut past = within;
+    past[random.below(5)] = code.radius + 1;
+    both_read_damaged(card, code, random, position, past);
+    let anything = code.chunks().map(|(_, length)| random.below(length + 1));
+    both_read_damaged(card, code, random, position, anything);
+    // noise over all the bytes, spare bits too
+    let noise: Vec<u8> = undamaged.iter().map(|_| random.next() as u8).collect();
+    let _ = both_read(card, code, &noise);
+    if code.word_bits() % 8 != 0 {
+        let mut spare = undamaged;
+        let place = code.word_bits() + random.below(8 * spare.len() - code.word_bits());
+        spare[place / 8] |= 1 << (place % 8);
+        assert_eq!(both_read(card, code, &spare), Err(8));
     }
 }
 
@@ -171,24 +186,6 @@ fn small_codes_of_random_rows() {
         let rows = any_rows(&mut random, n, k);
         both_answer(&card_of(n as u8, k as u8, random.next() as u16, &rows), &mut random, 8);
     }
-}
-
-/// The Reed-Muller code of first order: the ones, and for each bit of a place the places that have it. D is half the length.
-fn reed_muller(m: usize) -> Vec<u64> {
-    let n = 1 << m;
-    let ones = u64::MAX >> (64 - n);
-    let halves = (0..m).map(|bit| (0..n).filter(|p| p >> bit & 1 == 1).fold(0, |row, p| row | 1u64 << p));
-    [ones].into_iter().chain(halves).collect()
-}
-
-/// The extended Golay code: n 24, k 12, D 8.
-fn golay() -> Vec<u64> {
-    (0..12)
-        .map(|z| {
-            let row = 0xc75u64 << z;
-            row | u64::from(row.count_ones() % 2) << 23
-        })
-        .collect()
 }
 
 #[test]

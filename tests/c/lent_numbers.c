@@ -18,6 +18,7 @@ static uint8_t card[DUNNAVISH_CARD_BYTES];
 static const uint8_t word[2] = {0x7F, 0x00};
 static uint32_t values[LENT];
 
+/* One call on marked numbers, of which `count` are lent. */
 static uint32_t call(int which, size_t card_bytes, size_t count)
 {
     size_t i;
@@ -36,6 +37,7 @@ static uint32_t call(int which, size_t card_bytes, size_t count)
     }
 }
 
+/* How many numbers stand up to the last one that has changed. */
 static size_t unmarked(void)
 {
     size_t i, changed = 0;

@@ -33,6 +33,7 @@ static uint64_t next_random(void)
     return random_state;
 }
 
+/* What a thread does: one call, or nothing. */
 static void *called(void *which)
 {
     switch (*(int *)which) {
@@ -57,6 +58,7 @@ static void *called(void *which)
     return NULL;
 }
 
+/* The bytes of its stack that a thread with this call has written to. */
 static size_t stack_of(int which)
 {
     pthread_attr_t attributes;

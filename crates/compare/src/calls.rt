@@ -1,19 +1,26 @@
 // One call of the library against the same call of the second reader. Answers are counted by the second reader's.
 use crate::library;
 use crate::tally;
+use crate::tally::Counts;
 
 // Counts a call: by what the second reader answered, as number `which` of a group of counts, and at `place` if the
 // library's answer is unlike that.
-fn answered(t: &mut [u64; 38], group: usize, which: u8, place: usize, unlike: bool) {
-    tally::one_of(t, group, which);
-    tally::one_more(t, tally::COMPARED);
-    tally::one_more_if(t, place, unlike);
+fn answered(counts: &mut Counts, group: usize, which: u8, place: usize, unlike: bool) {
+    tally::one_of(counts, group, which);
+    tally::one_more(counts, tally::COMPARED);
+    tally::one_more_if(counts, place, unlike);
 }
 
 // A check of a card.
-pub fn check(t: &mut [u64; 38], card: &[u8], plain: second::CardFacts) {
+pub fn check(counts: &mut Counts, card: &[u8], plain: second::CardFacts) {
     let unlike = facts_unlike(library::check(card), plain);
-    answered(t, tally::CARDS, plain.refusal, tally::CARDS_UNLIKE, unlike);
+    answered(
+        counts,
+        tally::CARDS,
+        plain.refusal,
+        tally::CARDS_UNLIKE,
+        unlike,
+    );
 }
 
 // Whether two answers to a check differ: some bit of some field does.
@@ -25,43 +32,43 @@ fn facts_unlike(a: library::Facts, b: second::CardFacts) -> bool {
 }
 
 // A block start or a distance.
-pub fn number(t: &mut [u64; 38], answer: library::Number, plain: second::Number) {
+pub fn number(counts: &mut Counts, answer: library::Number, plain: second::Number) {
     let unlike = answer.refusal != plain.refusal as u32 || answer.value != plain.value;
     let kind = tally::kind(plain.refusal);
-    answered(t, tally::NUMBERS, kind, tally::NUMBERS_UNLIKE, unlike);
+    answered(counts, tally::NUMBERS, kind, tally::NUMBERS_UNLIKE, unlike);
 }
 
 // A number as a block, whose start is asked for, and as a position, whose distance is.
-pub fn numbers(t: &mut [u64; 38], card: &[u8], x: u32) {
+pub fn numbers(counts: &mut Counts, card: &[u8], x: u32) {
     number(
-        t,
+        counts,
         library::block_start(card, x),
         second::block_start(card, x as u64),
     );
     number(
-        t,
+        counts,
         library::millimetres(card, x),
         second::millimetres(card, x as u64),
     );
 }
 
 // A write into `len` bytes.
-pub fn write(t: &mut [u64; 38], card: &[u8], position: u32, len: usize) {
+pub fn write(counts: &mut Counts, card: &[u8], position: u32, len: usize) {
     written(
-        t,
+        counts,
         library::write(card, position, len),
         second::write(card, position as u64, len),
     );
 }
 
 // What both wrote.
-pub fn written(t: &mut [u64; 38], answer: library::Wrote, plain: second::Word) {
+pub fn written(counts: &mut Counts, answer: library::Wrote, plain: second::Word) {
     let wrote = answer.lent;
     let bytes = plain.bytes;
     let right = left(bytes, plain.len);
     let unlike = answer.refusal != plain.refusal as u32 || !check::same(&wrote, &right);
     let kind = tally::kind(plain.refusal);
-    answered(t, tally::WRITES, kind, tally::WRITES_UNLIKE, unlike);
+    answered(counts, tally::WRITES, kind, tally::WRITES_UNLIKE, unlike);
 }
 
 // What a write leaves in 48 lent bytes that held 170: a word of `len` bytes, or none, and 170 after it.
@@ -76,12 +83,16 @@ fn left(word: [u8; 40], len: usize) -> [u8; 48] {
 }
 
 // What both read.
-pub fn read(t: &mut [u64; 38], answer: library::Reading, plain: second::Reading) {
+pub fn read(counts: &mut Counts, answer: library::Reading, plain: second::Reading) {
     let unlike = reading_unlike(answer, plain);
     let kind = tally::kind(plain.refusal);
-    answered(t, tally::WORDS, kind, tally::WORDS_UNLIKE, unlike);
+    answered(counts, tally::WORDS, kind, tally::WORDS_UNLIKE, unlike);
     if plain.refusal == 0 {
-        tally::one_of(t, tally::RULES, std::num::wrapping_sub_u8(plain.rule, 1));
+        tally::one_of(
+            counts,
+            tally::RULES,
+            std::num::wrapping_sub_u8(plain.rule, 1),
+        );
     }
 }
 

@@ -23,6 +23,7 @@ pub struct Wrote {
     pub lent: [u8; 48],
 }
 
+// What a read answers.
 pub struct Reading {
     pub refusal: u32,
     pub position: u32,
@@ -30,6 +31,7 @@ pub struct Reading {
     pub rule: u32,
 }
 
+// What a call answers that is asked for one number.
 pub struct Number {
     pub refusal: u32,
     pub value: u64,

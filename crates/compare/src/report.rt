@@ -1,8 +1,15 @@
 // The lines that are printed: a name and a count each.
+use crate::tally;
+use crate::tally::Counts;
 use libc::STDOUT_FILENO;
 
-// The counts under their names, which stand in the order of the counts' places.
-pub fn print(t: &[u64; 38]) {
+pub fn print(counts: &Counts) {
+    of_second(counts);
+    of_library(counts);
+}
+
+// What was tried, and what the second reader answered.
+fn of_second(counts: &Counts) {
     lines(
         b"cards sound \n\
 cards refused 1 \n\
@@ -35,36 +42,45 @@ words damaged within the radius \n\
 most bits turned in one of them \n\
 greatest error in steps \n\
 errors of twice the bits turned \n\
-answers compared \n\
-mismatches of cards \n\
+answers compared \n",
+        counts,
+        0,
+    );
+}
+
+// What the library got wrong: 0 each where it is right.
+fn of_library(counts: &Counts) {
+    lines(
+        b"mismatches of cards \n\
 mismatches of writes \n\
 mismatches of starts and distances \n\
 mismatches of words \n\
 neighbours not one bit apart \n\
 errors above twice the bits turned or refused \n",
-        t,
+        counts,
+        tally::CARDS_UNLIKE,
     );
 }
 
-// A line for each name that ends in a line end.
-fn lines(names: &[u8], t: &[u64; 38]) {
+// A line for each name, which ends in a line end, with the counts from place `first` on.
+fn lines(names: &[u8], counts: &Counts, first: usize) {
     let mut start: usize = 0;
     let mut at: usize = 0;
-    let mut place: usize = 0;
+    let mut place = first;
     while at < names.len() {
         if names[at] == b'\n' {
-            line(&names[start..at], t, place);
+            line(&names[start..at], counts, place);
             start = at + 1;
-            place += 1;
+            place = std::num::wrapping_add_usize(place, 1);
         }
         at += 1;
     }
 }
 
-fn line(name: &[u8], t: &[u64; 38], place: usize) {
+fn line(name: &[u8], counts: &Counts, place: usize) {
     if place < 38 {
         io::write_all(STDOUT_FILENO, name);
-        io::print_decimal(STDOUT_FILENO, t[place]);
+        io::print_decimal(STDOUT_FILENO, counts[place]);
         io::write_all(STDOUT_FILENO, b"\n");
     }
 }

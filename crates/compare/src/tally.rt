@@ -1,4 +1,7 @@
-// The counts that the program prints, one in each place of an array, in the order of its lines.
+// The counts that the program prints.
+
+// One count in each place, in the order of the printed lines.
+pub type Counts = [u64; 38];
 
 // Cards by the second reader's refusal, 0 to 5. The other calls' answers by `kind` of it: writes, block starts and
 // millimetres, words. Words that were read, by rule less one.
@@ -40,29 +43,29 @@ pub const NOT_NEIGHBOURS: usize = 36;
 pub const PAST_BOUND: usize = 37;
 
 // One more in a place.
-pub fn one_more(t: &mut [u64; 38], place: usize) {
+pub fn one_more(counts: &mut Counts, place: usize) {
     if place < 38 {
-        t[place] = std::num::wrapping_add_u64(t[place], 1);
+        counts[place] = std::num::wrapping_add_u64(counts[place], 1);
     }
 }
 
 // One more of a group, by a number from 0 on.
-pub fn one_of(t: &mut [u64; 38], group: usize, which: u8) {
-    one_more(t, std::num::wrapping_add_usize(group, which as usize));
+pub fn one_of(counts: &mut Counts, group: usize, which: u8) {
+    one_more(counts, std::num::wrapping_add_usize(group, which as usize));
 }
 
 // One more if a test came out so.
-pub fn one_more_if(t: &mut [u64; 38], place: usize, test: bool) {
+pub fn one_more_if(counts: &mut Counts, place: usize, test: bool) {
     if test {
-        one_more(t, place);
+        one_more(counts, place);
     }
 }
 
 // The greatest value so far.
-pub fn greatest(t: &mut [u64; 38], place: usize, value: u64) {
+pub fn greatest(counts: &mut Counts, place: usize, value: u64) {
     if place < 38 {
-        if t[place] < value {
-            t[place] = value;
+        if counts[place] < value {
+            counts[place] = value;
         }
     }
 }

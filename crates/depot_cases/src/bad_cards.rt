@@ -1,4 +1,4 @@
-// Cards that are refused: by every call alike, and with no byte of the lent word changed.
+// Cards that are refused, by every call alike, and with no byte of the lent word changed.
 use super::cards;
 use super::say;
 
@@ -35,8 +35,8 @@ const REFUSED: [u64; 22] = [
     0x03_01_00_00_01fd_01,
 ];
 
-// One line of the table.
-fn one(line: u64) {
+// The card of one line of the table.
+fn line(line: u64) {
     let n = (line / 0x1_0000_0000_0000 % 256) as u32;
     let k = (line / 0x100_0000_0000 % 256) as u32;
     let row0 = (line / 0x1_0000_0000 % 256) as u32;
@@ -44,18 +44,20 @@ fn one(line: u64) {
     let byte = (line % 0x100_0000) as u32;
     let card = cards::sealed(cards::made(&[n, 0x100 + k, 0xb00 + row0, 0x1300 + row1, byte]));
     say::describe(&[n, k, row0, row1, byte / 256, byte % 256]);
-    with(b"", &card);
+    whole(b"", &card);
 }
 
+// The cards of the table.
 pub fn refused() {
     let mut i: usize = 0;
     while i < 22 {
-        one(REFUSED[i]);
+        line(REFUSED[i]);
         i += 1;
     }
 }
 
-fn with(case: &[u8], card: &[u8; 512]) {
+// A card of 512 bytes.
+fn whole(case: &[u8], card: &[u8; 512]) {
     say::all_calls(case, card);
 }
 
@@ -85,9 +87,9 @@ pub fn checks() {
     let other = cards::made(&[0x003, 0x101, 0x30e, 0xb07, 0x1ff92]);
     let high = cards::made(&[0xb01, 0x1feff, 0x1fffd]);
     let none = cards::made(&[0x101, 0xb01]);
-    with(b"card B with check 146", &other);
-    with(b"check 65,533 for 12", &high);
-    with(b"n 0 and no check", &none);
+    whole(b"card B with check 146", &other);
+    whole(b"check 65,533 for 12", &high);
+    whole(b"n 0 and no check", &none);
 }
 
 // A card's fault comes before those of the word, the position and the block.
@@ -96,6 +98,7 @@ pub fn before_the_rest() {
     rest(b"rows 3 and 3", &card);
 }
 
+// A lent and a received word of a wrong length, and a position and a block that no card has.
 fn rest(case: &[u8], card: &[u8; 512]) {
     say::writes(case, card, 1, &[4294967295]);
     say::read(case, card, b"\xff");

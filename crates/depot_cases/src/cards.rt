@@ -13,6 +13,7 @@ pub fn made(bytes: &[u32]) -> [u8; 512] {
     card
 }
 
+// A byte as a wider number.
 fn wide(b: u8) -> u64
     ensures { λ r. ⌜ r < 256 ⌝ }
 {

@@ -61,6 +61,7 @@ fn card_a_refused(case: &[u8], card: &[u8; 512]) {
     );
 }
 
+// A card that is only checked.
 fn check(case: &[u8], card: [u8; 512]) {
     say::check(case, &card);
 }

@@ -94,6 +94,7 @@ fn answer_number(answer: NumberAnswer) {
     }
 }
 
+// A check of a card.
 pub fn check(case: &[u8], card: &[u8]) {
     say(case);
     say(b":");
@@ -101,6 +102,7 @@ pub fn check(case: &[u8], card: &[u8]) {
     say(b"\n");
 }
 
+// A write: the lent bytes before and after.
 fn write(case: &[u8], card: &[u8], position: u32, word: &mut [u8]) {
     say(case);
     say_with(b", write # in", &[position]);
@@ -110,6 +112,7 @@ fn write(case: &[u8], card: &[u8], position: u32, word: &mut [u8]) {
     say(b"\n");
 }
 
+// A read of one word.
 pub fn read(case: &[u8], card: &[u8], word: &[u8]) {
     say(case);
     say(b", read");
@@ -129,6 +132,7 @@ fn number(case: &[u8], card: &[u8], n: u32) {
     say(b"\n");
 }
 
+// A write into the first `len` of the bytes.
 fn write_part(case: &[u8], card: &[u8], position: u32, bytes: &mut [u8], len: usize) {
     if len <= bytes.len() {
         write(case, card, position, &mut bytes[0..len]);
@@ -158,6 +162,7 @@ pub fn reads(case: &[u8], card: &[u8], len: usize, words: &[u8]) {
     }
 }
 
+// Several numbers, each as a block and as a position.
 pub fn numbers(case: &[u8], card: &[u8], ns: &[u32]) {
     let mut i: usize = 0;
     while i < ns.len() {

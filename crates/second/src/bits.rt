@@ -1,4 +1,4 @@
-// Words as single bits, written from document 01's words by plain search, to be compared with the library.
+// Words as single bits.
 //
 // A word is an array of 320 bits, place p at index p. The widest word has d = 2 × 64 + 3 × 64 = 320 bits; places from
 // d on hold 0.

@@ -1,4 +1,4 @@
-// The card and its linear code, written from document 01's words by plain search, to be compared with the library.
+// The card and its linear code.
 //
 // A card is decoded and checked in the order of document 01's table. Its least distance D is found by summing every
 // nonempty set of rows anew and counting the ones.
@@ -32,8 +32,8 @@ fn refused(number: u8) -> Checked
     }
 }
 
-// The card itself if its sizes lie within a card's limits, as those of every card that check answers do. A value with
-// other sizes, made without check, is refused as 3, so that no number that a caller puts there can lead astray.
+// The card itself if its sizes lie within a card's limits, as those of every card that check answers do. A caller may pass a
+// value with other sizes, made without check: it is refused as 3, so that no array is indexed past its end.
 pub fn within_limits(c: Checked) -> Checked
     ensures { λ r. ⌜ (r .n ≤ 64) × (r .k ≤ 12) × (r .distance ≤ 64) ⌝ }
 {

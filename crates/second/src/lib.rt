@@ -1,19 +1,19 @@
 // A second reader of robust Gray position words: cards, words, positions and readings, written from document 01's words
 // by plain search, to be compared with the library.
 //
-// Nothing here is clever. Words are made by walking from position 0 and turning one bit a step, block starts by
-// counting those steps, the least distance by summing every set of rows, a chunk's codeword by trying all, and the
-// nearest allowed position by trying each with its full word. The functions are proved safe and ending; their answers
-// are not proved, they are compared.
+// Words are made by walking from position 0 and turning one bit a step, block starts by counting those steps, the least
+// distance by summing every set of rows, a chunk's codeword by trying all, and the nearest allowed position by trying
+// each with its full word. The functions are proved safe and ending; their answers are not proved, they are compared.
 //
 // Every function takes any input. A refusal is the number of document 01's table; 0 means that there is none.
 pub mod bits;
 pub mod code;
 pub mod search;
 pub mod steps;
+pub mod walk;
 
-ghost use mathlib.Core.Path.{_≡_};
-ghost use Prim.Native.Nat.{_+_, _≤_, _<_};
+ghost use Prim.Native.Nat.{_≤_, _<_};
+use crate::walk::Walk;
 
 // What a sound card is answered with. Of a refused card every field but the refusal is 0.
 pub struct CardFacts {
@@ -54,17 +54,6 @@ pub struct Prepared {
     pub card: code::Checked,
     pub starts: [u32; 4096],
     pub last: u32,
-}
-
-// A walk along a track: the position, the last position, and that position's word as single bits. Of a refused card
-// the walk has the refusal, and stays at position 0 of a track that ends there.
-pub struct Walk {
-    pub refusal: u8,
-    pub position: u32,
-    pub last: u32,
-    pub card: code::Checked,
-    pub stand: steps::Stand,
-    pub bits: [u8; 320],
 }
 
 // Checks a card and counts its block starts.
@@ -108,68 +97,6 @@ pub fn prepared_facts(p: Prepared) -> CardFacts {
     }
 }
 
-// The walk at position 0 of a prepared card.
-pub fn prepared_walk(p: Prepared) -> Walk
-    ensures { λ r. ⌜ r .position ≡ 0 ⌝ }
-{
-    let c = p.card;
-    let rows = c.rows;
-    let stand = steps::first_stand(&rows);
-    let bits = steps::first_word();
-    Walk {
-        refusal: c.refusal,
-        position: 0,
-        last: p.last,
-        card: c,
-        stand,
-        bits,
-    }
-}
-
-// The walk one position further, with one bit turned. At the last position it stays.
-pub fn walk_step(w: Walk) -> Walk {
-    walk_on(w, 1)
-}
-
-// The walk so many positions further, one step after another, at most to the last position.
-pub fn walk_on(w: Walk, count: u64) -> Walk {
-    let ahead = rest_of(w.position, w.last, count);
-    let held = w.card;
-    let c = code::within_limits(held);
-    let at = w.stand;
-    let mut bits = w.bits;
-    let stand = steps::advance(c, at, ahead as u64, &mut bits);
-    Walk {
-        refusal: w.refusal,
-        position: w.position + ahead,
-        last: w.last,
-        card: c,
-        stand,
-        bits,
-    }
-}
-
-// So many steps, or those that are left to the last position if they are fewer.
-fn rest_of(position: u32, last: u32, count: u64) -> u32
-    ensures { λ r. ⌜ position + r < 4294967296 ⌝ }
-{
-    if last <= position {
-        return 0;
-    }
-    let left = last - position;
-    if count < left as u64 {
-        count as u32
-    } else {
-        left
-    }
-}
-
-// The bytes of a walk's word, zero past the word's own.
-pub fn walk_bytes(w: Walk) -> [u8; 40] {
-    let bits = w.bits;
-    bits::pack(&bits)
-}
-
 // A refused write.
 fn no_word(number: u8) -> Word {
     let none = [0u8; 40];
@@ -195,8 +122,7 @@ pub fn write(card: &[u8], position: u64, lent_len: usize) -> Word {
     if (p.last as u64) < position {
         return no_word(7);
     }
-    let w = walk_on(prepared_walk(p), position);
-    let bytes = walk_bytes(w);
+    let bytes = walk::word_bytes(walk::further(walk::from_start(p), position));
     Word {
         refusal: 0,
         len,
@@ -217,12 +143,7 @@ fn no_reading(number: u8) -> Reading {
 // Reads a received word of a card.
 pub fn read(card: &[u8], word: &[u8]) -> Reading {
     let p = prepare(card);
-    read_prepared(p, word)
-}
-
-// Reads a received word of a prepared card.
-pub fn read_prepared(p: Prepared, word: &[u8]) -> Reading {
-    read_along(p, prepared_walk(p), word)
+    read_along(p, walk::from_start(p), word)
 }
 
 // Reads a received word of a prepared card. The search walks to the first allowed position from where `w`, a walk of
@@ -257,7 +178,7 @@ fn read_bits(c: code::Checked, p: Prepared, w: Walk, received: &[u8; 320]) -> Re
     if (w.position as u64) <= range.low {
         return read_range(c, w, range, received);
     }
-    read_range(c, prepared_walk(p), range, received)
+    read_range(c, walk::from_start(p), range, received)
 }
 
 // The nearest of the allowed positions, sought from a walk that stands at the first of them or below.
@@ -284,22 +205,24 @@ fn narrow(x: u64) -> u32 {
     4294967295
 }
 
+// A refused block start or distance.
+fn no_number(number: u8) -> Number {
+    Number {
+        refusal: number,
+        value: 0,
+    }
+}
+
 // The start of a block.
 pub fn block_start(card: &[u8], block: u64) -> Number {
     let p = prepare(card);
     let held = p.card;
     let c = code::within_limits(held);
     if c.refusal != 0 {
-        return Number {
-            refusal: c.refusal,
-            value: 0,
-        };
+        return no_number(c.refusal);
     }
     if code::codewords(c.k) <= block {
-        return Number {
-            refusal: 7,
-            value: 0,
-        };
+        return no_number(7);
     }
     let starts = p.starts;
     Number {
@@ -313,16 +236,10 @@ pub fn millimetres(card: &[u8], position: u64) -> Number {
     let p = prepare(card);
     let c = p.card;
     if c.refusal != 0 {
-        return Number {
-            refusal: c.refusal,
-            value: 0,
-        };
+        return no_number(c.refusal);
     }
     if (p.last as u64) < position {
-        return Number {
-            refusal: 7,
-            value: 0,
-        };
+        return no_number(7);
     }
     Number {
         refusal: 0,

@@ -1,5 +1,4 @@
-// The reading rules and the search for the nearest allowed position, written from document 01's words by plain search,
-// to be compared with the library.
+// The reading rules and the search for the nearest allowed position.
 ghost use Prim.Native.Nat.{_+_, _≤_, _<_};
 use crate::bits;
 use crate::code;

@@ -1,7 +1,6 @@
-// The walk through the words of a track, one bit a step, written from document 01's words by plain search, to be
-// compared with the library.
+// The steps of a walk through the words of a track, one bit a step, and the block starts, which count them.
 //
-// The walk starts at position 0 with w(0). In block i each step turns the next place, in rising order, in which w(i)
+// A walk starts at position 0 with w(0). In block i each step turns the next place, in rising order, in which w(i)
 // and w(i+1) differ, until none is left; the word is then w(i+1), and block i+1 begins.
 ghost use Prim.Native.Nat.{_≤_, _<_};
 use crate::bits;
@@ -130,7 +129,7 @@ fn ahead(rows: &[u64; 12], n: usize, distance: usize, top: u64, at: Stand) -> St
 }
 
 // One step: turns one bit of the word. Past the last position nothing is turned.
-pub fn turn(
+fn turn(
     rows: &[u64; 12],
     n: usize,
     distance: usize,

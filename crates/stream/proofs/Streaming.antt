@@ -15,13 +15,13 @@ use Rattle.report.specs.Report.{wordLines, wordsRead, reportOf}
 use Rattle.stream.specs.declared.turn.Taken.{Taken}
 use Rattle.stream.specs.TakenIn.{TakenIn}
 use Rattle.stream.proofs.Pieces.{lines-of-first, read-of-first}
-use Rattle.stream.proofs.Whole.{Told, told-nothing, told-more, report-of-sound}
+use Rattle.stream.proofs.Whole.{Printed, printed-nothing, printed-more, report-of-sound}
 
 -- `all` has come in; `text` has been printed of its whole words, and `held`, the bytes short of a word, is kept
 pub record Streamed (C : Code) (all text held : List ℕ) (met read : ℕ) : Type 0 where
   pub bytes : List ℕ
   pub joined : all ≡ bytes ++ held
-  pub told : Told C bytes text met read
+  pub printed : Printed C bytes text met read
   pub short : length held < wordLength C
 
 -- a text put at the front of a buffer is what stands up to the next place
@@ -30,7 +30,7 @@ text-at-front {out} {text} p = rw (p .bytes, p .place, zero-add) (take-append-se
 
 -- before the first turn
 pub streamed-nothing : (C : Code) → 1 ≤ wordLength C → Streamed C [] [] [] 0 0
-streamed-nothing C some = record { bytes = []; joined = refl; told = told-nothing C; short = some }
+streamed-nothing C some = record { bytes = []; joined = refl; printed = printed-nothing C; short = some }
 
 -- a turn: `more` comes in behind what is held, and the turn's lines are printed
 module _ (C : Code) {all text held : List ℕ} {met read : ℕ} (s : Streamed C all text held met read) where
@@ -51,7 +51,7 @@ module _ (C : Code) {all text held : List ℕ} {met read : ℕ} (s : Streamed C 
       record {
         bytes = s .bytes ++ piece;
         joined = rw (s .joined, taken .kept, append-assoc (s .bytes) held more, append-assoc (s .bytes) piece tail, split);
-        told = rw (lines, count) (told-more C (s .told) piece m whole);
+        printed = rw (lines, count) (printed-more C (s .printed) piece m whole);
         short = rw (taken .kept, length-drop, taken .words, ← (mod-eq-sub-div-mul (length arrived) w)) (mod-lt (length arrived) (omega (arith, s .short)));
       }
 
@@ -61,4 +61,4 @@ pub streamed-report : (card : List ℕ) → SoundCard card
     → {out out′ : List ℕ} {next : ℕ} → Puts out 0 (shortLine (length held) ++ lastLine met read) out′ next
     → reportOf (card ++ all) ≡ cardLine (cardAnswer card) ++ text ++ take next out′
 streamed-report card sound {held = held} s end =
-    rw (s .joined, text-at-front end) (report-of-sound card sound (s .told) held (s .short) ∙ simp append-assoc)
+    rw (s .joined, text-at-front end) (report-of-sound card sound (s .printed) held (s .short) ∙ simp append-assoc)

@@ -17,49 +17,49 @@ use Rattle.report.specs.Report.{cardPart, wordLines, wordsRead, wordsReport, re
 use Rattle.stream.proofs.Pieces.{lines-of-first, lines-in-pieces, read-of-first, read-in-pieces}
 
 -- `text` is what has been printed of the whole words `bytes`, which are `met` words, `read` of them read
-pub record Told (C : Code) (bytes text : List ℕ) (met read : ℕ) : Type 0 where
+pub record Printed (C : Code) (bytes text : List ℕ) (met read : ℕ) : Type 0 where
   pub whole : length bytes ≡ met * wordLength C
   pub lines : text ≡ wordLines C bytes 0 met
   pub count : read ≡ wordsRead C bytes met
 
 -- before the first word
-pub told-nothing : (C : Code) → Told C [] [] 0 0
+pub printed-nothing : (C : Code) → Printed C [] [] 0 0
 unfolding wordLines wordsRead sumBelow
-told-nothing C = record { whole = sym (zero-mul (wordLength C)); lines = refl; count = refl }
+printed-nothing C = record { whole = sym (zero-mul (wordLength C)); lines = refl; count = refl }
 
-module _ (C : Code) {bytes text : List ℕ} {met read : ℕ} (told : Told C bytes text met read) where
+module _ (C : Code) {bytes text : List ℕ} {met read : ℕ} (printed : Printed C bytes text met read) where
   -- m words more
-  pub told-more : (piece : List ℕ) (m : ℕ) → length piece ≡ m * wordLength C
-      → Told C (bytes ++ piece) (text ++ wordLines C piece met m) (met + m) (read + wordsRead C piece m)
-  told-more piece m whole =
+  pub printed-more : (piece : List ℕ) (m : ℕ) → length piece ≡ m * wordLength C
+      → Printed C (bytes ++ piece) (text ++ wordLines C piece met m) (met + m) (read + wordsRead C piece m)
+  printed-more piece m whole =
       record {
-        whole = rw (length-append, told .whole, whole) (sym (add-mul met m (wordLength C)));
-        lines = rw (told .lines) (sym (rw zero-add at (lines-in-pieces C met bytes piece (told .whole) 0 m)));
-        count = rw (told .count) (sym (read-in-pieces C met bytes piece (told .whole) m));
+        whole = rw (length-append, printed .whole, whole) (sym (add-mul met m (wordLength C)));
+        lines = rw (printed .lines) (sym (rw zero-add at (lines-in-pieces C met bytes piece (printed .whole) 0 m)));
+        count = rw (printed .count) (sym (read-in-pieces C met bytes piece (printed .whole) m));
       }
 
   -- at the end, with bytes short of a word
-  pub told-all : (tail : List ℕ) → length tail < wordLength C
+  pub report-of-printed : (tail : List ℕ) → length tail < wordLength C
       → wordsReport C (bytes ++ tail) ≡ text ++ shortLine (length tail) ++ lastLine met read
   unfolding wordsReport
-  told-all tail short =
+  report-of-printed tail short =
       let w : ℕ = wordLength C in
       let words : length (bytes ++ tail) / w ≡ met =
-      rw (length-append, told .whole, mul-add-div-right {m = w} (omega arith) met (length tail), div-eq-of-lt short) (add-zero met) in
+      rw (length-append, printed .whole, mul-add-div-right {m = w} (omega arith) met (length tail), div-eq-of-lt short) (add-zero met) in
       let rest : length (bytes ++ tail) % w ≡ length tail =
-      rw (length-append, told .whole, mul-add-mod-self-right met w (length tail)) (mod-eq-of-lt short) in
-      rw (words, rest, told .lines, told .count, lines-of-first C met bytes tail (told .whole) 0, read-of-first C met bytes tail (told .whole))
+      rw (length-append, printed .whole, mul-add-mod-self-right met w (length tail)) (mod-eq-of-lt short) in
+      rw (words, rest, printed .lines, printed .count, lines-of-first C met bytes tail (printed .whole) 0, read-of-first C met bytes tail (printed .whole))
 
--- a sound card, the words told, and the bytes short of a word
+-- of a sound card, the lines of its words, the bytes short of a word and the last line
 pub report-of-sound : (card : List ℕ) → SoundCard card
-    → {bytes text : List ℕ} {met read : ℕ} → Told (codeOf card) bytes text met read
+    → {bytes text : List ℕ} {met read : ℕ} → Printed (codeOf card) bytes text met read
     → (tail : List ℕ) → length tail < wordLength (codeOf card)
     → reportOf (card ++ (bytes ++ tail)) ≡ cardLine (cardAnswer card) ++ text ++ shortLine (length tail) ++ lastLine met read
 unfolding reportOf
-report-of-sound card sound {bytes} told tail short =
+report-of-sound card sound {bytes} printed tail short =
     let size = card-tests card sound .size in
     rw (take-at card (bytes ++ tail) 512 size, drop-at card (bytes ++ tail) 512 size, eq-eqb (cardRefusal card) 0 sound)
-    (rw (told-all (codeOf card) told tail short) (simp append-assoc))
+    (rw (report-of-printed (codeOf card) printed tail short) (simp append-assoc))
 
 -- of a refused card its line alone, whatever follows
 pub report-of-refused : (input : List ℕ) → (SoundCard (cardPart input) → ⊥)

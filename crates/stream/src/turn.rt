@@ -30,12 +30,12 @@ pub fn take_in(out: &mut [u8], code: DecodedCode, input: &mut [u8], n: usize, me
 {
     let w = layout::word_length(code);
     let m = n / w;
-    let told = words::put_words(out, 0, code, &input[..n], met, m);
+    let put = words::put_words(out, 0, code, &input[..n], met, m);
     let held = tail::keep_tail(input, m * w, n);
     Taken {
-        next: told.next,
+        next: put.next,
         words: m,
-        read: told.read,
+        read: put.read,
         held,
     }
 }

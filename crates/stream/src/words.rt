@@ -28,8 +28,8 @@ fn read_count(answer: ReadAnswer) -> u64
     }
 }
 
-// What a run through some words gives: the place past their lines, and how many of them were read.
-pub struct Told {
+// What putting the lines of some words gives: the place past them, and how many of the words were read.
+pub struct WordsPut {
     pub next: usize,
     pub read: u64,
 }
@@ -44,7 +44,7 @@ pub fn put_words(
     bytes: &[u8],
     met: u64,
     words: usize,
-) -> Told
+) -> WordsPut
     requires { ⌜ Sound (meaning code) ⌝ }
     requires { ⌜ (words * wordLength (meaning code) ≤ length (now bytes)) × (at + words * lineRoom ≤ length (now out)) × (met + words < 2 ^ 64) ⌝ }
     ensures { λ r. ⌜ Puts (now (out .entry)) at (wordLines (meaning code) (now (bytes .entry)) met words) (now (out .exit)) (r .next) ⌝ }
@@ -64,5 +64,5 @@ pub fn put_words(
         read += read_count(answer);
         from = to;
     }
-    Told { next, read }
+    WordsPut { next, read }
 }

@@ -2,12 +2,13 @@
 ghost use Prim.Native.Nat.{_≤_};
 use crate::numbers;
 use crate::numbers::plus;
+use second::walk::Walk;
 
 // Up to this last position every position is written; on longer tracks about 2,000 are.
 const WRITE_ALL: u64 = 25000;
 
 // Whether the position at which a walk stands is written. On long tracks neighbours are written two by two.
-pub fn is_written(here: second::Walk, id: u64) -> bool {
+pub fn is_written(here: Walk, id: u64) -> bool {
     let last = here.last as u64;
     among(here.position as u64 / 2, last / 2, written_of(last), id)
 }
@@ -19,14 +20,14 @@ fn written_of(last: u64) -> u64 {
 
 // Whether words are read at the position at which a walk stands: at some of the track, and in some blocks on both sides
 // of the start and where one chunk ends and the next begins.
-pub fn is_read(here: second::Walk, id: u64) -> bool {
+pub fn is_read(here: Walk, id: u64) -> bool {
     let card = here.card;
     let stand = here.stand;
     let many = read_of(card.k);
     if among(here.position as u64, here.last as u64, many, id) {
         return true;
     }
-    let blocks = numbers::cut(card.k as u64, u64::MAX);
+    let blocks = numbers::low_bits(card.k as u64, u64::MAX);
     if one_in(
         blocks / (many / 8 + 1),
         std::num::wrapping_add_u64(id, 1),

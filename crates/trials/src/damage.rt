@@ -5,7 +5,7 @@ use crate::numbers;
 use second::code;
 
 // Which of a chunk's places are turned: the first ones, the last ones, ones that follow each other, or scattered ones, of
-// which some may meet.
+// which some may be the same, and are then turned back.
 pub const FIRST: u64 = 0;
 
 pub const LAST: u64 = 1;
@@ -75,8 +75,8 @@ pub fn damaged(
 pub fn in_chunk(word: [u8; 40], s: Sizes, c: u64, count: usize, which: u64, seed: u64) -> [u8; 40] {
     damaged(
         word,
-        layout::low(s, c),
-        layout::size(s, c),
+        layout::chunk_start(s, c),
+        layout::chunk_size(s, c),
         count,
         which,
         numbers::random(seed, c),
@@ -122,7 +122,12 @@ pub fn turned_within(s: Sizes, sent: [u8; 40], word: [u8; 40]) -> u64 {
     let mut sum: u64 = 0;
     let mut c: u64 = 0;
     while c < 5 {
-        let here = unlike(sent, word, layout::low(s, c), layout::size(s, c));
+        let here = unlike(
+            sent,
+            word,
+            layout::chunk_start(s, c),
+            layout::chunk_size(s, c),
+        );
         if t < here {
             return TOO_MANY;
         }

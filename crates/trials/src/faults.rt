@@ -99,6 +99,7 @@ fn rows_with(card: [u8; 513], fault: u64) -> [u8; 513] {
     card
 }
 
+// The card with one byte changed.
 fn changed(card: [u8; 513], at: usize, to: u8) -> [u8; 513] {
     let mut next = card;
     if at < 512 {

@@ -21,14 +21,14 @@ pub fn sizes_of(facts: second::CardFacts) -> Sizes {
 }
 
 // The bytes of a word of so many bits.
-pub fn length_of(bits: usize) -> usize
+pub fn byte_count(bits: usize) -> usize
     ensures { λ r. ⌜ r ≤ 40 ⌝ }
 {
     if bits <= 320 { (bits + 7) / 8 } else { 40 }
 }
 
 // Where chunk c of a word, from 0 to 4, begins.
-pub fn low(s: Sizes, c: u64) -> usize {
+pub fn chunk_start(s: Sizes, c: u64) -> usize {
     let two = plus(s.distance, s.n);
     let before = if c < 2 {
         0
@@ -45,6 +45,6 @@ pub fn low(s: Sizes, c: u64) -> usize {
 }
 
 // How many bits chunk c has.
-pub fn size(s: Sizes, c: u64) -> usize {
+pub fn chunk_size(s: Sizes, c: u64) -> usize {
     if c % 2 == 0 { s.distance } else { s.n }
 }

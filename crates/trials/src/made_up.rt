@@ -1,4 +1,4 @@
-// Words made up, of random bits or of codewords.
+// Words that are not made from a position's word: random bits, or codewords between any separators.
 use crate::damage;
 use crate::layout::Sizes;
 use crate::numbers;
@@ -10,21 +10,27 @@ use second::code;
 // whole separators of any values; and one codeword in both chunks, damaged within the radius.
 pub fn made(card: code::Checked, s: Sizes, q: u64, seed: u64) -> [u8; 40] {
     let k = card.k as u64;
-    let a = numbers::cut(k, numbers::random(seed, 1));
+    let a = numbers::low_bits(k, numbers::random(seed, 1));
     if q == 22 {
         return damage::damaged([0u8; 40], 0, s.bits, s.bits, damage::SCATTERED, seed);
     }
     if q == 23 {
-        return patched(card, s, a, a, seed);
+        return assembled(card, s, a, a, seed);
     }
     if q == 24 {
-        return patched(card, s, a, numbers::cut(k, numbers::random(seed, 2)), seed);
+        return assembled(
+            card,
+            s,
+            a,
+            numbers::low_bits(k, numbers::random(seed, 2)),
+            seed,
+        );
     }
     if q == 25 {
-        return patched(card, s, 0, numbers::cut(k, u64::MAX), seed);
+        return assembled(card, s, 0, numbers::low_bits(k, u64::MAX), seed);
     }
     damage::in_all(
-        patched(card, s, a, a, seed),
+        assembled(card, s, a, a, seed),
         s,
         s.radius,
         damage::SCATTERED,
@@ -33,7 +39,7 @@ pub fn made(card: code::Checked, s: Sizes, q: u64, seed: u64) -> [u8; 40] {
 }
 
 // A word with codewords a and b in its code chunks, and separators that are the lowest bits of the seed.
-fn patched(card: code::Checked, s: Sizes, a: u64, b: u64, seed: u64) -> [u8; 40] {
+fn assembled(card: code::Checked, s: Sizes, a: u64, b: u64, seed: u64) -> [u8; 40] {
     let rows = card.rows;
     let first = code::codeword(&rows, a);
     let second = code::codeword(&rows, b);
@@ -41,14 +47,15 @@ fn patched(card: code::Checked, s: Sizes, a: u64, b: u64, seed: u64) -> [u8; 40]
     let mut word = [0u8; 40];
     let mut p: usize = 0;
     while p < count {
-        let next = damage::turned_if(word, p, patched_bit(s, first, second, seed, p));
+        let next = damage::turned_if(word, p, assembled_bit(s, first, second, seed, p));
         word = next;
         p += 1;
     }
     word
 }
 
-fn patched_bit(s: Sizes, first: u64, second: u64, seed: u64, p: usize) -> u64 {
+// Its bit at place p: separator 1 and chunk 1, separator 2 and chunk 2, separator 3.
+fn assembled_bit(s: Sizes, first: u64, second: u64, seed: u64, p: usize) -> u64 {
     let n = s.n;
     let two = plus(s.distance, n);
     if 64 < n {

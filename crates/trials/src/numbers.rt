@@ -7,12 +7,13 @@ pub fn random(a: u64, b: u64) -> u64 {
     y ^ (y >> 32)
 }
 
+// One step of the generator.
 fn stirred(x: u64) -> u64 {
     std::num::wrapping_add_u64(x % 4294967296 * 4294957665, x / 4294967296)
 }
 
-// The bits of a number below bit n.
-pub fn cut(n: u64, x: u64) -> u64 {
+// The n lowest bits of a number.
+pub fn low_bits(n: u64, x: u64) -> u64 {
     if n == 0 {
         return 0;
     }
@@ -23,8 +24,8 @@ pub fn cut(n: u64, x: u64) -> u64 {
     (x << above) >> above
 }
 
-// A sum of two sizes. No card's sizes come near to the greatest number, so the sum may be the one that wraps, which asks
-// no proof that it doesn't.
+// A sum of two sizes. No card's sizes come near to the greatest number, so that the sum never wraps; written as the one that
+// may, it asks for no proof of that.
 pub fn plus(a: usize, b: usize) -> usize {
     std::num::wrapping_add_usize(a, b)
 }

@@ -5,9 +5,10 @@ use crate::shapes::Shape;
 
 // Row z of a shape. Bits at n and above are cut off.
 pub fn row(s: Shape, z: u64) -> u64 {
-    numbers::cut(s.n, uncut(s.rows, s.from, z))
+    numbers::low_bits(s.n, uncut(s.rows, s.from, z))
 }
 
+// The same with the bits at n and above.
 fn uncut(rows: u64, from: u64, z: u64) -> u64 {
     if rows == shapes::SHIFTED_ROWS {
         return from << (z % 64);
@@ -19,7 +20,7 @@ fn uncut(rows: u64, from: u64, z: u64) -> u64 {
         return monomial(pairs_of_four(z));
     }
     if rows == shapes::TRIANGULAR_ROWS {
-        return numbers::cut(z, numbers::random(from, z)) | (1u64 << (z % 64));
+        return numbers::low_bits(z, numbers::random(from, z)) | (1u64 << (z % 64));
     }
     numbers::random(from, z)
 }
@@ -43,6 +44,7 @@ fn monomial(set: u64) -> u64 {
     low & high
 }
 
+// The word of one variable, bit i of a place, or all ones where the set doesn't have it.
 fn variable(set: u64, i: u64, word: u64) -> u64 {
     if (set >> (i % 64)) % 2 == 1 {
         word

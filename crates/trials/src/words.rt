@@ -5,6 +5,8 @@ use crate::layout::Sizes;
 use crate::made_up;
 use crate::numbers;
 use crate::numbers::plus;
+use second::walk;
+use second::walk::Walk;
 
 // How many words are read at a position. The last of them has a spare bit set, if there is one.
 pub const COUNT: u64 = 28;
@@ -23,26 +25,20 @@ pub struct Received {
 
 // Word q of the position at which `here` stands, of card `id`. The walk `behind` stands further back. The word with a spare
 // bit set counts as damaged beyond the radius.
-pub fn word_number(
-    s: Sizes,
-    behind: second::Walk,
-    here: second::Walk,
-    q: u64,
-    id: u64,
-) -> Received {
+pub fn word_number(s: Sizes, behind: Walk, here: Walk, q: u64, id: u64) -> Received {
     let seed = numbers::random(numbers::random(id, here.position as u64), q);
     let word = bytes_of(s, behind, here, q, seed);
     let turned = if q < COUNT - 1 {
-        damage::turned_within(s, second::walk_bytes(here), word)
+        damage::turned_within(s, walk::word_bytes(here), word)
     } else {
         damage::TOO_MANY
     };
     Received { word, turned }
 }
 
-fn bytes_of(s: Sizes, behind: second::Walk, here: second::Walk, q: u64, seed: u64) -> [u8; 40] {
+fn bytes_of(s: Sizes, behind: Walk, here: Walk, q: u64, seed: u64) -> [u8; 40] {
     if q < MOVED {
-        return damaged(second::walk_bytes(here), s, q, seed);
+        return damaged(walk::word_bytes(here), s, q, seed);
     }
     if q < MADE {
         return moved(behind, here, s.radius as u64, q);
@@ -51,7 +47,7 @@ fn bytes_of(s: Sizes, behind: second::Walk, here: second::Walk, q: u64, seed: u6
         let card = here.card;
         return made_up::made(card, s, q, seed);
     }
-    damage::turned(second::walk_bytes(here), s.bits)
+    damage::turned(walk::word_bytes(here), s.bits)
 }
 
 // Words 0 to 17: undamaged; t bits of one chunk, which follow each other; t + 1 scattered bits of one chunk; others.
@@ -78,7 +74,7 @@ fn damaged(word: [u8; 40], s: Sizes, q: u64, seed: u64) -> [u8; 40] {
         word,
         s,
         seed % 5,
-        layout::size(s, seed % 5),
+        layout::chunk_size(s, seed % 5),
         damage::FIRST,
         seed,
     )
@@ -107,12 +103,12 @@ fn up_to(most: usize, seed: u64) -> usize {
 }
 
 // The word so many steps after a walk.
-fn word_on(w: second::Walk, steps: u64) -> [u8; 40] {
-    second::walk_bytes(second::walk_on(w, steps))
+fn word_on(w: Walk, steps: u64) -> [u8; 40] {
+    walk::word_bytes(walk::further(w, steps))
 }
 
 // The word so many steps before `here`, or the first of the walk `behind`.
-fn word_back(behind: second::Walk, here: second::Walk, steps: u64) -> [u8; 40] {
+fn word_back(behind: Walk, here: Walk, steps: u64) -> [u8; 40] {
     let from = std::num::wrapping_add_u64(behind.position as u64, steps);
     let at = here.position as u64;
     word_on(behind, if at < from { 0 } else { at - from })
@@ -121,7 +117,7 @@ fn word_back(behind: second::Walk, here: second::Walk, steps: u64) -> [u8; 40] {
 // Words 18 to 21, whose damage leads away from the position, across chunks and block starts: the word of the position t
 // before it or t after it (1 where t is 0); and its word with the turns before the last t undone, or those after the next
 // t done, which lies as near to the position 2t away.
-fn moved(behind: second::Walk, here: second::Walk, radius: u64, q: u64) -> [u8; 40] {
+fn moved(behind: Walk, here: Walk, radius: u64, q: u64) -> [u8; 40] {
     let step = if radius == 0 { 1 } else { radius };
     let twice = std::num::wrapping_add_u64(step, step);
     if q == 18 {
@@ -132,13 +128,13 @@ fn moved(behind: second::Walk, here: second::Walk, radius: u64, q: u64) -> [u8; 
     }
     if q == 20 {
         return damage::sum_of_three(
-            second::walk_bytes(here),
+            walk::word_bytes(here),
             word_back(behind, here, step),
             word_back(behind, here, twice),
         );
     }
     damage::sum_of_three(
-        second::walk_bytes(here),
+        walk::word_bytes(here),
         word_on(here, step),
         word_on(here, twice),
     )

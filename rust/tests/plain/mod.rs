@@ -190,22 +190,30 @@ impl Code {
         if spare.contains(&true) {
             return Err(8);
         }
+        let (rule, low, high) = self.allowed(received)?;
+        // min_by_key gives the first of several
+        let position = (low..=high).min_by_key(|&q| unlike(&self.word(q), received)).unwrap();
+        Ok(Read { position, residual: unlike(&self.word(position), received), rule })
+    }
+
+    /// The rule that the separators name, and the first and the last position that it allows.
+    fn allowed(&self, received: &[bool]) -> Result<(u32, usize, usize), u32> {
         let [s1, c1, s2, c2, s3] = self.chunks().map(|(from, length)| &received[from..from + length]);
         let (distance, last) = (self.distance, self.last_codeword());
-        let (rule, low, high) = match (self.separator(s1), self.separator(s2), self.separator(s3)) {
+        match (self.separator(s1), self.separator(s2), self.separator(s3)) {
             (a, b, c) if a == b && b != c => {
                 let p = self.chunk(c1)?;
                 if p == 0 {
                     return Err(12);
                 }
-                (1, self.starts[p - 1] + distance + self.changed(p - 1), self.starts[p])
+                Ok((1, self.starts[p - 1] + distance + self.changed(p - 1), self.starts[p]))
             }
             (a, b, c) if a != b && b == c => {
                 let p = self.chunk(c2)?;
                 if p == last {
                     return Err(12);
                 }
-                (2, self.starts[p], self.starts[p] + 2 * distance + self.changed(p))
+                Ok((2, self.starts[p], self.starts[p] + 2 * distance + self.changed(p)))
             }
             (a, b, c) if a == b && b == c => {
                 let (p, q) = (self.chunk(c1)?, self.chunk(c2)?);
@@ -213,12 +221,9 @@ impl Code {
                     return Err(11);
                 }
                 let r = self.starts[p];
-                (3, r.saturating_sub(distance), (r + distance).min(self.last()))
+                Ok((3, r.saturating_sub(distance), (r + distance).min(self.last())))
             }
-            _ => return Err(9),
-        };
-        // min_by_key gives the first of several
-        let position = (low..=high).min_by_key(|&q| unlike(&self.word(q), received)).unwrap();
-        Ok(Read { position, residual: unlike(&self.word(position), received), rule })
+            _ => Err(9),
+        }
     }
 }

@@ -1,6 +1,5 @@
-//! Numbers for tests, the same in every run.
+//! Numbers for tests that look random, the same in every run.
 
-/// Numbers that look random, the same in every run.
 pub struct Random(pub u64);
 
 impl Random {

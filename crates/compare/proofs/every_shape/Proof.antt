@@ -5,16 +5,16 @@ use Rattle.compare.proofs.every_shape.Statement.{statement}
 use Rattle.compare.proofs.every_shape.Tie as tie
 
 abbrev Inv-loop : tie.InvT-loop
-Inv-loop t₀ i₀ t i = i ≤ 268
+Inv-loop counts₀ i₀ counts i = i ≤ 268
 
 abbrev μ-loop : tie.MeasureT-loop
-μ-loop t₀ i₀ t i = 268 - i
+μ-loop counts₀ i₀ counts i = 268 - i
 
 loop-holds : tie.Need-loop-holds Inv-loop μ-loop
 loop-holds c = search needs
 
-whole-requires : tie.Need-whole-requires Inv-loop μ-loop
-whole-requires c κs = search needs
+shape-requires : tie.Need-shape-requires Inv-loop μ-loop
+shape-requires c κs = search needs
 
 add-i : tie.Need-add-i Inv-loop μ-loop
 add-i c = search needs
@@ -35,7 +35,7 @@ every-shape-spec =
     Inv-loop
     μ-loop
     loop-holds
-    whole-requires
+    shape-requires
     add-i
     loop-less
     loop-again

@@ -5,10 +5,10 @@ use Rattle.compare.proofs.every_two_faults.Statement.{statement}
 use Rattle.compare.proofs.every_two_faults.Tie as tie
 
 abbrev Inv-loop : tie.InvT-loop
-Inv-loop t₀ i right f₀ t f = f ≤ 289
+Inv-loop counts₀ i right f₀ counts f = f ≤ 289
 
 abbrev μ-loop : tie.MeasureT-loop
-μ-loop t₀ i right f₀ t f = 289 - f
+μ-loop counts₀ i right f₀ counts f = 289 - f
 
 shape-number-requires : tie.Need-shape-number-requires Inv-loop μ-loop
 shape-number-requires c κs = search needs

@@ -1,5 +1,5 @@
--- `compare::report::lines` is safe and ends: a line starts at or before the place that is looked at, and there are no
--- more lines than places. Assumes nothing.
+-- `compare::report::lines` is safe and ends: a name starts at or before the byte that is looked at. The measure is the bytes that
+-- are left. Assumes nothing.
 use Prim.Native.Nat.{_-_, _≤_}
 use mathlib.Core.Logic.{⊎-elim}
 use lib.ListN.{length}
@@ -8,10 +8,10 @@ use Rattle.compare.proofs.report.lines.Statement.{statement}
 use Rattle.compare.proofs.report.lines.Tie as tie
 
 abbrev Inv-loop : tie.InvT-loop
-Inv-loop names t start₀ at₀ place₀ start at place = (start ≤ at) × (place ≤ at) × (at ≤ length names)
+Inv-loop names counts first start₀ at₀ place₀ start at place = (start ≤ at) × (at ≤ length names)
 
 abbrev μ-loop : tie.MeasureT-loop
-μ-loop names t start₀ at₀ place₀ start at place = length names - at
+μ-loop names counts first start₀ at₀ place₀ start at place = length names - at
 
 loop-holds : tie.Need-loop-holds Inv-loop μ-loop
 loop-holds c = search needs
@@ -34,8 +34,8 @@ line-requires c κs = search needs
 add-start : tie.Need-add-start Inv-loop μ-loop
 add-start c = search needs
 
-add-place : tie.Need-add-place Inv-loop μ-loop
-add-place c = search needs
+wrapping-add-usize-requires : tie.Need-wrapping-add-usize-requires Inv-loop μ-loop
+wrapping-add-usize-requires c κs = search needs
 
 add-at : tie.Need-add-at Inv-loop μ-loop
 add-at c = search needs
@@ -62,7 +62,7 @@ lines-spec =
     part-line-end
     line-requires
     add-start
-    add-place
+    wrapping-add-usize-requires
     add-at
     loop-less
     loop-again

@@ -13,14 +13,14 @@ abbrev μ-loop : tie.MeasureT-loop
 loop-holds : tie.Need-loop-holds Inv-loop μ-loop
 loop-holds c = search needs
 
-mul-one : tie.Need-mul-one Inv-loop μ-loop
-mul-one c = search needs
+mul-line : tie.Need-mul-line Inv-loop μ-loop
+mul-line c = search needs
 
-array-read-one : tie.Need-array-read-one Inv-loop μ-loop
-array-read-one c = search needs
+array-read-line : tie.Need-array-read-line Inv-loop μ-loop
+array-read-line c = search needs
 
-one-requires : tie.Need-one-requires Inv-loop μ-loop
-one-requires c κs = search needs
+line-requires : tie.Need-line-requires Inv-loop μ-loop
+line-requires c κs = search needs
 
 add-i : tie.Need-add-i Inv-loop μ-loop
 add-i c = search needs
@@ -41,9 +41,9 @@ refused-spec =
     Inv-loop
     μ-loop
     loop-holds
-    mul-one
-    array-read-one
-    one-requires
+    mul-line
+    array-read-line
+    line-requires
     add-i
     loop-less
     loop-again

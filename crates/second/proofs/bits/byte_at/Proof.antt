@@ -1,4 +1,4 @@
--- `second::bits::byte_at` is safe and ends. The eight places of byte j lie below 320.
+-- `second::bits::byte_at` is safe and ends: the eight places of byte j lie below 320. Assumes nothing.
 use Prim.Native.Nat.{_-_, _≤_}
 use borrow.Author.Needs.{needs}
 use Rattle.second.proofs.bits.byte_at.Statement.{statement}

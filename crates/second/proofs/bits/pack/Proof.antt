@@ -1,4 +1,4 @@
--- `second::bits::pack` is safe and ends. The array keeps its 40 bytes.
+-- `second::bits::pack` is safe and ends: the array keeps its 40 bytes. Assumes nothing.
 use Prim.Native.Nat.{_-_, _≤_}
 use mathlib.Core.Path.{_≡_}
 use lib.ListN.{length}

@@ -1,4 +1,4 @@
--- `second::bits::spare_bit_set` is safe and ends. The measure is the places left below 320.
+-- `second::bits::spare_bit_set` is safe and ends: the measure is the places left below 320. Assumes nothing.
 use Prim.Native.Nat.{_-_, _≤_}
 use borrow.Author.Needs.{needs}
 use Rattle.second.proofs.bits.spare_bit_set.Statement.{statement}

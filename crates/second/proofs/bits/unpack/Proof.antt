@@ -1,4 +1,5 @@
--- `second::bits::unpack` is safe and ends. The places stay within the word, of at most 40 bytes, and the array keeps its 320 bits.
+-- `second::bits::unpack` is safe and ends: the places stay within the word, of at most 40 bytes, and the array keeps its 320
+-- bits. Assumes nothing.
 use Prim.Native.Nat.{_-_, _≤_}
 use mathlib.Core.Path.{_≡_}
 use lib.ListN.{length}

@@ -1,4 +1,4 @@
--- `second::code::all_rows` is safe and ends. The array keeps its twelve rows.
+-- `second::code::all_rows` is safe and ends: the array keeps its twelve rows. Assumes nothing.
 use Prim.Native.Nat.{_-_, _≤_}
 use mathlib.Core.Path.{_≡_}
 use lib.ListN.{length}

@@ -1,4 +1,5 @@
--- `second::code::check_sum` is safe and ends. The sum stays below the modulus and a share below 2^17, so nothing overflows.
+-- `second::code::check_sum` is safe and ends: the sum stays below the modulus and a share below 2^17, so nothing overflows.
+-- Assumes nothing.
 use Prim.Native.Nat.{_-_, _≤_}
 use borrow.Author.Needs.{needs}
 use Rattle.second.proofs.code.check_sum.Statement.{statement}

@@ -1,4 +1,4 @@
--- `second::code::codewords` is safe and ends. 2^k is at most 2^12.
+-- `second::code::codewords` is safe and ends: 2^k is at most 2^12. Assumes nothing.
 use Prim.Native.Nat.{_^_, _≤_}
 use lib.Pow.{pow-pos, pow-mono}
 use native.Mathlib.Omega.{arith}

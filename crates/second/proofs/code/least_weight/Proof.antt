@@ -1,4 +1,4 @@
--- `second::code::least_weight` is safe and ends. The least weight starts at 64 and only falls.
+-- `second::code::least_weight` is safe and ends: the least weight starts at 64 and only falls. Assumes nothing.
 use Prim.Native.Nat.{_-_, _≤_}
 use borrow.Author.Needs.{needs}
 use Rattle.second.proofs.code.least_weight.Statement.{statement}

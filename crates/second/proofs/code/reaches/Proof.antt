@@ -1,4 +1,4 @@
--- `second::code::reaches` is safe and ends. The measure is the places left below 64.
+-- `second::code::reaches` is safe and ends: the measure is the places left below 64. Assumes nothing.
 use Prim.Native.Nat.{_-_, _≤_}
 use borrow.Author.Needs.{needs}
 use Rattle.second.proofs.code.reaches.Statement.{statement}

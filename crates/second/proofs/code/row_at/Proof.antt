@@ -1,4 +1,4 @@
--- `second::code::row_at` is safe and ends. The eight bytes of row z lie within the card.
+-- `second::code::row_at` is safe and ends: the eight bytes of row z lie within the card. Assumes nothing.
 use Prim.Native.Nat.{_-_, _≤_}
 use borrow.Author.Needs.{needs}
 use Rattle.second.proofs.code.row_at.Statement.{statement}

@@ -1,4 +1,4 @@
--- `second::code::share` is safe and ends. A product of a number up to 510 and a byte.
+-- `second::code::share` is safe and ends: a product of a number up to 510 and a byte. Assumes nothing.
 use Prim.Native.Nat.{_+_, _*_, _≤_}
 use native.Mathlib.Nat.{mul-le-mul}
 use native.Mathlib.Omega.{arith}

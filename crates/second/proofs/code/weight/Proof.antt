@@ -1,4 +1,4 @@
--- `second::code::weight` is safe and ends. No more ones are found than places were passed.
+-- `second::code::weight` is safe and ends: no more ones are found than places were passed. Assumes nothing.
 use Prim.Native.Nat.{_-_, _≤_}
 use mathlib.Core.Logic.{⊎-elim}
 use borrow.Author.Needs.{needs}

@@ -1,4 +1,4 @@
--- `second::code::wrong_byte` is safe and ends. The places stay below 510.
+-- `second::code::wrong_byte` is safe and ends: the places stay below 510. Assumes nothing.
 use Prim.Native.Nat.{_-_, _≤_}
 use borrow.Author.Needs.{needs}
 use Rattle.second.proofs.code.wrong_byte.Statement.{statement}

@@ -1,4 +1,4 @@
--- `second::search::chunk_reads` is safe and ends. The codewords tried are at most 2^k.
+-- `second::search::chunk_reads` is safe and ends: the codewords tried are at most 2^k. Assumes nothing.
 use Prim.Native.Nat.{_-_, _≤_}
 use borrow.Author.Needs.{needs}
 use Rattle.second.proofs.search.chunk_reads.Statement.{statement}

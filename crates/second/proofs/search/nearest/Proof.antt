@@ -1,4 +1,4 @@
--- `second::search::nearest` is safe and ends. The measure is the allowed positions left.
+-- `second::search::nearest` is safe and ends: the measure is the allowed positions left. Assumes nothing.
 use Prim.Native.Nat.{_+_, _-_, _≤_}
 use borrow.Author.Needs.{needs}
 use Rattle.second.proofs.search.nearest.Statement.{statement}

@@ -1,4 +1,4 @@
--- `second::search::unlike` is safe and ends. No more bits differ than were passed.
+-- `second::search::unlike` is safe and ends: no more bits differ than were passed. Assumes nothing.
 use Prim.Native.Nat.{_-_, _≤_}
 use mathlib.Core.Logic.{⊎-elim}
 use borrow.Author.Needs.{needs}

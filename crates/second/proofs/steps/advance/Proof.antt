@@ -1,4 +1,4 @@
--- `second::steps::advance` is safe and ends. The measure is the steps left.
+-- `second::steps::advance` is safe and ends: the measure is the steps left. Assumes nothing.
 use Prim.Native.Nat.{_≤_}
 use borrow.Author.Needs.{needs}
 use Rattle.second.proofs.steps.advance.Statement.{statement}

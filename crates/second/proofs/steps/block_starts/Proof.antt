@@ -1,4 +1,5 @@
--- `second::steps::block_starts` is safe and ends. A block has at most 320 steps, so the sum fits; the table keeps its 4096 entries.
+-- `second::steps::block_starts` is safe and ends: a block has at most 320 steps, so the sum fits; the table keeps its 4096
+-- entries. Assumes nothing.
 use Prim.Native.Nat.{_*_, _-_, _≤_}
 use mathlib.Core.Path.{_≡_}
 use lib.ListN.{length}

@@ -1,4 +1,4 @@
--- `second::steps::next_place` is safe and ends. The measure is the places left below d.
+-- `second::steps::next_place` is safe and ends: the measure is the places left below d. Assumes nothing.
 use Prim.Native.Nat.{_-_, _≤_}
 use borrow.Author.Needs.{needs}
 use Rattle.second.proofs.steps.next_place.Statement.{statement}

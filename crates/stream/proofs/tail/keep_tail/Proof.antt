@@ -5,7 +5,7 @@ use mathlib.Core.Path.{_≡_}
 use native.Mathlib.Omega.{arith}
 use borrow.Author.Needs.{needs}
 use lib.ListN.{length, length-set}
-use Rattle.stream.proofs.Moving.{moved, moved-next, front-is}
+use Rattle.stream.proofs.Moving.{moved, moved-next, front-moved}
 use Rattle.stream.proofs.tail.keep_tail.Statement.{statement}
 use Rattle.stream.proofs.tail.keep_tail.Tie as tie
 
@@ -54,7 +54,7 @@ returns c =
     let loop = c .before .loop in
     let args = c .before .before .args in
     let all : loop .kept ≡ args .end - args .from = omega arith in
-    (all, rw (loop .inv .1, ← all) (front-is (args .buffer .now) (args .from) (loop .kept) (omega arith)))
+    (all, rw (loop .inv .1, ← all) (front-moved (args .buffer .now) (args .from) (loop .kept) (omega arith)))
 
 pub keep-tail-spec : {M : Type 1} → statement M
 keep-tail-spec =

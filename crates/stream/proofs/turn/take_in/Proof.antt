@@ -1,16 +1,25 @@
 -- `stream::turn::take_in` meets its contract: n / w words of w bytes are whole, and n % w bytes are left. Assumes nothing.
-use Prim.Native.Nat.{_*_, _/_, _≤_}
-use mathlib.Core.Path.{_≡_, sym, _∙_}
+use Prim.Native.Nat.{ℕ, _+_, _-_, _*_, _/_, _≤_}
+use mathlib.Core.Path.{_≡_, sym, ap, _∙_}
+use mathlib.Core.List.{List}
 use native.Mathlib.Nat.{zero-add, div-mul-le-self, mod-eq-sub-div-mul}
 use native.Mathlib.Omega.{arith}
 use borrow.Author.Needs.{needs}
-use lib.ListN.{length, take}
-use lib.Seq.{length-take-le}
+use lib.ListN.{length, take, drop}
+use lib.Seq.{length-take-le, take-add, drop-at}
 use Rattle.model.specs.Decoded.{meaning}
 use Rattle.model.specs.Answers.{wordLength}
-use Rattle.stream.proofs.Moving.{tail-is}
 use Rattle.stream.proofs.turn.take_in.Statement.{statement}
 use Rattle.stream.proofs.turn.take_in.Tie as tie
+
+-- the bytes short of a word, of the n bytes that have come in, are what is left behind the whole words
+tail-behind-words : (bytes : List ℕ) (n w : ℕ) → n ≤ length bytes
+    → take (n - n / w * w) (drop (n / w * w) bytes) ≡ drop (n / w * w) (take n bytes)
+tail-behind-words bytes n w room =
+    let whole : ℕ = n / w * w in
+    let within : whole ≤ n = div-mul-le-self n w in
+    let split : n ≡ whole + (n - whole) = omega arith in
+    sym (ap (λ (k : ℕ). drop whole (take k bytes)) split ∙ rw take-add (drop-at (take whole bytes) (take (n - whole) (drop whole bytes)) whole (length-take-le whole bytes (omega arith))))
 
 -- n bytes have come in
 arrived : (c : tie.After-word-length) → let args = c .before .before .before .args in length (take (args .n) (args .input .now)) ≡ args .n
@@ -58,8 +67,8 @@ same-length-2 c = search needs
 returns : tie.Need-returns
 returns c =
     let kept = c .before .before in
-    let told = kept .before .before .before .before in
-    let measured = told .before .before .before in
+    let put = kept .before .before .before .before in
+    let measured = put .before .before .before in
     let start = measured .before .before .before in
     let n = start .args .n in
     let w = measured .word-length .result in
@@ -67,11 +76,11 @@ returns c =
     record {
       words = rw (arrived measured, ← is-length);
       held = rw (arrived measured, ← is-length) (kept .keep-tail .ensures .0 ∙ sym (mod-eq-sub-div-mul n w));
-      lines = told .put-words .ensures .0;
-      read = told .put-words .ensures .1 .1 .0;
-      kept = rw (← is-length) (kept .keep-tail .ensures .1 ∙ tail-is (start .args .input .now) n w (start .pre .1 .0));
-      few = told .put-words .ensures .1 .1 .1;
-      room = rw zero-add at (told .put-words .ensures .1 .0);
+      lines = put .put-words .ensures .0;
+      read = put .put-words .ensures .1 .1 .0;
+      kept = rw (← is-length) (kept .keep-tail .ensures .1 ∙ tail-behind-words (start .args .input .now) n w (start .pre .1 .0));
+      few = put .put-words .ensures .1 .1 .1;
+      room = rw zero-add at (put .put-words .ensures .1 .0);
     }
 
 pub take-in-spec : {M : Type 1} → statement M

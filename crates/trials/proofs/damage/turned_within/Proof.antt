@@ -13,11 +13,11 @@ abbrev μ-loop : tie.MeasureT-loop
 loop-holds : tie.Need-loop-holds Inv-loop μ-loop
 loop-holds c = search needs
 
-low-requires : tie.Need-low-requires Inv-loop μ-loop
-low-requires c κs = search needs
+chunk-start-requires : tie.Need-chunk-start-requires Inv-loop μ-loop
+chunk-start-requires c κs = search needs
 
-size-requires : tie.Need-size-requires Inv-loop μ-loop
-size-requires c κs = search needs
+chunk-size-requires : tie.Need-chunk-size-requires Inv-loop μ-loop
+chunk-size-requires c κs = search needs
 
 unlike-requires : tie.Need-unlike-requires Inv-loop μ-loop
 unlike-requires c κs = search needs
@@ -47,8 +47,8 @@ turned-within-spec =
     Inv-loop
     μ-loop
     loop-holds
-    low-requires
-    size-requires
+    chunk-start-requires
+    chunk-size-requires
     unlike-requires
     returns
     wrapping-add-u64-requires

@@ -1,14 +1,14 @@
--- `compare::tour::track` is safe and ends: the positions count up to the last, which fits 32 bits. Assumes nothing.
+-- `compare::track::positions` is safe and ends: the positions count up to the last, which fits 32 bits. Assumes nothing.
 use Prim.Native.Nat.{_+_, _-_, _≤_, _<_}
 use borrow.Author.Needs.{needs}
-use Rattle.compare.proofs.tour.track.Statement.{statement}
-use Rattle.compare.proofs.tour.track.Tie as tie
+use Rattle.compare.proofs.track.positions.Statement.{statement}
+use Rattle.compare.proofs.track.positions.Tie as tie
 
 abbrev Inv-loop : tie.InvT-loop
-Inv-loop t₀ card p id s last behind₀ here₀ before₀ at₀ t behind here before at = (at ≤ last + 1) × (last < 4294967296)
+Inv-loop counts₀ card p id s last behind₀ here₀ before₀ at₀ counts behind here before at = (at ≤ last + 1) × (last < 4294967296)
 
 abbrev μ-loop : tie.MeasureT-loop
-μ-loop t₀ card p id s last behind₀ here₀ before₀ at₀ t behind here before at = last + 1 - at
+μ-loop counts₀ card p id s last behind₀ here₀ before₀ at₀ counts behind here before at = last + 1 - at
 
 prepared-facts-requires : tie.Need-prepared-facts-requires Inv-loop μ-loop
 prepared-facts-requires c κs = search needs
@@ -19,8 +19,8 @@ sizes-of-requires c κs = search needs
 cast-last : tie.Need-cast-last Inv-loop μ-loop
 cast-last c = search needs
 
-prepared-walk-requires : tie.Need-prepared-walk-requires Inv-loop μ-loop
-prepared-walk-requires c κs = search needs
+from-start-requires : tie.Need-from-start-requires Inv-loop μ-loop
+from-start-requires c κs = search needs
 
 nothing-requires : tie.Need-nothing-requires Inv-loop μ-loop
 nothing-requires c κs = search needs
@@ -40,8 +40,8 @@ follow-requires c κs = search needs
 read-requires : tie.Need-read-requires Inv-loop μ-loop
 read-requires c κs = search needs
 
-walk-step-requires : tie.Need-walk-step-requires Inv-loop μ-loop
-walk-step-requires c κs = search needs
+step-requires : tie.Need-step-requires Inv-loop μ-loop
+step-requires c κs = search needs
 
 add-at : tie.Need-add-at Inv-loop μ-loop
 add-at c = search needs
@@ -55,8 +55,8 @@ loop-again c = search needs
 returns : tie.Need-returns Inv-loop μ-loop
 returns c = search needs
 
-pub track-spec : {M : Type 1} → statement M
-track-spec =
+pub positions-spec : {M : Type 1} → statement M
+positions-spec =
     tie.close
     (tie.spec
     Inv-loop
@@ -64,14 +64,14 @@ track-spec =
     prepared-facts-requires
     sizes-of-requires
     cast-last
-    prepared-walk-requires
+    from-start-requires
     nothing-requires
     loop-holds
     write-requires
     is-read-requires
     follow-requires
     read-requires
-    walk-step-requires
+    step-requires
     add-at
     loop-less
     loop-again

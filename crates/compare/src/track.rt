@@ -1,8 +1,11 @@
-// A sound card: its block starts, and its track from end to end.
+// The track of a sound card: its block starts, and its positions from end to end.
 use crate::calls;
 use crate::library;
 use crate::tally;
+use crate::tally::Counts;
 use second::search;
+use second::walk;
+use second::walk::Walk;
 use trials::choice;
 use trials::damage;
 use trials::layout;
@@ -11,43 +14,43 @@ use trials::numbers;
 use trials::words;
 
 // The start of every block, against the second reader's table of starts.
-pub fn starts(t: &mut [u64; 38], card: &[u8], k: u64, table: &[u32; 4096]) {
-    let top = numbers::cut(k, 4095);
+pub fn starts(counts: &mut Counts, card: &[u8], k: u64, table: &[u32; 4096]) {
+    let top = numbers::low_bits(k, 4095);
     let mut i: usize = 0;
     while i < 4096 {
         if i as u64 <= top {
-            start(t, card, i as u32, search::start_of(table, i as u64));
+            start(counts, card, i as u32, search::start_of(table, i as u64));
         }
         i += 1;
     }
 }
 
-fn start(t: &mut [u64; 38], card: &[u8], block: u32, value: u64) {
+fn start(counts: &mut Counts, card: &[u8], block: u32, value: u64) {
     calls::number(
-        t,
+        counts,
         library::block_start(card, block),
         second::Number { refusal: 0, value },
     );
 }
 
-// The track, position by position.
-pub fn track(t: &mut [u64; 38], card: &[u8], p: second::Prepared, id: u64) {
+// The positions, one after the other: words are written, and at some of them words are read.
+pub fn positions(counts: &mut Counts, card: &[u8], p: second::Prepared, id: u64) {
     let s = layout::sizes_of(second::prepared_facts(p));
     let last = p.last as u64;
-    let first = second::prepared_walk(p);
+    let first = walk::from_start(p);
     let mut behind = first;
     let mut here = first;
     let mut before = library::nothing();
     let mut at: u64 = 0;
     while at <= last {
-        let wrote = write(t, card, s.bits, here, before, id);
+        let wrote = write(counts, card, s.bits, here, before, id);
         before = wrote;
         if choice::is_read(here, id) {
             let nearer = follow(behind, at, s.bits as u64);
             behind = nearer;
-            read(t, card, p, s, behind, here, id);
+            read(counts, card, p, s, behind, here, id);
         }
-        let next = second::walk_step(here);
+        let next = walk::step(here);
         here = next;
         at += 1;
     }
@@ -55,32 +58,32 @@ pub fn track(t: &mut [u64; 38], card: &[u8], p: second::Prepared, id: u64) {
 
 // The walk behind another, brought up to a word's bits before it: as far back as the allowed positions of a word that is
 // damaged within the radius can reach.
-fn follow(behind: second::Walk, at: u64, bits: u64) -> second::Walk {
+fn follow(behind: Walk, at: u64, bits: u64) -> Walk {
     let to = std::num::wrapping_add_u64(behind.position as u64, bits);
     if at < to {
         return behind;
     }
-    second::walk_on(behind, at - to)
+    walk::further(behind, at - to)
 }
 
 // What the library writes at a position, if it is one of those that are written, against the second reader's word and
 // against what was written at the position before.
 fn write(
-    t: &mut [u64; 38],
+    counts: &mut Counts,
     card: &[u8],
     bits: usize,
-    here: second::Walk,
+    here: Walk,
     before: library::Wrote,
     id: u64,
 ) -> library::Wrote {
     if !choice::is_written(here, id) {
         return library::nothing();
     }
-    let len = layout::length_of(bits);
+    let len = layout::byte_count(bits);
     let wrote = library::write(card, here.position, len);
-    let bytes = second::walk_bytes(here);
+    let bytes = walk::word_bytes(here);
     calls::written(
-        t,
+        counts,
         wrote,
         second::Word {
             refusal: 0,
@@ -91,26 +94,26 @@ fn write(
     if before.refusal != library::NOT_CALLED {
         let one = before.lent;
         let next = wrote.lent;
-        neighbours(t, one, next);
+        neighbours(counts, one, next);
     }
     wrote
 }
 
 // The words of two neighbouring positions, which are one bit apart.
-fn neighbours(t: &mut [u64; 38], one: [u8; 48], next: [u8; 48]) {
-    tally::one_more(t, tally::NEIGHBOURS);
+fn neighbours(counts: &mut Counts, one: [u8; 48], next: [u8; 48]) {
+    tally::one_more(counts, tally::NEIGHBOURS);
     let apart = damage::unlike(damage::front(one), damage::front(next), 0, 320);
-    tally::one_more_if(t, tally::NOT_NEIGHBOURS, apart != 1);
+    tally::one_more_if(counts, tally::NOT_NEIGHBOURS, apart != 1);
 }
 
 // The words of a position.
 fn read(
-    t: &mut [u64; 38],
+    counts: &mut Counts,
     card: &[u8],
     p: second::Prepared,
     s: Sizes,
-    behind: second::Walk,
-    here: second::Walk,
+    behind: Walk,
+    here: Walk,
     id: u64,
 ) {
     let at = here.position as u64;
@@ -118,29 +121,29 @@ fn read(
     while q < words::COUNT {
         let received = words::word_number(s, behind, here, q, id);
         let word = received.word;
-        read_one(t, card, p, behind, at, s.bits, word, received.turned);
+        read_one(counts, card, p, behind, at, s.bits, word, received.turned);
         q += 1;
     }
 }
 
 // One word of a position, with so many bits turned if they are within the radius.
 fn read_one(
-    t: &mut [u64; 38],
+    counts: &mut Counts,
     card: &[u8],
     p: second::Prepared,
-    behind: second::Walk,
+    behind: Walk,
     at: u64,
     bits: usize,
     word: [u8; 40],
     turned: u64,
 ) {
-    let len = layout::length_of(bits);
+    let len = layout::byte_count(bits);
     let answer = library::read(card, &word[0..len]);
     let plain = second::read_along(p, behind, &word[0..len]);
-    calls::read(t, answer, plain);
+    calls::read(counts, answer, plain);
     if turned < damage::TOO_MANY {
         let by_library = off(at, answer.refusal, answer.position);
-        bounded(t, turned, by_library, off(at, 0, plain.position));
+        bounded(counts, turned, by_library, off(at, 0, plain.position));
     }
 }
 
@@ -154,11 +157,11 @@ fn off(at: u64, refusal: u32, position: u32) -> u64 {
 }
 
 // A word damaged within the radius: it must be read, no further off than twice the bits turned.
-fn bounded(t: &mut [u64; 38], turned: u64, by_library: u64, by_second: u64) {
+fn bounded(counts: &mut Counts, turned: u64, by_library: u64, by_second: u64) {
     let twice = std::num::wrapping_add_u64(turned, turned);
-    tally::one_more(t, tally::WITHIN);
-    tally::greatest(t, tally::MOST_TURNED, turned);
-    tally::greatest(t, tally::MOST_OFF, by_second);
-    tally::one_more_if(t, tally::AT_BOUND, 0 < turned && by_second == twice);
-    tally::one_more_if(t, tally::PAST_BOUND, twice < by_library);
+    tally::one_more(counts, tally::WITHIN);
+    tally::greatest(counts, tally::MOST_TURNED, turned);
+    tally::greatest(counts, tally::MOST_OFF, by_second);
+    tally::one_more_if(counts, tally::AT_BOUND, 0 < turned && by_second == twice);
+    tally::one_more_if(counts, tally::PAST_BOUND, twice < by_library);
 }

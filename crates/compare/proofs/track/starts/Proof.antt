@@ -1,17 +1,17 @@
--- `compare::tour::starts` is safe and ends: it counts up to 4,096. Assumes nothing.
+-- `compare::track::starts` is safe and ends: it counts up to 4,096. Assumes nothing.
 use Prim.Native.Nat.{_-_, _≤_}
 use borrow.Author.Needs.{needs}
-use Rattle.compare.proofs.tour.starts.Statement.{statement}
-use Rattle.compare.proofs.tour.starts.Tie as tie
+use Rattle.compare.proofs.track.starts.Statement.{statement}
+use Rattle.compare.proofs.track.starts.Tie as tie
 
 abbrev Inv-loop : tie.InvT-loop
-Inv-loop t₀ card k table top i₀ t i = i ≤ 4096
+Inv-loop counts₀ card k table top i₀ counts i = i ≤ 4096
 
 abbrev μ-loop : tie.MeasureT-loop
-μ-loop t₀ card k table top i₀ t i = 4096 - i
+μ-loop counts₀ card k table top i₀ counts i = 4096 - i
 
-cut-requires : tie.Need-cut-requires Inv-loop μ-loop
-cut-requires c κs = search needs
+low-bits-requires : tie.Need-low-bits-requires Inv-loop μ-loop
+low-bits-requires c κs = search needs
 
 loop-holds : tie.Need-loop-holds Inv-loop μ-loop
 loop-holds c = search needs
@@ -43,7 +43,7 @@ starts-spec =
     (tie.spec
     Inv-loop
     μ-loop
-    cut-requires
+    low-bits-requires
     loop-holds
     cast-start
     start-of-requires

@@ -1,14 +1,14 @@
--- `compare::tour::read` is safe and ends: it goes through the words of a position by number. Assumes nothing.
+-- `compare::track::read` is safe and ends: it goes through the words of a position by number. Assumes nothing.
 use Prim.Native.Nat.{_-_, _≤_}
 use borrow.Author.Needs.{needs}
-use Rattle.compare.proofs.tour.read.Statement.{statement}
-use Rattle.compare.proofs.tour.read.Tie as tie
+use Rattle.compare.proofs.track.read.Statement.{statement}
+use Rattle.compare.proofs.track.read.Tie as tie
 
 abbrev Inv-loop : tie.InvT-loop
-Inv-loop t₀ card p s behind here id at q₀ t q = q ≤ 28
+Inv-loop counts₀ card p s behind here id at q₀ counts q = q ≤ 28
 
 abbrev μ-loop : tie.MeasureT-loop
-μ-loop t₀ card p s behind here id at q₀ t q = 28 - q
+μ-loop counts₀ card p s behind here id at q₀ counts q = 28 - q
 
 cast-at : tie.Need-cast-at Inv-loop μ-loop
 cast-at c = search needs

@@ -1,10 +1,10 @@
--- `trials::made_up::patched` is safe and ends: it counts up to the word's bits. Assumes nothing.
+-- `trials::made_up::assembled` is safe and ends: it counts up to the word's bits. Assumes nothing.
 use Prim.Native.Nat.{_-_, _≤_}
 use mathlib.Core.Path.{_≡_}
 use lib.ListN.{length}
 use borrow.Author.Needs.{needs}
-use Rattle.trials.proofs.made_up.patched.Statement.{statement}
-use Rattle.trials.proofs.made_up.patched.Tie as tie
+use Rattle.trials.proofs.made_up.assembled.Statement.{statement}
+use Rattle.trials.proofs.made_up.assembled.Tie as tie
 
 abbrev Inv-loop : tie.InvT-loop
 Inv-loop s a b seed first second count word₀ p₀ word p = (p ≤ count) × (length word ≡ 40)
@@ -21,8 +21,8 @@ codeword-requires-2 c κs = search needs
 loop-holds : tie.Need-loop-holds Inv-loop μ-loop
 loop-holds c = search needs
 
-patched-bit-requires : tie.Need-patched-bit-requires Inv-loop μ-loop
-patched-bit-requires c κs = search needs
+assembled-bit-requires : tie.Need-assembled-bit-requires Inv-loop μ-loop
+assembled-bit-requires c κs = search needs
 
 turned-if-requires : tie.Need-turned-if-requires Inv-loop μ-loop
 turned-if-requires c κs = search needs
@@ -39,8 +39,8 @@ loop-again c = search needs
 returns : tie.Need-returns Inv-loop μ-loop
 returns c = search needs
 
-pub patched-spec : {M : Type 1} → statement M
-patched-spec =
+pub assembled-spec : {M : Type 1} → statement M
+assembled-spec =
     tie.close
     (tie.spec
     Inv-loop
@@ -48,7 +48,7 @@ patched-spec =
     codeword-requires
     codeword-requires-2
     loop-holds
-    patched-bit-requires
+    assembled-bit-requires
     turned-if-requires
     add-p
     loop-less

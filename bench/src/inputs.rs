@@ -1,0 +1,71 @@
+//! What is measured on: five cards, positions of their tracks, and words with damage within the radius, the same in every run.
+use crate::baseline::{self, decode, Kept, Order as _};
+use crate::cards::card_of;
+use crate::codes::{golay, reed_muller};
+
+pub const CARDS: [&str; 5] = ["B", "rm16", "rm64", "random64", "golay24"];
+
+struct Random(u64);
+
+impl Random {
+    fn next(&mut self) -> u64 {
+        self.0 ^= self.0 << 13;
+        self.0 ^= self.0 >> 7;
+        self.0 ^= self.0 << 17;
+        self.0
+    }
+
+    fn below(&mut self, bound: usize) -> usize {
+        (self.next() % bound as u64) as usize
+    }
+}
+
+pub fn card(name: &str) -> Vec<u8> {
+    let (n, rows) = match name {
+        "B" => (3, vec![7]),
+        "rm16" => (16, reed_muller(4)),
+        "rm64" => (64, reed_muller(6)),
+        "random64" => {
+            let mut random = Random(0x1234_5678_9abc_def1);
+            (64, (0..12).map(|_| random.next()).collect())
+        }
+        "golay24" => (24, golay()),
+        _ => panic!("no card {name}: {CARDS:?}"),
+    };
+    card_of(n, rows.len() as u8, 14, &rows)
+}
+
+/// Whether a card has so many codewords (k is 12) that fewer of its words are measured.
+pub fn is_large(name: &str) -> bool {
+    matches!(name, "random64" | "golay24")
+}
+
+/// Positions of a track, and their words with up to t bits turned in each chunk.
+pub fn positions_and_words(card: &[u8], count: usize) -> (Vec<u32>, Vec<Vec<u8>>) {
+    let code = decode(card).unwrap();
+    let kept = Kept::new(code);
+    let mut random = Random(88172645463325252);
+    let positions: Vec<u32> = (0..count).map(|_| random.below(kept.last() + 1) as u32).collect();
+    let words = positions
+        .iter()
+        .map(|&position| {
+            let mut word = vec![0; code.bytes()];
+            baseline::write(&kept, position, &mut word).unwrap();
+            for (from, length) in code.chunks() {
+                for _ in 0..random.below(code.radius + 1) {
+                    let place = from + random.below(length);
+                    word[place / 8] ^= 1 << (place % 8);
+                }
+            }
+            word
+        })
+        .collect();
+    (positions, words)
+}
+
+/// A card and words of it, as tramread reads them.
+pub fn card_and_words(name: &str, count: usize) -> Vec<u8> {
+    let card = card(name);
+    let (_, words) = positions_and_words(&card, count);
+    [card, words.concat()].concat()
+}
