@@ -1,3 +1,4 @@
+pub mod RowWeights
 pub mod LayoutOf
 pub mod Received
 pub mod Scanned

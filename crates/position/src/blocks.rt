@@ -5,6 +5,7 @@ ghost use Rattle.model.specs.Decoded.{meaning};
 ghost use Rattle.model.specs.Order.{lastCodeword, start, lastPosition};
 ghost use Rattle.model.specs.Words.{blockOf};
 ghost use Rattle.code_theory.specs.Promise.{Sound};
+ghost use Rattle.position.specs.RowWeights.{RowWeights};
 use chunk::codeword;
 use chunk::order;
 use model::DecodedCode;
@@ -29,20 +30,41 @@ fn times_added(i: u32, z: u32) -> u32
     ((i - first) >> (z + 1)) + 1
 }
 
-// The start of block i. The rows are added in order, from row 0 on.
+// The weights of the rows.
+fn row_weights(code: DecodedCode) -> [u32; 12]
+    requires { ⌜ Sound (meaning code) ⌝ }
+    ensures { λ r. ⌜ RowWeights (meaning code) r ⌝ }
+{
+    let rows = code.rows;
+    let mut weights = [0u32; 12];
+    let mut z: usize = 0;
+    while z < code.k as usize {
+        weights[z] = codeword::row_weight(rows[z]);
+        z += 1;
+    }
+    weights
+}
+
+// The start of block i, from the weights of the rows. The rows are added in order, from row 0 on.
+fn start_by(code: DecodedCode, weights: [u32; 12], i: u32) -> u32
+    requires { ⌜ Sound (meaning code) × (i ≤ lastCodeword (meaning code)) × RowWeights (meaning code) weights ⌝ }
+    ensures { λ r. ⌜ r ≡ start (meaning code) i ⌝ }
+{
+    let mut begin = 3 * code.distance * i;
+    let mut z: u32 = 0;
+    while z < code.k {
+        begin += 2 * (weights[z as usize] * times_added(i, z));
+        z += 1;
+    }
+    begin
+}
+
+// The start of block i.
 pub fn block_start(code: DecodedCode, i: u32) -> u32
     requires { ⌜ Sound (meaning code) × (i ≤ lastCodeword (meaning code)) ⌝ }
     ensures { λ r. ⌜ r ≡ start (meaning code) i ⌝ }
 {
-    let rows = code.rows;
-    let mut begin = 3 * code.distance * i;
-    let mut z: u32 = 0;
-    while z < code.k {
-        let row = rows[z as usize];
-        begin += 2 * (codeword::row_weight(row) * times_added(i, z));
-        z += 1;
-    }
-    begin
+    start_by(code, row_weights(code), i)
 }
 
 // The last position of the track.
@@ -58,11 +80,12 @@ pub fn block_of(code: DecodedCode, position: u32) -> u32
     requires { ⌜ Sound (meaning code) ⌝ }
     ensures { λ r. ⌜ r ≡ blockOf (meaning code) position ⌝ }
 {
+    let weights = row_weights(code);
     let mut low: u32 = 0;
     let mut high = last_codeword(code);
     while low < high {
         let middle = (low + high + 1) / 2;
-        if block_start(code, middle) <= position {
+        if start_by(code, weights, middle) <= position {
             low = middle;
         } else {
             high = middle - 1;

@@ -19,12 +19,15 @@ use Rattle.position.proofs.blocks.block_of.Statement.{statement}
 use Rattle.position.proofs.blocks.block_of.Tie as tie
 
 abbrev Inv-loop : tie.InvT-loop
-Inv-loop code position low₀ high₀ low high =
+Inv-loop code position weights low₀ high₀ low high =
     (low ≤ high) × (high ≤ lastCodeword (meaning code)) × (start (meaning code) low ≤ position)
     × ((j : ℕ) → high < j → j ≤ lastCodeword (meaning code) → position < start (meaning code) j)
 
 abbrev μ-loop : tie.MeasureT-loop
-μ-loop code position low₀ high₀ low high = high - low
+μ-loop code position weights low₀ high₀ low high = high - low
+
+row-weights-requires : tie.Need-row-weights-requires Inv-loop μ-loop
+row-weights-requires c κs = search needs
 
 last-codeword-requires : tie.Need-last-codeword-requires Inv-loop μ-loop
 last-codeword-requires c κs = search needs
@@ -33,18 +36,18 @@ loop-holds : tie.Need-loop-holds Inv-loop μ-loop
 loop-holds c = (
   omega arith,
   omega arith,
-  omega (arith, start-zero (meaning (c .before .args .code))),
+  omega (arith, start-zero (meaning (c .before .before .args .code))),
   λ j l b. absurd (omega arith),
 )
 
 add-middle : tie.Need-add-middle Inv-loop μ-loop
-add-middle c = omega (arith, last-codeword-bound _ (c .before .before .before .pre))
+add-middle c = omega (arith, last-codeword-bound _ (c .before .before .before .before .pre))
 
 add-middle-2 : tie.Need-add-middle-2 Inv-loop μ-loop
-add-middle-2 c = omega (arith, last-codeword-bound _ (c .before .before .before .pre))
+add-middle-2 c = omega (arith, last-codeword-bound _ (c .before .before .before .before .pre))
 
-block-start-requires : tie.Need-block-start-requires Inv-loop μ-loop
-block-start-requires c κs = search needs
+start-by-requires : tie.Need-start-by-requires Inv-loop μ-loop
+start-by-requires c κs = search needs
 
 loop-less : tie.Need-loop-less Inv-loop μ-loop
 loop-less c = search needs
@@ -60,10 +63,10 @@ loop-less-2 c = search needs
 
 loop-again-2 : tie.Need-loop-again-2 Inv-loop μ-loop
 loop-again-2 c =
-    let first = c .before .before .before .before .before in
+    let first = c .before .before .before .before .before .before in
     let loop = c .before .before .before .loop in
     let middle = (loop .low + loop .high + 1) / 2 in
-    let past : first .args .position < start (meaning (first .args .code)) middle = rw (← (c .before .block-start .ensures)) (c .if1 .left) in (
+    let past : first .args .position < start (meaning (first .args .code)) middle = rw (← (c .before .start-by .ensures)) (c .if1 .left) in (
       omega arith,
       omega arith,
       loop .inv .2,
@@ -76,7 +79,7 @@ loop-again-2 c =
 returns : tie.Need-returns Inv-loop μ-loop
 unfolding blockOf
 returns c =
-    let first = c .before .before .before in
+    let first = c .before .before .before .before in
     let C = meaning (first .args .code) in
     let loop = c .before .loop in
     let met : loop .low ≡ loop .high = omega arith in
@@ -91,11 +94,12 @@ block-of-spec =
     (tie.spec
     Inv-loop
     μ-loop
+    row-weights-requires
     last-codeword-requires
     loop-holds
     add-middle
     add-middle-2
-    block-start-requires
+    start-by-requires
     loop-less
     loop-again
     sub-high

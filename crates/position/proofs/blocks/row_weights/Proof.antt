@@ -1,0 +1,86 @@
+-- `position::blocks::row_weights` meets its contract. The loop's invariant: the weights of the rows below `z` are in place. The measure
+-- is the rows that are left. Assumes nothing.
+use mathlib.Core.Path.{_≡_}
+use mathlib.Core.Logic.{⊎-elim}
+use Prim.Native.Nat.{ℕ, _-_, _≤_, _<_}
+use native.Mathlib.Omega.{arith}
+use borrow.Author.Needs.{needs}
+use lib.ListN.{length, getD, length-set}
+use lib.Seq.{getD-set-same, getD-set-other}
+use Rattle.bits.specs.Places.{weight}
+use Rattle.bits.proofs.Numbers.{eq-or-ne}
+use Rattle.model.specs.Decoded.{meaning}
+use Rattle.position.proofs.blocks.row_weights.Statement.{statement}
+use Rattle.position.proofs.blocks.row_weights.Tie as tie
+
+abbrev Inv-loop : tie.InvT-loop
+Inv-loop code rows weights₀ z₀ weights z =
+    (z ≤ code .k) × (length weights ≡ 12) × ((y : ℕ) → y < z → getD weights y 0 ≡ weight (code .n) (meaning code .row y))
+
+abbrev μ-loop : tie.MeasureT-loop
+μ-loop code rows weights₀ z₀ weights z = code .k - z
+
+loop-holds : tie.Need-loop-holds Inv-loop μ-loop
+loop-holds c = (omega arith, search needs, λ y h. absurd (omega arith))
+
+cast-if1 : tie.Need-cast-if1 Inv-loop μ-loop
+cast-if1 c = search needs
+
+mul-row-weight : tie.Need-mul-row-weight Inv-loop μ-loop
+mul-row-weight c = search needs
+
+array-read-row-weight : tie.Need-array-read-row-weight Inv-loop μ-loop
+array-read-row-weight c = search needs
+
+row-weight-requires : tie.Need-row-weight-requires Inv-loop μ-loop
+row-weight-requires c κs = search needs
+
+mul-weights : tie.Need-mul-weights Inv-loop μ-loop
+mul-weights c = search needs
+
+array-write-weights : tie.Need-array-write-weights Inv-loop μ-loop
+array-write-weights c = search needs
+
+add-z : tie.Need-add-z Inv-loop μ-loop
+add-z c = search needs
+
+loop-less : tie.Need-loop-less Inv-loop μ-loop
+loop-less c = search needs
+
+loop-again : tie.Need-loop-again Inv-loop μ-loop
+loop-again c =
+    let loop = c .before .before .before .loop in
+    let start = c .before .before .before .before .before in
+    let few = start .pre .k-high in
+    let new = c .row-weight .ensures (start .args .code .n) (start .pre .narrow (loop .z) (omega arith)) in (
+      omega arith,
+      simp length-set (loop .inv .1),
+      λ y h.
+          ⊎-elim
+          (λ (e : y ≡ loop .z).
+          rw (e, getD-set-same (loop .weights) (loop .z) (c .row-weight .result) 0 (omega (arith, loop .inv .1))) new)
+          (λ (ne : y ≡ loop .z → ⊥).
+          rw (getD-set-other (loop .weights) (loop .z) y (c .row-weight .result) 0 ne) (loop .inv .2 y (omega arith)))
+          (eq-or-ne y (loop .z)),
+    )
+
+returns : tie.Need-returns Inv-loop μ-loop
+returns c z h = c .before .before .loop .inv .2 z (omega arith)
+
+pub row-weights-spec : {M : Type 1} → statement M
+row-weights-spec =
+    tie.close
+    (tie.spec
+    Inv-loop
+    μ-loop
+    loop-holds
+    cast-if1
+    mul-row-weight
+    array-read-row-weight
+    row-weight-requires
+    mul-weights
+    array-write-weights
+    add-z
+    loop-less
+    loop-again
+    returns)

@@ -1,0 +1,119 @@
+-- `position::blocks::start_by` meets its contract. The loop's invariant: `begin` is the start as far as the rows below `z` go,
+-- which never exceeds the whole. The measure is the rows that are left. Assumes nothing.
+use Prim.Native.Nat.{_+_, _-_, _*_, _≤_}
+use mathlib.Core.Path.{_≡_, sym, ap₂, _∙_}
+use borrow.Author.Needs.{needs}
+use native.Mathlib.Omega.{arith}
+use lib.ListN.{getD}
+use Rattle.model.specs.Decoded.{meaning}
+use Rattle.code_theory.proofs.LeastDistance.{D-high}
+use Rattle.position.proofs.StartSum.{rowPart, startUpTo, up-to-none, up-to-more, up-to-all, up-to-bound}
+use Rattle.position.proofs.blocks.start_by.Statement.{statement}
+use Rattle.position.proofs.blocks.start_by.Tie as tie
+
+abbrev Inv-loop : tie.InvT-loop
+Inv-loop code i weights begin₀ z₀ begin z = (z ≤ code .k) × (begin ≡ startUpTo (meaning code) i z)
+
+abbrev μ-loop : tie.MeasureT-loop
+μ-loop code i weights begin₀ z₀ begin z = code .k - z
+
+-- block 0's part
+first-fits : (c : tie.Start Inv-loop μ-loop) → 3 * c .args .code .distance * c .args .i ≤ 1310400
+first-fits c =
+    rw (← (up-to-none (meaning (c .args .code)) (c .args .i)))
+    (up-to-bound (meaning (c .args .code)) (c .args .i) (c .pre .0) (c .pre .1) 0 (omega arith))
+
+-- what the row of this turn adds
+added : (c : tie.After-times-added Inv-loop μ-loop)
+    → let loop = c .before .before .before .loop in
+    let args = c .before .before .before .before .before .args in
+    getD (args .t2) (loop .z) 0 * c .times-added .result ≡ rowPart (meaning (args .code)) (args .i) (loop .z)
+added c =
+    let start = c .before .before .before .before .before in
+    ap₂ _*_ (start .pre .2 (c .before .before .before .loop .z) (c .before .if1 .taken)) (c .times-added .ensures)
+
+-- the start with this row added
+next : (c : tie.After-times-added Inv-loop μ-loop)
+    → let loop = c .before .before .before .loop in
+    let args = c .before .before .before .before .before .args in
+    loop .begin + 2 * (getD (args .t2) (loop .z) 0 * c .times-added .result)
+    ≡ startUpTo (meaning (args .code)) (args .i) (loop .z + 1)
+next c =
+    let loop = c .before .before .before .loop in
+    let args = c .before .before .before .before .before .args in
+    omega (arith, added c, loop .inv .1, up-to-more (meaning (args .code)) (args .i) (loop .z))
+
+next-fits : (c : tie.After-times-added Inv-loop μ-loop)
+    → let loop = c .before .before .before .loop in
+    loop .begin + 2 * (getD (c .before .before .before .before .before .args .t2) (loop .z) 0 * c .times-added .result) ≤ 1310400
+next-fits c =
+    let start = c .before .before .before .before .before in
+    let z = c .before .before .before .loop .z in
+    rw (next c) (up-to-bound (meaning (start .args .code)) (start .args .i) (start .pre .0) (start .pre .1) (z + 1) (omega arith))
+
+mul-begin : tie.Need-mul-begin Inv-loop μ-loop
+mul-begin c = omega (arith, D-high _ (c .before .pre .0), c .before .pre .0 .n-high)
+
+mul-begin-2 : tie.Need-mul-begin-2 Inv-loop μ-loop
+mul-begin-2 c = omega (arith, first-fits (c .before))
+
+loop-holds : tie.Need-loop-holds Inv-loop μ-loop
+loop-holds c = (omega arith, sym (up-to-none (meaning (c .before .args .code)) (c .before .args .i)))
+
+cast-begin : tie.Need-cast-begin Inv-loop μ-loop
+cast-begin c = search needs
+
+mul-begin-3 : tie.Need-mul-begin-3 Inv-loop μ-loop
+mul-begin-3 c = search needs
+
+array-read-begin : tie.Need-array-read-begin Inv-loop μ-loop
+array-read-begin c = search needs
+
+times-added-requires : tie.Need-times-added-requires Inv-loop μ-loop
+times-added-requires c κs =
+    let start = c .before .before .before .before in omega (arith, start .pre .0 .k-high)
+
+mul-begin-4 : tie.Need-mul-begin-4 Inv-loop μ-loop
+mul-begin-4 c = omega (arith, next-fits c)
+
+mul-begin-5 : tie.Need-mul-begin-5 Inv-loop μ-loop
+mul-begin-5 c = omega (arith, next-fits c)
+
+add-begin : tie.Need-add-begin Inv-loop μ-loop
+add-begin c = omega (arith, next-fits c)
+
+add-z : tie.Need-add-z Inv-loop μ-loop
+add-z c = search needs
+
+loop-less : tie.Need-loop-less Inv-loop μ-loop
+loop-less c = search needs
+
+loop-again : tie.Need-loop-again Inv-loop μ-loop
+loop-again c = (omega arith, next c)
+
+returns : tie.Need-returns Inv-loop μ-loop
+returns c =
+    let start = c .before .before .before .before in
+    let all : c .before .before .loop .z ≡ start .args .code .k = omega arith in
+    c .before .before .loop .inv .1 ∙ rw all (up-to-all (meaning (start .args .code)) (start .args .i))
+
+pub start-by-spec : {M : Type 1} → statement M
+start-by-spec =
+    tie.close
+    (tie.spec
+    Inv-loop
+    μ-loop
+    mul-begin
+    mul-begin-2
+    loop-holds
+    cast-begin
+    mul-begin-3
+    array-read-begin
+    times-added-requires
+    mul-begin-4
+    mul-begin-5
+    add-begin
+    add-z
+    loop-less
+    loop-again
+    returns)
