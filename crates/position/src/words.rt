@@ -14,6 +14,7 @@ ghost use Rattle.model.specs.Words.{wordBits, word, wordAt, wordBytes};
 ghost use Rattle.code_theory.specs.Promise.{Sound};
 use super::blocks;
 use super::hamming;
+use super::layout;
 use super::places;
 use super::splice;
 use chunk::codeword;
@@ -61,16 +62,14 @@ pub fn word_of(code: DecodedCode, i: u32) -> [u8; 40]
 {
     let n = code.n;
     let d = code.distance;
+    let at = layout::layout_of(code);
     let parity = separator(i, d);
     let c = codeword::codeword(code, i);
-    let at2 = d + n;
-    let at3 = at2 + d;
-    let at4 = at3 + n;
     let separator1 = put_chunk([0u8; 40], 0, d, parity);
-    let chunk1 = put_chunk(separator1, d, n, c);
-    let separator2 = put_chunk(chunk1, at2, d, parity);
-    let chunk2 = put_chunk(separator2, at3, n, c);
-    put_chunk(chunk2, at4, d, parity)
+    let chunk1 = put_chunk(separator1, at.chunk1, n, c);
+    let separator2 = put_chunk(chunk1, at.separator2, d, parity);
+    let chunk2 = put_chunk(separator2, at.chunk2, n, c);
+    put_chunk(chunk2, at.separator3, d, parity)
 }
 
 // The bytes of a received word, and zeros after them.
