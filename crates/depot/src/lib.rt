@@ -24,8 +24,8 @@ pub fn check_card(card: &[u8]) -> CardAnswer
 }
 
 // Writes the word of a position into the lent word. Refused: the card, 1 to 5; a lent word that has not exactly the bytes of a
-// word, 6; a position above the last, 7. Anything else is written. A refused write changes no byte of the lent word. The word that is written differs in
-// just one bit from the word of each neighbouring position, and is the word of no other position.
+// word, 6; a position above the last, 7. Anything else is written. A refused write changes no byte of the lent word. The word that
+// is written differs in just one bit from the word of each neighbouring position, and is the word of no other position.
 pub fn write_word(card: &[u8], position: u32, word: &mut [u8]) -> WriteAnswer
     ensures answer { λ r. ⌜ r ≡ writeAnswer (now (card .entry)) position (now (word .entry)) ⌝ }
     ensures left { λ r. ⌜ now (word .exit) ≡ lentAfterWrite (now (card .entry)) position (now (word .entry)) ⌝ }
@@ -53,8 +53,8 @@ pub fn write_word(card: &[u8], position: u32, word: &mut [u8]) -> WriteAnswer
 // of a word, 6; a spare bit set, 8; separators that name no rule, 9; a chunk that the rule names with no codeword within the
 // radius, 10; two chunks that read differently, 11; a block before the first or after the last, 12.
 // Of the word of any position on the track, with at most t bits turned in each chunk, the answer is a position, and it is at most
-// twice as many steps off as bits are turned, and at most as many as bits are turned and the residual together. Of any word it is
-// the nearest of the positions that the rule allows.
+// twice as many steps off as bits are turned, and at most as many as bits are turned and the residual together. Of any word
+// that is read, it is the nearest of the positions that the rule allows.
 pub fn read_word(card: &[u8], word: &[u8]) -> ReadAnswer
     ensures answer { λ r. ⌜ r ≡ readAnswer (now (card .entry)) (now (word .entry)) ⌝ }
     ensures bounded { λ r. ⌜ OffByAtMostTwiceTurned (now (card .entry)) (now (word .entry)) r ⌝ }
