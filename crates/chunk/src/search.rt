@@ -12,7 +12,7 @@ use model::DecodedCode;
 // The codeword within the radius of the chunk `x`, with the count of places in which the two differ.
 // Document 01 names the form: nested loops, over codewords and, inside, over bits. A label leaves the bit loop once the radius
 // is passed, and the loop over codewords yields its value by `break`. The bits met are those in which codeword and chunk
-// differ: each turn clears the lowest of them.
+// differ: each turn counts one and, unless the radius is passed, clears the lowest of them.
 pub fn read_chunk(code: DecodedCode, x: u64) -> Chunk
     requires { ⌜ Sound (meaning code) × (x < 2 ^ code .n) ⌝ }
     ensures { λ r. ⌜ r ≡ chunkReading (meaning code) (bit x) ⌝ }
