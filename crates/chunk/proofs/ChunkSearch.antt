@@ -72,7 +72,7 @@ module _ (k : ℕ) (row : ℕ → ℕ) (t x : ℕ) where
             ⊎-elim (λ (e : j ≡ i). rw (e, ← at .current) far) (λ (ne : j ≡ i → ⊥). at .passed j (omega arith)) (eq-or-ne j i);
       }
 
-module _ (C : Code) (sound : Sound C) (x : ℕ) (fits : x < 2 ^ C .n) (last word i : ℕ) (at : AtCandidate (C .k) (C .row) (radius C) x last word i) where
+module _ (C : Code) (sound : Sound C) (x : ℕ) (fits : x < 2 ^ C .n) (t : ℕ) (is-radius : t ≡ radius C) (last word i : ℕ) (at : AtCandidate (C .k) (C .row) t x last word i) where
   -- codeword and chunk are numbers of n places, so the ones of their exclusive-or are the places in which they differ
   far-of-ones : (j : ℕ) → chunkDistance C (bit x) j ≡ ones (bitXor (sumOfRows (C .row) (C .k) (gray j)) x)
   unfolding chunkDistance codeword
@@ -85,16 +85,16 @@ module _ (C : Code) (sound : Sound C) (x : ℕ) (fits : x < 2 ^ C .n) (last word
   here = far-of-ones i ∙ ap (λ (w : ℕ). ones (bitXor w x)) (sym (at .current))
 
   before : (j : ℕ) → j < i → radius C < chunkDistance C (bit x) j
-  before j b = rw (far-of-ones j) (at .passed j b)
+  before j b = rw (far-of-ones j, ← is-radius) (at .passed j b)
 
-  pub search-found : (count : ℕ) → count ≡ ones (bitXor word x) → count ≤ radius C → Codeword i count ≡ chunkReading C (bit x)
+  pub search-found : (count : ℕ) → count ≡ ones (bitXor word x) → count ≤ t → Codeword i count ≡ chunkReading C (bit x)
   search-found count e close =
       sym
-      (reading-first C (bit x) i (omega (arith, at .end, at .within)) before (omega (arith, here))
+      (reading-first C (bit x) i (omega (arith, at .end, at .within)) before (omega (arith, here, is-radius))
       ∙ ap (Codeword i) (here ∙ sym e))
 
-  pub search-failed : i ≡ last → radius C < ones (bitXor word x) → Unreadable ≡ chunkReading C (bit x)
+  pub search-failed : i ≡ last → t < ones (bitXor word x) → Unreadable ≡ chunkReading C (bit x)
   search-failed done far =
       sym
       (reading-passed C (bit x)
-      (λ j b. ⊎-elim (λ (e : j ≡ i). rw (e, here) far) (λ (ne : j ≡ i → ⊥). before j (omega (arith, at .end))) (eq-or-ne j i)))
+      (λ j b. ⊎-elim (λ (e : j ≡ i). rw (e, here, ← is-radius) far) (λ (ne : j ≡ i → ⊥). before j (omega (arith, at .end))) (eq-or-ne j i)))

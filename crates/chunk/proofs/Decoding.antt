@@ -10,7 +10,7 @@ use borrow.Author.Tests.{eq-eqb, ne-eqb}
 use lib.Dec.{eqb}
 use lib.ListN.{length, getD}
 use Rattle.bits.proofs.Numbers.{eq-or-ne, or-false-left}
-use Rattle.model.specs.Card.{lengthOf, rowCountOf, rowOf, codeOf, trackOf, storedCheck, computedCheck, withinLimits, misplaced, cardRefusal, dependent}
+use Rattle.model.specs.Card.{lengthOf, rowCountOf, rowOf, codeOf, trackOf, storedCheck, computedCheck, withinLimits, misplaced, cardRefusal, SoundCard, dependent}
 use Rattle.model.specs.Decoded.{meaning}
 use Rattle.model.specs.declared.Decoded.{Decoded}
 use Rattle.code_theory.specs.LeastOfSets.{leastOfSets}
@@ -63,7 +63,7 @@ module _ (b : List ℕ) (limits : withinLimits (lengthOf b) (rowCountOf b) ≡ t
       by-test false e = rw (dependent-if-zero e, is-least (narrow e))
 
 -- the code of a sound card
-pub code-of-least : (b : List ℕ) → cardRefusal b ≡ 0 → (n k distance : ℕ) (rows : List ℕ) → n ≡ lengthOf b → k ≡ rowCountOf b
+pub code-of-least : (b : List ℕ) → SoundCard b → (n k distance : ℕ) (rows : List ℕ) → n ≡ lengthOf b → k ≡ rowCountOf b
     → (λ z. getD rows z 0) ≡ rowOf b → (Narrow (lengthOf b) (rowCountOf b) (rowOf b) → distance ≡ least b)
     → meaning (record { n = n; k = k; distance = distance; rows = rows }) ≡ codeOf b
 unfolding codeOf
@@ -83,7 +83,7 @@ refused-from b r refusal e is ne =
 
 -- a refusal, or 0 with the track and the code
 pub decoded-from : (b : List ℕ) (r : Decoded) → r .refusal ≡ cardRefusal b → r .track ≡ trackOf b
-    → (cardRefusal b ≡ 0 → meaning (r .code) ≡ codeOf b) → DecodedFrom b r
+    → (SoundCard b → meaning (r .code) ≡ codeOf b) → DecodedFrom b r
 decoded-from b r e track code =
     record {
       refusal = e;

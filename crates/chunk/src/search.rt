@@ -2,12 +2,21 @@
 ghost use mathlib.Core.Path.{_≡_};
 ghost use Prim.Native.Nat.{_^_, _<_};
 ghost use Rattle.bits.specs.Places.{bit};
+ghost use Rattle.model.specs.Card.{radius};
 ghost use Rattle.model.specs.Decoded.{meaning};
 ghost use Rattle.model.specs.Reading.{chunkReading};
 ghost use Rattle.code_theory.specs.Promise.{Sound};
 use super::order;
 use model::Chunk;
 use model::DecodedCode;
+
+// t: a chunk that differs from a codeword in at most so many places differs from every other in more.
+pub fn radius_of(code: DecodedCode) -> u32
+    requires { ⌜ Sound (meaning code) ⌝ }
+    ensures { λ r. ⌜ r ≡ radius (meaning code) ⌝ }
+{
+    (code.distance - 1) / 2
+}
 
 // The codeword within the radius of the chunk `x`, with the count of places in which the two differ.
 // Document 01 names the form: nested loops, over codewords and, inside, over bits. A label leaves the bit loop once the radius
@@ -19,7 +28,7 @@ pub fn read_chunk(code: DecodedCode, x: u64) -> Chunk
 {
     let k = code.k;
     let rows = code.rows;
-    let radius = (code.distance - 1) / 2;
+    let radius = radius_of(code);
     let last = order::two_to(k) - 1;
     let mut word: u64 = 0;
     let mut i: u32 = 0;

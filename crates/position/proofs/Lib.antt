@@ -13,7 +13,7 @@ pub mod CopiedWord
 pub mod MixedBytes
 pub mod BlockSearch
 pub mod RuleRanges
-pub mod UnreadableChunk
+pub mod ReadChunks
 pub mod SeparatorRules
 pub mod SpareBits
 pub mod ReadRefusals

@@ -3,21 +3,20 @@
 -- Assumes nothing.
 use mathlib.Core.Path.{_≡_, _∙_}
 use mathlib.Core.List.{List}
-use Prim.Native.Nat.{ℕ, _+_, _-_, _*_, _<_, min}
+use Prim.Native.Nat.{ℕ, _+_, _-_, _<_, min}
 use native.Mathlib.Omega.{arith}
 use Rattle.bits.specs.Sums.{sumBelow, distance}
 use Rattle.bits.specs.Places.{place}
 use Rattle.model.specs.Card.{Code}
-use Rattle.model.specs.Order.{lastCodeword, changedWeight, start, lastPosition}
+use Rattle.model.specs.Order.{lastCodeword, start, lastPosition}
 use Rattle.model.specs.Words.{wordBits, word}
-use Rattle.model.specs.Reading.{fromTo, residual, nearest}
+use Rattle.model.specs.Reading.{range₁, range₂, nearest}
 use Rattle.model.specs.declared.ReadAnswer.the-variants.{At}
 use Rattle.code_theory.specs.Promise.{Sound}
 use Rattle.code_theory.proofs.Promise.{promise}
 use Rattle.position_theory.proofs.Words.{apart, apart-separator₁, apart-chunk₁, apart-separator₂, apart-chunk₂}
 use Rattle.position_theory.proofs.Allowed.{start-on-track}
 use Rattle.position.specs.declared.scan.Scan.{Scan}
-use Rattle.position.specs.Scanned.{Scanned}
 use Rattle.position.specs.SearchReady.{PassedPlaces}
 use Rattle.position.proofs.NearestSearch.{answer-of-search}
 
@@ -31,17 +30,20 @@ module _ (C : Code) (sound : Sound C) (i : ℕ) (inside : i < lastCodeword C) (x
   pub past-separator₁ : PassedPlaces C i x (C .D) s → s .position ≡ start C i + C .D
   past-separator₁ passed = passed .position-is ∙ omega (arith, apart-separator₁ C (promise C sound) i inside)
 
-  pub rule₁-answer : s .low ≡ start C i + distance (C .D + C .n) (word C i) (word C (i + 1)) → PassedPlaces C i x (wordBits C) s
-      → At (s .best) (s .least) 1 ≡ nearest C (place x) (fromTo 1 (start C i + C .D + changedWeight C i) (start C (i + 1)))
-  rule₁-answer low passed =
-      answer-of-search C (place x) 1 _ _ s (passed .scanned) (low ∙ omega (arith, apart-chunk₁ C (promise C sound) i inside)) (at-next-start passed)
+  pub rule₁-answer : (at to : ℕ) → at ≡ C .D + C .n → to ≡ wordBits C → s .low ≡ start C i + distance at (word C i) (word C (i + 1))
+      → PassedPlaces C i x to s → (p : ℕ) → p ≡ i + 1 → At (s .best) (s .least) 1 ≡ nearest C (place x) (range₁ C p)
+  rule₁-answer at to is-separator₂ is-end low passed p next =
+      let block : p - 1 ≡ i = omega arith in
+      rw (block, next)
+      (answer-of-search C (place x) 1 _ _ s (passed .scanned)
+      (rw is-separator₂ at low ∙ omega (arith, apart-chunk₁ C (promise C sound) i inside)) (at-next-start (rw is-end at passed)))
 
-  pub rule₂-answer : s .low ≡ start C i + distance 0 (word C i) (word C (i + 1)) → PassedPlaces C i x (C .D + C .n + C .D) s
-      → At (s .best) (s .least) 2 ≡ nearest C (place x) (fromTo 2 (start C i) (start C i + 2 * C .D + changedWeight C i))
+  pub rule₂-answer : (to : ℕ) → to ≡ C .D + C .n + C .D → s .low ≡ start C i + distance 0 (word C i) (word C (i + 1))
+      → PassedPlaces C i x to s → At (s .best) (s .least) 2 ≡ nearest C (place x) (range₂ C i)
   unfolding distance sumBelow
-  rule₂-answer low passed =
+  rule₂-answer to is-chunk₂ low passed =
       answer-of-search C (place x) 2 _ _ s (passed .scanned) (low ∙ omega arith)
-      (passed .position-is ∙ omega (arith, apart-separator₂ C (promise C sound) i inside))
+      (rw is-chunk₂ at (passed .position-is) ∙ omega (arith, apart-separator₂ C (promise C sound) i inside))
 
   -- one that begins at separator 3 begins D steps before the next start
   pub before-next-start : s .low ≡ start C i + distance (C .D + C .n + C .D + C .n) (word C i) (word C (i + 1))
@@ -49,12 +51,7 @@ module _ (C : Code) (sound : Sound C) (i : ℕ) (inside : i < lastCodeword C) (x
   before-next-start low =
       low ∙ omega (arith, apart-chunk₂ C (promise C sound) i inside, promise C sound .start-next i inside)
 
--- rule 3 around a start: at the last one the track ends there, and at any other it goes on for D steps at least
-pub rule₃-answer : (C : Code) → Sound C → (p : ℕ) (x : List ℕ) (s : Scan) → Scanned (residual C (place x)) s → s .low ≡ start C p - C .D
-    → s .position ≡ min (start C p + C .D) (lastPosition C)
-    → At (s .best) (s .least) 3 ≡ nearest C (place x) (fromTo 3 (start C p - C .D) (min (start C p + C .D) (lastPosition C)))
-rule₃-answer C sound p x s scanned low high = answer-of-search C (place x) 3 _ _ s scanned low high
-
+-- the upper end of rule 3's range: at the last start the track ends there, and at any other it goes on for D steps at least
 pub track-ends : (C : Code) (p : ℕ) → p ≡ lastCodeword C → start C p ≡ min (start C p + C .D) (lastPosition C)
 unfolding lastPosition
 track-ends C p e = rw e (omega arith)

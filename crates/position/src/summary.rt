@@ -8,6 +8,7 @@ ghost use Rattle.code_theory.specs.Promise.{Sound};
 ghost use Rattle.chunk.specs.DecodedFrom.{DecodedFrom};
 use super::blocks;
 use super::layout;
+use chunk::search;
 use model::CardAnswer;
 use model::CardSummary;
 use model::Decoded;
@@ -27,7 +28,7 @@ pub fn card_answer(decoded: Decoded) -> CardAnswer
         k: code.k,
         track: decoded.track,
         distance: code.distance,
-        radius: (code.distance - 1) / 2,
+        radius: search::radius_of(code),
         bits: layout::layout_of(code).bits,
         last: blocks::last_position(code),
     })

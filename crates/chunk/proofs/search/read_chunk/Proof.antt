@@ -10,9 +10,7 @@ use lib.Bits.{bitXor, and-le-r}
 use lib.Count.{ones, trailingZeros}
 use lib.ListN.{getD}
 use lib.Pow.{pow-pos}
-use Rattle.model.specs.Card.{radius}
 use Rattle.model.specs.Decoded.{meaning}
-use Rattle.code_theory.proofs.LeastDistance.{D-low}
 use Rattle.chunk.proofs.GrayStep.{row-of-twelve}
 use Rattle.chunk.proofs.ChunkSearch.{AtCandidate, Counted, one-counted, counted-all, counted-past, search-starts, search-goes-on, search-found, search-failed}
 use Rattle.chunk.proofs.search.read_chunk.Statement.{statement}
@@ -30,8 +28,8 @@ Inv-loop x k rows radius last word₀ i₀ word i = AtCandidate k (λ z. getD ro
 abbrev μ-loop : tie.MeasureT-loop
 μ-loop x k rows radius last word₀ i₀ word i = last - i
 
-sub-radius : tie.Need-sub-radius Inv-bits μ-bits Inv-loop μ-loop
-sub-radius c = omega (arith, D-low (meaning (c .before .before .args .code)) (c .before .before .pre .0))
+radius-of-requires : tie.Need-radius-of-requires Inv-bits μ-bits Inv-loop μ-loop
+radius-of-requires c κs = search needs
 
 two-to-requires : tie.Need-two-to-requires Inv-bits μ-bits Inv-loop μ-loop
 two-to-requires c κs = search needs
@@ -59,17 +57,19 @@ bits-again c = (omega arith, one-counted _ _ _ (c .before .before .bits .inv .1)
 
 -- the two ways out of the loop over bits
 counted : (c : tie.Left-bits Inv-bits μ-bits Inv-loop μ-loop)
-    → Counted (radius (meaning (c .before .before .before .before .before .before .args .code))) (bitXor (c .before .before .loop .word) (c .before .before .before .before .before .before .args .x)) (c .bits-test .unlike)
+    → let at = c .before .before in
+    Counted (at .before .before .radius-of .result) (bitXor (at .loop .word) (at .before .before .before .before .args .x)) (c .bits-test .unlike)
 counted c =
-    ⊎-elim (λ w. rw (w .1) (counted-all _ _ _ _ (c .before .bits .inv .1) (w .0 .left)))
-    (λ w. rw (w .2) (counted-past _ _ _ _ (c .before .bits .inv .1) (w .0 .taken) (w .1 .taken)))
+    let all = c .before .bits .inv .1 in
+    ⊎-elim (λ w. rw (w .1) (counted-all _ _ _ _ all (w .0 .left))) (λ w. rw (w .2) (counted-past _ _ _ _ all (w .0 .taken) (w .1 .taken)))
     (c .bits-test .came)
 
 -- the number of the row that is added
 row : (c : tie.Else3 Inv-bits μ-bits Inv-loop μ-loop) → trailingZeros 32 (c .before .before .before .before .loop .i + 1) < 12
 row c =
-    row-of-twelve (c .before .before .before .before .before .before .before .before .args .code .k) (c .before .before .before .before .loop .i) (c .before .before .before .before .before .before .before .before .pre .0 .k-high)
-    (omega (arith, c .before .before .before .before .loop .inv .end, c .before .before .before .before .loop .inv .within))
+    let at = c .before .before .before .before in
+    let first = at .before .before .before .before in
+    row-of-twelve (first .args .code .k) (at .loop .i) (first .pre .0 .k-high) (omega (arith, at .loop .inv .end, at .loop .inv .within))
 
 add-i : tie.Need-add-i Inv-bits μ-bits Inv-loop μ-loop
 add-i c = search needs
@@ -88,17 +88,23 @@ loop-less c = search needs
 
 loop-again : tie.Need-loop-again Inv-bits μ-bits Inv-loop μ-loop
 loop-again c =
-    search-goes-on _ _ _ _ (c .before .before .before .before .before .before .before .before .pre .0 .k-high) _ _ _ (c .before .before .before .before .loop .inv) (c .if3 .left)
-    (counted (c .before .before) .past (c .before .if2 .left))
+    let at = c .before .before .before .before in
+    let first = at .before .before .before .before in
+    search-goes-on _ _ _ _ (first .pre .0 .k-high) _ _ _ (at .loop .inv) (c .if3 .left) (counted (c .before .before) .past (c .before .if2 .left))
 
 returns : tie.Need-returns Inv-bits μ-bits Inv-loop μ-loop
 returns c =
-    search-found (meaning (c .before .before .before .before .before .before .before .args .code)) (c .before .before .before .before .before .before .before .pre .0) _ (c .before .before .before .before .before .before .before .pre .1) _ _ _ (c .before .before .before .loop .inv) _ (counted (c .before) .whole (c .if2 .taken)) (c .if2 .taken)
+    let at = c .before .before .before in
+    let first = at .before .before .before .before in
+    search-found (meaning (first .args .code)) (first .pre .0) _ (first .pre .1) _ (at .before .before .radius-of .ensures) _ _ _ (at .loop .inv)
+    _ (counted (c .before) .whole (c .if2 .taken)) (c .if2 .taken)
 
 returns-2 : tie.Need-returns-2 Inv-bits μ-bits Inv-loop μ-loop
 returns-2 c =
-    search-failed (meaning (c .before .before .before .before .before .before .before .before .args .code)) (c .before .before .before .before .before .before .before .before .pre .0) _ (c .before .before .before .before .before .before .before .before .pre .1) _ _ _ (c .before .before .before .before .loop .inv) (c .if3 .taken)
-    (counted (c .before .before) .past (c .before .if2 .left))
+    let at = c .before .before .before .before in
+    let first = at .before .before .before .before in
+    search-failed (meaning (first .args .code)) (first .pre .0) _ (first .pre .1) _ (at .before .before .radius-of .ensures) _ _ _ (at .loop .inv)
+    (c .if3 .taken) (counted (c .before .before) .past (c .before .if2 .left))
 
 pub read-chunk-spec : {M : Type 1} → statement M
 read-chunk-spec =
@@ -108,7 +114,7 @@ read-chunk-spec =
     μ-bits
     Inv-loop
     μ-loop
-    sub-radius
+    radius-of-requires
     two-to-requires
     sub-last
     loop-holds

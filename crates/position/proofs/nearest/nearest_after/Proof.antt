@@ -22,7 +22,7 @@ returns c =
     let search = c .before .search-block .ensures in
     c .found .ensures
     ∙ rule₂-answer (meaning (first .args .code)) (first .pre .0) (first .args .p) (first .pre .2) _ (c .before .search-block .result)
-    (search .0) (rw (at .chunk₂-at) at (search .1))
+    _ (at .chunk₂-at) (search .0) (search .1)
 
 pub nearest-after-spec : {M : Type 1} → statement M
 nearest-after-spec =

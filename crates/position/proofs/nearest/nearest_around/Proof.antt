@@ -2,7 +2,8 @@
 -- Assumes nothing.
 use mathlib.Core.Path.{_∙_}
 use Rattle.model.specs.Decoded.{meaning}
-use Rattle.position.proofs.RuleRanges.{rule₃-answer, track-ends, track-goes-on}
+use Rattle.position.proofs.NearestSearch.{answer-of-search}
+use Rattle.position.proofs.RuleRanges.{track-ends, track-goes-on}
 use native.Mathlib.Omega.{arith}
 use borrow.Author.Needs.{needs}
 use Rattle.position.proofs.nearest.nearest_around.Statement.{statement}
@@ -23,7 +24,7 @@ returns c =
     let C = meaning (first .args .code) in
     let search = c .before .before .before .approach .ensures in
     c .found .ensures
-    ∙ rule₃-answer C (first .pre .0) (first .args .p) _ _ (search .2) (search .0)
+    ∙ answer-of-search C _ 3 _ _ _ (search .2) (search .0)
     (search .1 ∙ track-ends C (first .args .p) (c .before .if1 .taken ∙ c .before .before .last-codeword .ensures))
 
 go-on-requires : tie.Need-go-on-requires
@@ -39,7 +40,7 @@ returns-2 c =
     let before = c .before .before .before .before .approach .ensures in
     let search = c .before .go-on .ensures in
     c .found2 .ensures
-    ∙ rule₃-answer C (first .pre .0) (first .args .p) _ _ (search .2) (search .0 ∙ before .0)
+    ∙ answer-of-search C _ 3 _ _ _ (search .2) (search .0 ∙ before .0)
     (search .1 ∙ track-goes-on C (first .pre .0) (first .args .p) (omega (arith, first .pre .2, c .before .before .if1 .left, c .before .before .before .last-codeword .ensures)))
 
 pub nearest-around-spec : {M : Type 1} → statement M

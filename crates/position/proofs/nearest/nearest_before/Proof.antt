@@ -1,6 +1,6 @@
 -- `position::nearest::nearest_before` meets its contract: block p - 1 from separator 2 to its end. Assumes nothing.
-use mathlib.Core.Path.{_≡_, _∙_}
-use Prim.Native.Nat.{_+_, _-_}
+use mathlib.Core.Path.{_∙_}
+use Prim.Native.Nat.{_-_}
 use Rattle.model.specs.Decoded.{meaning}
 use Rattle.position.proofs.RuleRanges.{rule₁-answer}
 use native.Mathlib.Omega.{arith}
@@ -23,14 +23,11 @@ found-requires c κs = search needs
 returns : tie.Need-returns
 returns c =
     let first = c .before .before .before in
-    let C = meaning (first .args .code) in
     let at = c .before .before .layout-of .ensures in
     let search = c .before .search-block .ensures in
-    let here : first .args .p ≡ first .args .p - 1 + 1 = omega (arith, first .pre .2) in
     c .found .ensures
-    ∙ rule₁-answer C (first .pre .0) (first .args .p - 1) (omega (arith, first .pre .2, first .pre .3)) _ (c .before .search-block .result)
-    (rw (at .separator₂-at) at (search .0)) (rw (at .bits-are) at (search .1))
-    ∙ rw (← here)
+    ∙ rule₁-answer (meaning (first .args .code)) (first .pre .0) (first .args .p - 1) (omega (arith, first .pre .2, first .pre .3)) _ _
+    _ _ (at .separator₂-at) (at .bits-are) (search .0) (search .1) (first .args .p) (omega (arith, first .pre .2))
 
 pub nearest-before-spec : {M : Type 1} → statement M
 nearest-before-spec =

@@ -1,24 +1,47 @@
--- `position::reading::by_rule3` meets its contract, case by case of what the two chunks read as. Assumes nothing.
+-- `position::reading::by_rule3` meets its contract: each way out is a case of `rule₃`, by what the two chunks read as. Where both
+-- read as one codeword, its number is within the code, by the chunk promise, so there is a start to search around.
+-- Assumes nothing.
 use mathlib.Core.Path.{_≡_, _∙_, sym}
 use borrow.Author.Tests.{eq-eqb, ne-eqb}
 use Rattle.bits.specs.Places.{place}
 use Rattle.model.specs.Decoded.{meaning}
 use Rattle.model.specs.Reading.{chunkReading, chunk₁, chunk₂, rule₃, nearest}
+use Rattle.model.specs.declared.Chunk.the-variants.{Codeword}
 use Rattle.code_theory.proofs.Promise.{promise}
-use Rattle.position.proofs.UnreadableChunk.{unreadable-first}
 use borrow.Author.Needs.{needs}
+use Rattle.position.proofs.ReadChunks.{read-from, unreadable-first}
 use Rattle.position.proofs.reading.by_rule3.Statement.{statement}
 use Rattle.position.proofs.reading.by_rule3.Tie as tie
 
--- what the two chunks read as
+-- what chunk 1 reads as, and where it is a codeword: its number and in how many places the two differ
 chunk-read₁ : (c : tie.After-chunk-reading)
-    → c .chunk-reading .result ≡ chunkReading (meaning (c .before .before .args .code)) (chunk₁ (meaning (c .before .before .args .code)) (place (c .before .before .args .x)))
-chunk-read₁ c = rw (c .before .layout-of .ensures .chunk₁-at) at (c .chunk-reading .ensures)
+    → let start = c .before .before in
+    let C = meaning (start .args .code) in
+    c .chunk-reading .result ≡ chunkReading C (chunk₁ C (place (start .args .x)))
+chunk-read₁ c = c .chunk-reading .ensures ∙ read-from _ (place (c .before .before .args .x)) _ _ (c .before .layout-of .ensures .chunk₁-at)
 
+codeword-read₁ : (c : tie.After-first)
+    → let start = c .before .before .before .before in
+    let C = meaning (start .args .code) in
+    let read = c .first .given .0 in
+    chunkReading C (chunk₁ C (place (start .args .x))) ≡ Codeword (read .0) (read .1 .0)
+codeword-read₁ c = sym (chunk-read₁ (c .before .before)) ∙ c .first .given .1
+
+-- the same of chunk 2
 chunk-read₂ : (c : tie.After-chunk-reading2)
-    → let first = c .before .before .before .before .before .before in
-    c .chunk-reading2 .result ≡ chunkReading (meaning (first .args .code)) (chunk₂ (meaning (first .args .code)) (place (first .args .x)))
-chunk-read₂ c = rw (c .before .before .before .before .before .layout-of .ensures .chunk₂-at) at (c .chunk-reading2 .ensures)
+    → let start = c .before .before .before .before .before .before in
+    let C = meaning (start .args .code) in
+    c .chunk-reading2 .result ≡ chunkReading C (chunk₂ C (place (start .args .x)))
+chunk-read₂ c =
+    let at-layout = c .before .before .before .before .before in
+    c .chunk-reading2 .ensures ∙ read-from _ (place (at-layout .before .args .x)) _ _ (at-layout .layout-of .ensures .chunk₂-at)
+
+codeword-read₂ : (c : tie.After-second)
+    → let start = c .before .before .before .before .before .before .before .before in
+    let C = meaning (start .args .code) in
+    let read = c .second .given .0 in
+    chunkReading C (chunk₂ C (place (start .args .x))) ≡ Codeword (read .0) (read .1 .0)
+codeword-read₂ c = sym (chunk-read₂ (c .before .before)) ∙ c .second .given .1
 
 layout-of-requires : tie.Need-layout-of-requires
 layout-of-requires c κs = search needs
@@ -33,9 +56,7 @@ enum-told : tie.Need-enum-told
 enum-told c = search needs
 
 returns : tie.Need-returns
-returns c =
-    let there = c .before .before in
-    rw (sym (chunk-read₁ there) ∙ c .enum-told .given .1) (unreadable-first _ _ _)
+returns c = rw (sym (chunk-read₁ (c .before .before)) ∙ c .enum-told .given .1) (unreadable-first _ _ _)
 
 chunk-reading-requires-2 : tie.Need-chunk-reading-requires-2
 chunk-reading-requires-2 c κs = search needs
@@ -49,37 +70,29 @@ enum-told-2 c = search needs
 returns-2 : tie.Need-returns-2
 unfolding nearest rule₃
 returns-2 c =
-    let second = c .before .before in
-    let told = second .before in
-    let there = told .before .before .before in
-    rw (sym (chunk-read₁ there) ∙ told .before .first .given .1, sym (chunk-read₂ second) ∙ c .enum-told2 .given .1)
+    let read₂ = c .before .before in
+    rw (codeword-read₁ (read₂ .before .before), sym (chunk-read₂ read₂) ∙ c .enum-told2 .given .1)
 
 returns-3 : tie.Need-returns-3
 unfolding nearest rule₃
 returns-3 c =
-    let second = c .before .before .before .before in
-    let told = second .before in
-    let there = told .before .before .before in
-    rw (sym (chunk-read₁ there) ∙ told .before .first .given .1, sym (chunk-read₂ second) ∙ c .before .before .second .given .1, ne-eqb _ _ (c .if1 .taken))
+    let known₂ = c .before .before in
+    let known₁ = known₂ .before .before .before .before in
+    rw (codeword-read₁ known₁, codeword-read₂ known₂, ne-eqb _ _ (c .if1 .taken))
 
 nearest-around-requires : tie.Need-nearest-around-requires
 nearest-around-requires c κs =
-    let told = c .before .before .before .before .before in
-    let there = told .before .before .before in
-    let first = there .before .before in (
-      first .pre .0,
-      first .pre .1,
-      promise (meaning (first .args .code)) (first .pre .0) .chunks .within _ _ _ (sym (chunk-read₁ there) ∙ told .before .first .given .1) .0,
-    )
+    let known₁ = c .before .before .before .before .before .before in
+    let start = known₁ .before .before .before .before in
+    let bound = promise (meaning (start .args .code)) (start .pre .0) .chunks .within _ _ _ (codeword-read₁ known₁) .0 in
+    (start .pre .0, start .pre .1, bound)
 
 returns-4 : tie.Need-returns-4
 unfolding nearest rule₃
 returns-4 c =
-    let second = c .before .before .before .before .before in
-    let told = second .before in
-    let there = told .before .before .before in
-    rw (sym (chunk-read₁ there) ∙ told .before .first .given .1, sym (chunk-read₂ second) ∙ c .before .before .before .second .given .1, eq-eqb _ _ (c .before .if1 .left))
-    (c .nearest-around .ensures)
+    let known₂ = c .before .before .before in
+    let known₁ = known₂ .before .before .before .before in
+    rw (codeword-read₁ known₁, codeword-read₂ known₂, eq-eqb _ _ (c .before .if1 .left)) (c .nearest-around .ensures)
 
 pub by-rule3-spec : {M : Type 1} → statement M
 by-rule3-spec =

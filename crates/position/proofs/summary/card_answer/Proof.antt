@@ -1,7 +1,6 @@
 -- `position::summary::card_answer` meets its contract: one law for each way out. Assumes nothing.
 use Rattle.model.specs.Decoded.{meaning}
 use Rattle.code_theory.specs.Promise.{Sound}
-use Rattle.code_theory.proofs.LeastDistance.{D-low}
 use Rattle.position.proofs.DecodedCard.{card-refused, card-sound}
 use Rattle.position.proofs.summary.card_answer.Statement.{statement}
 use Rattle.position.proofs.summary.card_answer.Tie as tie
@@ -12,8 +11,8 @@ sound c = c .before .before .pre (c .if1 .left)
 returns : tie.Need-returns
 returns c card from = card-refused card _ from (c .if1 .taken)
 
-sub-t4 : tie.Need-sub-t4
-sub-t4 c = D-low _ (sound (c .before .before))
+radius-of-requires : tie.Need-radius-of-requires
+radius-of-requires c κs = sound (c .before)
 
 layout-of-requires : tie.Need-layout-of-requires
 layout-of-requires c κs = sound (c .before .before)
@@ -24,8 +23,8 @@ last-position-requires c κs = sound (c .before .before .before)
 returns-2 : tie.Need-returns-2
 returns-2 c card from =
     let decoded = c .before .before .before .before in
-    card-sound card _ from (decoded .if1 .left) _ _ (c .before .layout-of .ensures .bits-are) (c .last-position .ensures)
+    card-sound card _ from (decoded .if1 .left) _ _ _ (c .before .before .radius-of .ensures) (c .before .layout-of .ensures .bits-are) (c .last-position .ensures)
 
 pub card-answer-spec : {M : Type 1} → statement M
 card-answer-spec =
-    tie.close (tie.spec returns sub-t4 layout-of-requires last-position-requires returns-2)
+    tie.close (tie.spec returns radius-of-requires layout-of-requires last-position-requires returns-2)

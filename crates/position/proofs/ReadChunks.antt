@@ -1,11 +1,16 @@
--- Where chunk 1 is unreadable, rule 3 refuses the word by 10, whatever chunk 2 reads as. Assumes nothing.
+-- What the rules need of the readings of chunks: it matters only where a chunk begins, and where chunk 1 is unreadable, rule 3
+-- refuses the word by 10, whatever chunk 2 reads as. Assumes nothing.
 use mathlib.Core.Path.{_≡_, refl}
 use Prim.Native.Nat.{ℕ}
+use Rattle.bits.specs.Sums.{from}
 use Rattle.model.specs.Card.{Code}
-use Rattle.model.specs.Reading.{rule₃, nearest}
+use Rattle.model.specs.Reading.{chunkReading, rule₃, nearest}
 use Rattle.model.specs.declared.Chunk.{Chunk}
 use Rattle.model.specs.declared.Chunk.the-variants.{Codeword, Unreadable}
 use Rattle.model.specs.declared.ReadAnswer.the-variants.{Refused}
+
+pub read-from : (C : Code) (x : ℕ → ℕ) (at place : ℕ) → at ≡ place → chunkReading C (from at x) ≡ chunkReading C (from place x)
+read-from C x at place e = rw e
 
 pub unreadable-first : (C : Code) (x : ℕ → ℕ) (second : Chunk) → Refused 10 ≡ nearest C x (rule₃ C Unreadable second)
 unfolding nearest rule₃
