@@ -18,12 +18,12 @@ use Rattle.bits.proofs.Binary.{bit-ext-below}
 
 -- ---- lists by index
 
-pub length-listOf : (m : ℕ) (f : ℕ → ℕ) → length (listOf m f) ≡ m
+length-listOf : (m : ℕ) (f : ℕ → ℕ) → length (listOf m f) ≡ m
 unfolding listOf
 length-listOf zero f = refl
 length-listOf (suc m) f = rw (length-append, length-listOf m f) (omega arith)
 
-pub getD-listOf : (m : ℕ) (f : ℕ → ℕ) (i : ℕ) → i < m → getD (listOf m f) i 0 ≡ f i
+getD-listOf : (m : ℕ) (f : ℕ → ℕ) (i : ℕ) → i < m → getD (listOf m f) i 0 ≡ f i
 unfolding listOf
 getD-listOf zero f i h = absurd (omega arith)
 getD-listOf (suc m) f i h =
@@ -76,7 +76,7 @@ pub cut-above : (d : ℕ) (u : ℕ → ℕ) (p : ℕ) → d ≤ p → cut d u p 
 unfolding cut
 cut-above d u p h = rw (le-ltb p d h)
 
-pub cut-bit : (d : ℕ) (u : ℕ → ℕ) → ((p : ℕ) → u p < 2) → (p : ℕ) → cut d u p < 2
+cut-bit : (d : ℕ) (u : ℕ → ℕ) → ((p : ℕ) → u p < 2) → (p : ℕ) → cut d u p < 2
 cut-bit d u bits p =
     ⊎-elim (λ h. rw (cut-below d u p h) (bits p)) (λ h. rw (cut-above d u p h) (omega arith)) (lt-or-le p d)
 

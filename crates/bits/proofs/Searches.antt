@@ -73,7 +73,7 @@ from-before f from (suc m) j h =
     (true-or-false (f from))
 
 module _ (f : ℕ → Bool) (m : ℕ) where
-  pub first-le : first f m ≤ m
+  first-le : first f m ≤ m
   unfolding first
   first-le = omega (arith, from-high f 0 m)
 
@@ -81,7 +81,7 @@ module _ (f : ℕ → Bool) (m : ℕ) where
   unfolding first
   first-holds l = from-holds f 0 m (omega arith)
 
-  pub first-before : (j : ℕ) → j < first f m → f j ≡ false
+  first-before : (j : ℕ) → j < first f m → f j ≡ false
   unfolding first
   first-before j l = from-before f 0 m j zero-le l
 

@@ -14,7 +14,7 @@ use Rattle.bits.proofs.Distance.{distance-suc, distance-longer, distanc
 
 module _ {u v : ℕ → ℕ} (hu : (p : ℕ) → u p < 2) (hv : (p : ℕ) → v p < 2) where
   -- at a place with fewer than m differing places before it, the walk is v
-  pub walk-passed : (m p : ℕ) → distance p u v < m → walk u v m p ≡ v p
+  walk-passed : (m p : ℕ) → distance p u v < m → walk u v m p ≡ v p
   unfolding walk
   walk-passed m p h = rw (lt-ltb (distance p u v) m h) (by-test (eqb (unlike (u p) (v p)) 1) refl)
     where
@@ -23,7 +23,7 @@ module _ {u v : ℕ → ℕ} (hu : (p : ℕ) → u p < 2) (hv : (p : ℕ) → v 
       by-test false e = omega (arith, hu p, hv p, eqb-false (unlike (u p) (v p)) 1 e)
 
   -- at one with m differing places or more before it, it is u
-  pub walk-ahead : (m p : ℕ) → m ≤ distance p u v → walk u v m p ≡ u p
+  walk-ahead : (m p : ℕ) → m ≤ distance p u v → walk u v m p ≡ u p
   unfolding walk
   walk-ahead m p h = rw (le-ltb (distance p u v) m h) (by-test (eqb (unlike (u p) (v p)) 1))
     where

@@ -28,11 +28,11 @@ module _ (C : Code) (x : ℕ → ℕ) where
   found = first near (2 ^ C .k)
 
   -- what a chunk reads as, by whether a near codeword was found
-  pub reading-found : found < 2 ^ C .k → chunkReading C x ≡ Codeword found (chunkDistance C x found)
+  reading-found : found < 2 ^ C .k → chunkReading C x ≡ Codeword found (chunkDistance C x found)
   unfolding chunkReading
   reading-found l = rw (lt-ltb found (2 ^ C .k) l)
 
-  pub reading-none : 2 ^ C .k ≤ found → chunkReading C x ≡ Unreadable
+  reading-none : 2 ^ C .k ≤ found → chunkReading C x ≡ Unreadable
   unfolding chunkReading
   reading-none l = rw (le-ltb found (2 ^ C .k) l)
 

@@ -26,7 +26,7 @@ use Rattle.code_theory.proofs.Gray.{gray-zero, gray-changed, gray-kept,
 xor-exchange : (a b c d : ℕ) → bitXor (bitXor a b) (bitXor c d) ≡ bitXor (bitXor a c) (bitXor b d)
 xor-exchange a b c d = bit-ext _ _ (λ p. simp (bit-xor, mod-add-mod, add-mod-mod) (omega arith))
 
-pub xor-undone : (a b : ℕ) → bitXor a (bitXor a b) ≡ b
+xor-undone : (a b : ℕ) → bitXor a (bitXor a b) ≡ b
 xor-undone a b = sym (xor-assoc a a b) ∙ ap (λ (x : ℕ). bitXor x b) (xor-self a)
 
 -- a row is taken where two bits differ: once for either bit, modulo 2
@@ -56,7 +56,7 @@ rows-of-none row zero g h = refl
 rows-of-none row (suc k) g h =
     rw (rows-of-none row k g (λ z l. h z (omega arith)), h k (omega arith), zero-mul)
 
-pub rows-of-one : (row : ℕ → ℕ) (k z : ℕ) → z < k → sumOfRows row k (2 ^ z) ≡ row z
+rows-of-one : (row : ℕ → ℕ) (k z : ℕ) → z < k → sumOfRows row k (2 ^ z) ≡ row z
 unfolding sumOfRows
 rows-of-one row zero z l = omega arith
 rows-of-one row (suc k) z l =

@@ -53,7 +53,7 @@ above-lowest-one = trailing-zeros-ind (λ z i. (p : ℕ) → z < p → unlike (b
 
 -- ---- one bit a step
 
-pub bit-gray : (i p : ℕ) → bit (gray i) p ≡ unlike (bit i p) (bit i (suc p))
+bit-gray : (i p : ℕ) → bit (gray i) p ≡ unlike (bit i p) (bit i (suc p))
 unfolding gray
 bit-gray i p = bit-xor i (i / 2) p ∙ ap (λ (b : ℕ). unlike (bit i p) b) (sym (bit-suc i p))
 

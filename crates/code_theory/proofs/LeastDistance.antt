@@ -51,7 +51,7 @@ module _ (C : Code) (S : Sound C) where
   rows-heavy g pos l = rw (S .least) (least-le (C .n) rows (2 ^ C .k) g l (S .independent g pos l))
 
   -- every nonzero codeword has weight D at least ...
-  pub codeword-heavy : (i : ℕ) → 0 < i → i ≤ lastCodeword C → C .D ≤ weight (C .n) (codeword C i)
+  codeword-heavy : (i : ℕ) → 0 < i → i ≤ lastCodeword C → C .D ≤ weight (C .n) (codeword C i)
   unfolding codeword
   codeword-heavy i pos l = rows-heavy (gray i) (gray-positive i pos) (gray-below (C .k) i (below i l))
 
@@ -59,7 +59,7 @@ module _ (C : Code) (S : Sound C) where
   abbrev Lightest : Type 0
   Lightest = (i : ℕ) × (0 < i) × (i ≤ lastCodeword C) × (weight (C .n) (codeword C i) ≡ C .D)
 
-  pub codeword-lightest : Lightest
+  codeword-lightest : Lightest
   unfolding codeword lastCodeword
   codeword-lightest = by-least (least-some (C .n) rows (2 ^ C .k))
     where
@@ -89,7 +89,7 @@ module _ (C : Code) (S : Sound C) where
       ∙ ap (weight (C .n)) (sym (rows-linear (C .row) (C .k) (gray i) (gray j)))
 
   -- so codewords of different numbers differ in at least D places
-  pub codewords-apart : (i j : ℕ) → i ≤ lastCodeword C → j ≤ lastCodeword C → (i ≡ j → ⊥) → C .D ≤ codewordDistance C i j
+  codewords-apart : (i j : ℕ) → i ≤ lastCodeword C → j ≤ lastCodeword C → (i ≡ j → ⊥) → C .D ≤ codewordDistance C i j
   codewords-apart i j li lj ne =
       let g : ℕ = bitXor (gray i) (gray j) in
       rw (distance-of-codewords i j)

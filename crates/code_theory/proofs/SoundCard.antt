@@ -66,7 +66,7 @@ pub narrow-of-test : (n : ℕ) (row : ℕ → ℕ) → rowTooWide n row ≡ fals
 unfolding rowTooWide
 narrow-of-test n row e z l = leb-false (2 ^ n) (row z) (none-of-any (λ y. leb (2 ^ n) (row y)) 12 e z l)
 
-pub unused-of-test : (k : ℕ) (row : ℕ → ℕ) → unusedRowSet k row ≡ false → (z : ℕ) → k ≤ z → z < 12 → row z ≡ 0
+unused-of-test : (k : ℕ) (row : ℕ → ℕ) → unusedRowSet k row ≡ false → (z : ℕ) → k ≤ z → z < 12 → row z ≡ 0
 unfolding unusedRowSet
 unused-of-test k row e z h l =
     let test : (leb k z && not (eqb (row z) 0)) ≡ false =

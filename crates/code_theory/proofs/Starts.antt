@@ -79,7 +79,7 @@ start-next C i within =
 -- ---- bounds
 
 module _ (C : Code) (S : Sound C) where
-  pub block-length-bound : (i : ℕ) → blockLength C i ≤ 320
+  block-length-bound : (i : ℕ) → blockLength C i ≤ 320
   unfolding changedWeight
   block-length-bound i = omega (arith, D-high C S, S .n-high, weight-le (C .n) (C .row (changedRow C i)))
 

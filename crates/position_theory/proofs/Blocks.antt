@@ -44,7 +44,7 @@ module _ (C : Code) (promise : ChunkPromise C) where
       greatest-is (λ j. leb (start C j) position) (lastCodeword C) i h (λ _. le-leb _ _ low) (λ j l b. lt-leb _ _ (high j l b))
 
   -- the positions of block i
-  pub block-inside : (i m : ℕ) → i < lastCodeword C → m < blockLength C i → blockOf C (start C i + m) ≡ i
+  block-inside : (i m : ℕ) → i < lastCodeword C → m < blockLength C i → blockOf C (start C i + m) ≡ i
   block-inside i m inside h =
       block-is i _ (omega arith) (omega arith) (λ j l b. omega (arith, starts-rise i j l b))
 

@@ -49,7 +49,7 @@ module _ (C : Code) where
       }
 
   -- the bits turned in all are the residual of the true position
-  pub turned-is-residual : (position : ℕ) (received : List ℕ) → turned C position received ≡ residual C (place received) position
+  turned-is-residual : (position : ℕ) (received : List ℕ) → turned C position received ≡ residual C (place received) position
   unfolding turned turnedInAll residual
   turned-is-residual position received =
       sym (five-distance C (place (wordBytes C position)) (place received))

@@ -19,7 +19,7 @@ within w i m h = rw suc-mul at (mul-le-mul-right w h)
 
 module _ (w m : ℕ) (first second : List ℕ) (whole : length first ≡ m * w) where
   -- a word of the first piece
-  pub part-of-first : (i : ℕ) → i < m → wordPart w (first ++ second) i ≡ wordPart w first i
+  part-of-first : (i : ℕ) → i < m → wordPart w (first ++ second) i ≡ wordPart w first i
   part-of-first i h =
       let room : i * w + w ≤ length first = rw whole (within w i m h) in
       let start : i * w ≤ length first = omega arith in
@@ -27,7 +27,7 @@ module _ (w m : ℕ) (first second : List ℕ) (whole : length first ≡ m * w) 
       rw (drop-append-le (i * w) first second start) (take-append-le w (drop (i * w) first) second end)
 
   -- a word of the second piece
-  pub part-of-second : (i : ℕ) → wordPart w (first ++ second) (m + i) ≡ wordPart w second i
+  part-of-second : (i : ℕ) → wordPart w (first ++ second) (m + i) ≡ wordPart w second i
   part-of-second i = rw (add-mul, ← whole, drop-append-add)
 
 module _ (C : Code) (m : ℕ) (first second : List ℕ) (whole : length first ≡ m * wordLength C) where

@@ -25,7 +25,7 @@ pub record Streamed (C : Code) (all text held : List ℕ) (met read : ℕ) : Typ
   pub short : length held < wordLength C
 
 -- a text put at the front of a buffer is what stands up to the next place
-pub text-at-front : {out text out′ : List ℕ} {next : ℕ} → Puts out 0 text out′ next → take next out′ ≡ text
+text-at-front : {out text out′ : List ℕ} {next : ℕ} → Puts out 0 text out′ next → take next out′ ≡ text
 text-at-front {out} {text} p = rw (p .bytes, p .place, zero-add) (take-append-seam text (drop (length text) out))
 
 -- before the first turn

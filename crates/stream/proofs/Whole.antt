@@ -39,7 +39,7 @@ module _ (C : Code) {bytes text : List ℕ} {met read : ℕ} (printed : Printed 
       }
 
   -- at the end, with bytes short of a word
-  pub report-of-printed : (tail : List ℕ) → length tail < wordLength C
+  report-of-printed : (tail : List ℕ) → length tail < wordLength C
       → wordsReport C (bytes ++ tail) ≡ text ++ shortLine (length tail) ++ lastLine met read
   unfolding wordsReport
   report-of-printed tail short =
