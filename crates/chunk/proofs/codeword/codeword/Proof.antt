@@ -1,32 +1,18 @@
 -- `chunk::codeword::codeword` meets its contract. The loop's invariant: `word` is the sum of those of the rows below `z` whose bits
--- are set in Gray(i). The measure is the rows that are left. Assumes nothing.
-use Prim.Native.Nat.{ℕ, _+_, _-_, _*_, _^_, _≤_, _<_}
+-- are set in Gray(i), each taken once or not at all, so that no product overflows. A sound code's rows lie within n bits, and so
+-- does their sum. The measure is the rows that are left. Assumes nothing.
+use Prim.Native.Nat.{_-_, _≤_}
 use mathlib.Core.Path.{_≡_, refl, _∙_}
 use borrow.Author.Needs.{needs}
-use native.Mathlib.Nat.{lt-of-le-of-lt, lt-of-lt-of-le, mul-le-mul-right}
-use native.Mathlib.Numerals.{add-one}
 use native.Mathlib.Omega.{arith}
-use lib.Bits.{bitXor}
 use lib.ListN.{getD}
-use lib.Pow.{pow-mono}
-use Rattle.bits.specs.Places.{bit}
 use Rattle.model.specs.Card.{sumOfRows}
 use Rattle.model.specs.Decoded.{meaning}
 use Rattle.model.specs.Order.{codeword}
 use Rattle.code_theory.proofs.LeastDistance.{codeword-narrow}
+use Rattle.chunk.proofs.Rows.{rows-more, row-fits}
 use Rattle.chunk.proofs.codeword.codeword.Statement.{statement}
 use Rattle.chunk.proofs.codeword.codeword.Tie as tie
-
--- one row more
-rows-more : (row : ℕ → ℕ) (z g : ℕ) → sumOfRows row (z + 1) g ≡ bitXor (sumOfRows row z g) (bit g z * row z)
-unfolding sumOfRows
-rows-more row z g = rw (add-one z)
-
--- a row taken once at most fits 64 bits
-row-fits : (b row n : ℕ) → b < 2 → row < 2 ^ n → n ≤ 64 → b * row < 2 ^ 64
-row-fits b row n h narrow width =
-    let once : b * row ≤ 1 * row = mul-le-mul-right row (omega arith) in
-    lt-of-le-of-lt {m = row} (omega arith) (lt-of-lt-of-le narrow (pow-mono {i = n} {j = 64} width))
 
 abbrev Inv-loop : tie.InvT-loop
 Inv-loop i k rows gray word₀ z₀ word z = (z ≤ k) × (word ≡ sumOfRows (λ y. getD rows y 0) z gray)
@@ -55,9 +41,9 @@ bit-of-requires c κs = search needs
 
 mul-word : tie.Need-mul-word Inv-loop μ-loop
 mul-word c =
-    let sound = c .before .before .before .before .before .pre in
-    let z = c .before .before .loop .z in
-    record { fits = row-fits (c .bit-of .result) _ _ (c .bit-of .ensures .1) (sound .narrow z (omega (arith, sound .k-high))) (sound .n-high) }
+    let turn = c .before .before in
+    let sound = turn .before .before .before .pre in
+    record { fits = row-fits (c .bit-of .result) _ _ (c .bit-of .ensures .1) (sound .narrow (turn .loop .z) (omega arith)) (sound .n-high) }
 
 add-z : tie.Need-add-z Inv-loop μ-loop
 add-z c = search needs
@@ -71,11 +57,12 @@ loop-again c = (omega arith, rw (rows-more, ← (c .before .before .loop .inv .1
 returns : tie.Need-returns Inv-loop μ-loop
 unfolding codeword
 returns c =
-    let start = c .before .before .before .before in
-    let all : c .before .loop .z ≡ start .args .code .k = omega arith in
-    let is-codeword : c .before .loop .word ≡ codeword (meaning (start .args .code)) (start .args .i) =
-    c .before .loop .inv .1 ∙ rw (all, c .before .before .gray-number .ensures) in
-    (is-codeword, rw is-codeword (codeword-narrow _ (start .pre) (start .args .i)))
+    let first = c .before .before .before .before in
+    let loop = c .before .loop in
+    let all : loop .z ≡ first .args .code .k = omega arith in
+    let is-codeword : loop .word ≡ codeword (meaning (first .args .code)) (first .args .i) =
+    loop .inv .1 ∙ rw (all, c .before .before .gray-number .ensures) in
+    (is-codeword, rw is-codeword (codeword-narrow _ (first .pre) (first .args .i)))
 
 pub codeword-spec : {M : Type 1} → statement M
 codeword-spec =

@@ -1,4 +1,5 @@
--- `chunk::codeword::gray_number` meets its contract: a shift by one halves. Assumes nothing.
+-- `chunk::codeword::gray_number` meets its contract: Gray(i) is the exclusive-or of i and its half, and a shift by one
+-- halves. Assumes nothing.
 use mathlib.Core.Path.{refl}
 use Rattle.model.specs.Order.{gray}
 use Rattle.chunk.proofs.codeword.gray_number.Statement.{statement}

@@ -1,4 +1,5 @@
--- `chunk::codeword::row_weight` meets its contract: the count of ones is the weight. Assumes nothing.
+-- `chunk::codeword::row_weight` meets its contract: all ones of a row below 2^n lie in its first n places, so their count is
+-- the weight. Assumes nothing.
 use mathlib.Core.Path.{sym}
 use Rattle.bits.proofs.Binary.{weight-ones}
 use Rattle.chunk.proofs.codeword.row_weight.Statement.{statement}
