@@ -1,11 +1,12 @@
 -- The refusals of a card, one law each: what came before holds, and this one's condition does. Assumes nothing.
 use mathlib.Core.Path.{_≡_}
-use mathlib.Core.Bool.{true, false, cond}
+use mathlib.Core.Bool.{Bool, true, false, cond, _||_}
 use mathlib.Core.List.{List}
 use Prim.Native.Nat.{ℕ}
 use borrow.Author.Tests.{eq-eqb, ne-eqb}
 use lib.ListN.{length}
 use Rattle.model.specs.Card.{lengthOf, rowCountOf, rowOf, storedCheck, computedCheck, withinLimits, misplaced, dependent, cardRefusal}
+use Rattle.model.specs.Card.{rowTooWide, unusedRowSet, unusedByteSet}
 
 module _ (b : List ℕ) where
   pub refusal-1 : (length b ≡ 512 → ⊥) → cardRefusal b ≡ 1
@@ -21,6 +22,12 @@ module _ (b : List ℕ) where
   unfolding cardRefusal
   refusal-3 whole checked outside =
       rw (eq-eqb (length b) 512 whole, eq-eqb (storedCheck b) (computedCheck b) checked, outside)
+
+  -- what the fourth asks, of n, k, rows and a test of the unused bytes that are the card's
+  pub misplaced-of-card : (n k : ℕ) (row : ℕ → ℕ) (unused answer : Bool) → n ≡ lengthOf b → k ≡ rowCountOf b → row ≡ rowOf b
+      → unused ≡ unusedByteSet b → answer ≡ (rowTooWide n row || unusedRowSet k row || unused) → answer ≡ misplaced b
+  unfolding misplaced
+  misplaced-of-card n k row unused answer is-n is-k is-row is-unused asked = rw (← is-n, ← is-k, ← is-row, ← is-unused) asked
 
   -- past the third, a card is refused for what is misplaced, then for its rows
   pub refusal-4-5-or-0 : length b ≡ 512 → storedCheck b ≡ computedCheck b → withinLimits (lengthOf b) (rowCountOf b) ≡ true

@@ -1,59 +1,76 @@
--- `chunk::decode::decode` meets its contract: each of the refusals 1 to 3 is one law, and past them the tests of the rows, the upper
--- first, tell refusals 4 and 5 from a sound card. Assumes nothing.
-use mathlib.Core.Path.{_≡_, refl, sym, _∙_}
+-- `chunk::decode::decode` meets its contract: each test that fails is one of refusals 1 to 3, by its law, and past the three what was
+-- read of the card is said of its bytes: n, k, the rows, and their least weight where none is too wide. From these the tests of
+-- the rows, the upper first, tell refusals 4 and 5 from a sound card, whose code they are. Assumes nothing.
+use mathlib.Core.Path.{_≡_, sym, _∙_}
 use mathlib.Core.Bool.{true}
+use mathlib.Core.List.{List}
+use Prim.Native.Nat.{ℕ}
 use borrow.Author.Needs.{needs}
-use borrow.Author.Tests.{eqb-false, not-true, not-false}
+use borrow.Author.Tests.{not-true, not-false}
+use native.Mathlib.Omega.{arith}
 use lib.ListN.{length}
 use Rattle.model.specs.Card.{lengthOf, rowCountOf, rowOf, storedCheck, computedCheck, withinLimits, misplaced}
 use Rattle.code_theory.proofs.SoundCard.{limits-of-test}
 use Rattle.chunk.proofs.Decoding.{least, least-of-card, rows-refusal, code-of-least, refused-from, decoded-from}
 use Rattle.chunk.proofs.LeastWeightLoop.{Narrow}
-use Rattle.chunk.proofs.Refusals.{refusal-1, refusal-2, refusal-3}
+use Rattle.chunk.proofs.Refusals.{refusal-1, refusal-2, refusal-3, misplaced-of-card}
 use Rattle.chunk.proofs.decode.decode.Statement.{statement}
 use Rattle.chunk.proofs.decode.decode.Tie as tie
 
--- past the second test: 512 bytes, and the two checks are equal
-whole : (c : tie.Else2) → length (c .before .before .before .before .before .before .args .card .now) ≡ 512
-whole c = c .before .before .before .before .if1 .left
+-- the way back to the test before, and to the card's bytes, from past the second test and from past the third
+abbrev first-passed : tie.Else2 → tie.Else1
+first-passed c = c .before .before .before .before
 
-checked : (c : tie.Else2)
-    → let b = c .before .before .before .before .before .before .args .card .now in storedCheck b ≡ computedCheck b
+abbrev second-passed : tie.Else3 → tie.Else2
+second-passed c = c .before .before .before .before
+
+abbrev card₂ : tie.Else2 → List ℕ
+card₂ c = first-passed c .before .before .args .card .now
+
+abbrev card₃ : tie.Else3 → List ℕ
+card₃ c = card₂ (second-passed c)
+
+-- past the second test: 512 bytes, and the two checks are equal
+whole : (c : tie.Else2) → length (card₂ c) ≡ 512
+whole c = first-passed c .if1 .left
+
+checked : (c : tie.Else2) → storedCheck (card₂ c) ≡ computedCheck (card₂ c)
 checked c = sym (c .before .before .stored-check .ensures) ∙ c .if2 .left ∙ c .before .computed-check .ensures
 
--- what the third test asks
-limits : (c : tie.After-within-limits)
-    → let b = c .before .before .before .before .before .before .before .before .before .args .card .now in
-    c .within-limits .result ≡ withinLimits (lengthOf b) (rowCountOf b)
-limits c = rw (c .before .before .byte-at .ensures .0, c .before .byte-at2 .ensures .0) at (c .within-limits .ensures)
+-- n and k, and what the third test asks of them
+is-n : (c : tie.After-within-limits) → c .before .before .byte-at .result ≡ lengthOf (card₂ (c .before .before .before))
+is-n c = c .before .before .byte-at .ensures .0
 
-within : (c : tie.Else3)
-    → let b = c .before .before .before .before .before .before .before .before .before .before .args .card .now in
-    withinLimits (lengthOf b) (rowCountOf b) ≡ true
+is-k : (c : tie.After-within-limits) → c .before .byte-at2 .result ≡ rowCountOf (card₂ (c .before .before .before))
+is-k c = c .before .byte-at2 .ensures .0
+
+limits : (c : tie.After-within-limits)
+    → let b = card₂ (c .before .before .before) in c .within-limits .result ≡ withinLimits (lengthOf b) (rowCountOf b)
+limits c = rw (is-n c, is-k c) at (c .within-limits .ensures)
+
+-- past the third test
+within : (c : tie.Else3) → withinLimits (lengthOf (card₃ c)) (rowCountOf (card₃ c)) ≡ true
 within c = sym (limits (c .before)) ∙ not-false _ (c .if3 .left)
 
 -- the least weight of the rows that the card has, and the fourth test of them
 is-least : (c : tie.After-least-weight)
-    → let b = c .before .before .before .before .before .before .before .before .before .before .before .before .args .card .now in
-    Narrow (lengthOf b) (rowCountOf b) (rowOf b) → c .least-weight .result ≡ least b
+    → let b = card₃ (c .before .before) in Narrow (lengthOf b) (rowCountOf b) (rowOf b) → c .least-weight .result ≡ least b
 is-least c =
     let limited = c .before .before .before in
-    least-of-card _ _ _ _ _ (limited .before .before .byte-at .ensures .0) (limited .before .byte-at2 .ensures .0) (c .before .rows-of .ensures) (c .least-weight .ensures)
+    least-of-card _ _ _ _ _ (is-n limited) (is-k limited) (c .before .rows-of .ensures) (c .least-weight .ensures)
 
-is-misplaced : (c : tie.After-has-misplaced)
-    → let b = c .before .before .before .before .before .before .before .before .before .before .before .before .before .args .card .now in
-    c .has-misplaced .result ≡ misplaced b
-unfolding misplaced
+is-misplaced : (c : tie.After-has-misplaced) → c .has-misplaced .result ≡ misplaced (card₃ (c .before .before .before))
 is-misplaced c =
     let limited = c .before .before .before .before in
-    let first = limited .before .before .before in
-    rw (c .before .before .rows-of .ensures, limited .before .before .byte-at .ensures .0, limited .before .byte-at2 .ensures .0, first .before .before .before .unused-byte-set .ensures) at (c .has-misplaced .ensures)
+    let summed = limited .before .before .before .before in
+    misplaced-of-card _ _ _ _ _ _ (is-n limited) (is-k limited) (c .before .before .rows-of .ensures)
+    (summed .before .before .unused-byte-set .ensures) (c .has-misplaced .ensures)
 
 refused-requires : tie.Need-refused-requires
 refused-requires c κs = search needs
 
 returns : tie.Need-returns
-returns c = refused-from _ _ 1 (c .refused .ensures) (refusal-1 _ (c .before .if1 .taken)) (eqb-false 1 0 refl)
+returns c = refused-from _ _ 1 (c .refused .ensures) (refusal-1 _ (c .before .if1 .taken)) (λ e. omega arith)
 
 unused-byte-set-requires : tie.Need-unused-byte-set-requires
 unused-byte-set-requires c κs = search needs
@@ -73,7 +90,7 @@ returns-2 c =
     refused-from _ _ 2 (c .refused2 .ensures)
     (refusal-2 _ (summed .before .before .before .if1 .left)
     (λ e. c .before .if2 .taken (summed .before .stored-check .ensures ∙ e ∙ sym (summed .computed-check .ensures))))
-    (eqb-false 2 0 refl)
+    (λ e. omega arith)
 
 byte-at-requires : tie.Need-byte-at-requires
 byte-at-requires c κs = search needs
@@ -89,10 +106,10 @@ refused-requires-3 c κs = search needs
 
 returns-3 : tie.Need-returns-3
 returns-3 c =
-    let tested = c .before .before in
-    let second = tested .before .before .before in
-    let outside = sym (limits tested) ∙ not-true _ (c .before .if3 .taken) in
-    refused-from _ _ 3 (c .refused3 .ensures) (refusal-3 _ (whole second) (checked second) outside) (eqb-false 3 0 refl)
+    let limited = c .before .before in
+    let second = limited .before .before .before in
+    let outside = sym (limits limited) ∙ not-true _ (c .before .if3 .taken) in
+    refused-from _ _ 3 (c .refused3 .ensures) (refusal-3 _ (whole second) (checked second) outside) (λ e. omega arith)
 
 rows-of-requires : tie.Need-rows-of-requires
 rows-of-requires c κs = search needs
@@ -100,8 +117,8 @@ rows-of-requires c κs = search needs
 least-weight-requires : tie.Need-least-weight-requires
 least-weight-requires c κs =
     let limited = c .before .before in
-    let low = limits-of-test _ _ (within (c .before)) in
-    rw (limited .before .before .byte-at .ensures .0, limited .before .byte-at2 .ensures .0) (low .1, low .3)
+    let bounds = limits-of-test _ _ (within (c .before)) in
+    rw (is-n limited, is-k limited) (bounds .1, bounds .3)
 
 has-misplaced-requires : tie.Need-has-misplaced-requires
 has-misplaced-requires c κs = search needs
@@ -123,15 +140,16 @@ returns-4 c =
     let chosen = c .before in
     let placed = chosen .before .before .before in
     let weighed = placed .before in
+    let rows = weighed .before .rows-of in
     let third = weighed .before .before in
-    let second = third .before .before .before .before in
+    let second = second-passed third in
     let refusal =
-    rw (chosen .before .before .refusal-if .ensures, chosen .before .refusal-if2 .ensures, is-misplaced placed) at (chosen .first-of .ensures) in
+    rw (chosen .before .before .refusal-if .ensures, chosen .before .refusal-if2 .ensures, is-misplaced placed)
+    at (chosen .first-of .ensures) in
     decoded-from _ _
     (refusal ∙ rows-refusal _ (within third) (whole second) (checked second) _ (is-least weighed)) (c .track-of .ensures)
     (λ sound.
-    code-of-least _ sound _ _ _ (weighed .before .rows-of .result) (third .before .before .before .byte-at .ensures .0)
-    (third .before .before .byte-at2 .ensures .0) (weighed .before .rows-of .ensures) (is-least weighed))
+    code-of-least _ sound _ _ _ (rows .result) (is-n (third .before)) (is-k (third .before)) (rows .ensures) (is-least weighed))
 
 pub decode-spec : {M : Type 1} → statement M
 decode-spec =
