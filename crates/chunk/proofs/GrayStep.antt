@@ -16,8 +16,12 @@ module _ (k i : ℕ) (twelve : k ≤ 12) (within : i + 1 < 2 ^ k) where
   fits : i + 1 < 2 ^ 32
   fits = lt-of-lt-of-le within (pow-mono {i = k} {j = 32} (omega arith))
 
+  -- the row that is added is one of the k, and so of the twelve
+  pub row-below : trailingZeros 32 (i + 1) < k
+  row-below = changed-below k 32 i within fits
+
   pub row-of-twelve : trailingZeros 32 (i + 1) < 12
-  row-of-twelve = omega (arith, changed-below k 32 i within fits)
+  row-of-twelve = omega (arith, row-below)
 
   pub word-next : (row : ℕ → ℕ) (word : ℕ) → word ≡ sumOfRows row k (gray i)
       → bitXor word (row (trailingZeros 32 (i + 1))) ≡ sumOfRows row k (gray (i + 1))

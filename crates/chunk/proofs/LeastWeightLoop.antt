@@ -12,7 +12,7 @@ use lib.Bits.{bitXor}
 use lib.Count.{trailingZeros, ones}
 use lib.ListN.{getD}
 use lib.Pow as pow
-use lib.Pow.{pow-pos, pow-mono, pow-add, shr-lt, le-ones, lt-of-le-ones}
+use lib.Pow.{pow-pos, pow-add, shr-lt, le-ones, lt-of-le-ones}
 use Rattle.bits.specs.Places.{weight}
 use Rattle.bits.proofs.Binary.{weight-ones}
 use Rattle.bits.proofs.Numbers.{eq-or-ne}
@@ -20,9 +20,9 @@ use Rattle.model.specs.Card.{sumOfRows}
 use Rattle.model.specs.Order.{gray}
 use Rattle.code_theory.specs.LeastOfSets.{leastOfSets}
 use Rattle.code_theory.proofs.Codewords.{rows-start, rows-below}
-use Rattle.code_theory.proofs.Gray.{gray-zero, gray-below, gray-positive, gray-onto, changed-below}
+use Rattle.code_theory.proofs.Gray.{gray-zero, gray-below, gray-positive, gray-onto}
 use Rattle.code_theory.proofs.LeastOfSets.{AtMostEach, least-in-any-order}
-use Rattle.chunk.proofs.GrayStep.{word-next}
+use Rattle.chunk.proofs.GrayStep.{row-below, word-next}
 use Rattle.chunk.proofs.LeastOf.{LeastOf, least-of-same}
 use Rattle.chunk.proofs.LowSums.{Table}
 use Rattle.chunk.proofs.SplitRows.{behind, rows-split}
@@ -74,9 +74,7 @@ module _ (n low high : ℕ) (row : ℕ → ℕ) where
   -- the row that is added is one of the twelve
   pub row-behind : low + high ≤ 12 → (last word least h : ℕ) → AtBehind n low high row last word least h → h < last
       → low + trailingZeros 32 (h + 1) < 12
-  row-behind twelve last word least h at more =
-      let fits : h + 1 < 2 ^ 32 = omega (arith, at .end, pow-mono {i = high} {j = 12} (omega arith)) in
-      omega (arith, changed-below high 32 h (omega (arith, at .end)) fits)
+  row-behind twelve last word least h at more = omega (arith, row-below high h (omega arith) (omega arith))
 
   pub at-next : high ≤ 12 → (sums : List ℕ) (size last word least h least′ : ℕ) → Table low row sums → size ≡ 2 ^ low
       → AtBehind n low high row last word least h → h < last
@@ -85,13 +83,13 @@ module _ (n low high : ℕ) (row : ℕ → ℕ) where
   at-next twelve sums size last word least h least′ table is-size at more found =
       let next : ℕ = bitXor word (row (low + trailingZeros 32 (h + 1))) in
       let current : next ≡ sumOfRows (behind low row) high (gray (h + 1)) =
-      word-next high h twelve (omega (arith, at .end)) (behind low row) word (at .current) in
+      word-next high h twelve (omega arith) (behind low row) word (at .current) in
       let (at-most, at-most-each, greatest) = of-table sums (h + 1) next 0 least least′ table current (rw (← is-size) found) in
       record {
         end = at .end;
         within = omega arith;
         current = current;
-        at-most-n = omega (arith, at .at-most-n);
+        at-most-n = omega arith;
         at-most-met =
             λ i j l m pos.
             ⊎-elim (λ (last : i ≡ h + 1). rw last (at-most-each j (omega arith) m))
@@ -153,7 +151,7 @@ module _ (n low high : ℕ) (row : ℕ → ℕ) where
   pub at-end : (k last word least h : ℕ) → low + high ≡ k → AtBehind n low high row last word least h → last ≤ h
       → Narrow n k row → least ≡ leastOfSets n k row (2 ^ k - 1)
   at-end k last word least h is-k at done =
-      let all : h ≡ 2 ^ high - 1 = omega (arith, at .end, at .within) in
+      let all : h ≡ 2 ^ high - 1 = omega arith in
       rw (← is-k)
       (λ narrow.
       least-in-any-order n (low + high) row least (at .at-most-n)

@@ -41,15 +41,15 @@ module _ (low : ℕ) (row : ℕ → ℕ) where
 
   -- the next entry is one of the table's 32
   pub sum-room : low ≤ 5 → (last : ℕ) (sums : List ℕ) (sum i : ℕ) → AtSum low row last sums sum i → i < last → i + 1 < 32
-  sum-room five last sums sum i at more = omega (arith, at .end, pow-mono {i = low} {j = 5} five)
+  sum-room five last sums sum i at more = omega (arith, pow-mono {i = low} {j = 5} five)
 
   pub sum-next : low ≤ 5 → (last : ℕ) (sums : List ℕ) (sum i : ℕ) → AtSum low row last sums sum i → i < last
       → let next = bitXor sum (row (trailingZeros 32 (i + 1))) in AtSum low row last (set sums (i + 1) next) next (i + 1)
   sum-next five last sums sum i at more =
       let next : ℕ = bitXor sum (row (trailingZeros 32 (i + 1))) in
       let current : next ≡ sumOfRows row low (gray (i + 1)) =
-      word-next low i (omega arith) (omega (arith, at .end)) row sum (at .current) in
-      let room : i + 1 < length sums = omega (arith, at .whole, sum-room five last sums sum i at more) in
+      word-next low i (omega arith) (omega arith) row sum (at .current) in
+      let room : i + 1 < length sums = omega (arith, sum-room five last sums sum i at more) in
       record {
         end = at .end;
         within = omega arith;
@@ -61,4 +61,4 @@ module _ (low : ℕ) (row : ℕ → ℕ) where
       }
 
   pub sum-end : (last : ℕ) (sums : List ℕ) (sum i : ℕ) → AtSum low row last sums sum i → last ≤ i → Table low row sums
-  sum-end last sums sum i at done j below = at .entries j (omega (arith, at .end))
+  sum-end last sums sum i at done j below = at .entries j (omega arith)

@@ -11,11 +11,11 @@ use Rattle.bits.proofs.Shifts.{moved-down, cut-kept}
 use Rattle.model.specs.Card.{sumOfRows}
 
 -- sets that agree in the bits below k
-rows-alike : (row : ℕ → ℕ) (k g h : ℕ) → ((z : ℕ) → z < k → bit g z ≡ bit h z) → sumOfRows row k g ≡ sumOfRows row k h
+sums-alike : (row : ℕ → ℕ) (k g h : ℕ) → ((z : ℕ) → z < k → bit g z ≡ bit h z) → sumOfRows row k g ≡ sumOfRows row k h
 unfolding sumOfRows
-rows-alike row zero g h same = refl
-rows-alike row (suc k) g h same =
-    rw (rows-alike row k g h (λ z l. same z (omega arith)), same k (omega arith))
+sums-alike row zero g h same = refl
+sums-alike row (suc k) g h same =
+    rw (sums-alike row k g h (λ z l. same z (omega arith)), same k (omega arith))
 
 -- the rows behind the first `low`
 abbrev pub behind : ℕ → (ℕ → ℕ) → ℕ → ℕ
@@ -26,7 +26,7 @@ pub rows-split : (row : ℕ → ℕ) (low high g : ℕ)
 unfolding sumOfRows
 rows-split row low zero g =
     rw (add-zero low, xor-zero-r (sumOfRows row low (g % 2 ^ low)))
-    (rows-alike row low g (g % 2 ^ low) (λ z l. sym (cut-kept low g z l)))
+    (sums-alike row low g (g % 2 ^ low) (λ z l. sym (cut-kept low g z l)))
 rows-split row low (suc z) g =
     rw (add-suc low z, rows-split row low z g, moved-down low g z)
     (xor-assoc (sumOfRows row low (g % 2 ^ low)) (sumOfRows (behind low row) z (g / 2 ^ low)) (bit g (low + z) * row (low + z)))

@@ -1,5 +1,5 @@
--- `least_of` meets its contract. The loop's invariant: `least` is the least of `start` and the weights of the sums passed. The
--- measure is the sums that are left. Assumes nothing.
+-- `chunk::order::least_of` meets its contract. The loop's invariant: `least` is the least of `start` and the weights of the sums
+-- passed, in the contract's own three clauses. The measure is the sums that are left. Assumes nothing.
 use mathlib.Core.Path.{_≡_, ap, _∙_}
 use mathlib.Core.Logic.{⊎-elim}
 use Prim.Native.Nat.{_-_, _≤_, min}
@@ -50,8 +50,9 @@ loop-again c =
 
 returns : tie.Need-returns Inv-loop μ-loop
 returns c =
-    let all : c .before .loop .j ≡ c .before .before .args .size = omega arith in
-    let (at-most-start, at-most-each, greatest) = rw all at (c .before .loop .inv .2) in
+    let loop = c .before .loop in
+    let all : loop .j ≡ c .before .before .args .size = omega arith in
+    let (at-most-start, at-most-each, greatest) = rw all at (loop .inv .2) in
     (at-most-start, (at-most-each, greatest))
 
 pub least-of-spec : {M : Type 1} → statement M

@@ -1,5 +1,6 @@
--- `least_weight` meets its contract: the loop steps through the sums of the rows behind the low ones in Gray order, and keeps what
--- `AtBehind` says. Assumes nothing.
+-- `chunk::order::least_weight` meets its contract: the loop steps through the sums of the rows behind the low ones in Gray order, and
+-- keeps what `AtBehind` says: `word` is the sum at `h`, and `least` the least of n and of the weights of all sets met, of low rows
+-- and of rows up to there. At the end all nonempty sets are met. The measure is the sums that are left. Assumes nothing.
 use Prim.Native.Nat.{_+_, _-_, _≤_, _<_}
 use native.Mathlib.Omega.{arith}
 use borrow.Author.Needs.{needs}
@@ -34,12 +35,12 @@ cast-least-of c = search needs
 -- the table has room for the sums of the low rows
 room : (c : tie.After-two-to Inv-loop μ-loop) → c .two-to .result ≤ 32
 room c =
-    omega (arith, c .two-to .ensures, pow-mono {i = c .before .low-rows .result} {j = 5} (c .before .low-rows .ensures .0))
+    let parted = c .before in omega (arith, pow-mono {i = parted .low-rows .result} {j = 5} (parted .low-rows .ensures .0))
 
 least-of-requires : tie.Need-least-of-requires Inv-loop μ-loop
 least-of-requires c κs =
     let sized = c .before .before in
-    (omega (arith, sized .two-to .ensures, pow-pos (sized .before .low-rows .result)), room sized)
+    (omega (arith, pow-pos (sized .before .low-rows .result)), room sized)
 
 sub-two-to : tie.Need-sub-two-to Inv-loop μ-loop
 sub-two-to c = search needs
@@ -50,24 +51,28 @@ two-to-requires-2 c κs = search needs
 sub-last : tie.Need-sub-last Inv-loop μ-loop
 sub-last c =
     let parted = c .before .before .before .before .before in
-    omega (arith, c .two-to2 .ensures, pow-pos (parted .before .args .k - parted .low-rows .result))
+    omega (arith, pow-pos (parted .before .args .k - parted .low-rows .result))
 
 loop-holds : tie.Need-loop-holds Inv-loop μ-loop
 loop-holds c =
-    let filled = c .before .before .before in
+    let table = c .before .before .before in
     let found = c .before .least-of .ensures in
-    at-start _ _ _ _ (filled .low-sums .result) _ _ _ (filled .low-sums .ensures) (c .two-to2 .ensures)
-    (filled .before .two-to .ensures) (found .0, found .1 .0, found .1 .1)
+    at-start _ _ _ _ (table .low-sums .result) _ _ _ (table .low-sums .ensures) (c .two-to2 .ensures) (table .before .two-to .ensures)
+    (found .0, found .1 .0, found .1 .1)
 
 add-h : tie.Need-add-h Inv-loop μ-loop
 add-h c = search needs
 
+-- where the sums of the low rows were asked for, and where the low rows were parted from those behind, seen from the loop
+abbrev filled : tie.At-loop Inv-loop μ-loop → tie.After-low-sums Inv-loop μ-loop
+filled c = c .before .before .before .before
+
+abbrev parted : tie.At-loop Inv-loop μ-loop → tie.After-low-rows Inv-loop μ-loop
+parted c = filled c .before .before
+
 -- the number of the row that is added
-row : (c : tie.In-loop Inv-loop μ-loop)
-    → c .before .before .before .before .before .before .before .low-rows .result + trailingZeros 32 (c .before .loop .h + 1) < 12
-row c =
-    let parted = c .before .before .before .before .before .before .before in
-    row-behind _ _ _ _ (omega (arith, parted .low-rows .ensures, parted .before .pre)) _ _ _ _ (c .before .loop .inv) (c .loop-test .taken)
+row : (c : tie.In-loop Inv-loop μ-loop) → parted (c .before) .low-rows .result + trailingZeros 32 (c .before .loop .h + 1) < 12
+row c = row-behind _ _ _ _ (omega arith) _ _ _ _ (c .before .loop .inv) (c .loop-test .taken)
 
 add-z : tie.Need-add-z Inv-loop μ-loop
 add-z c = omega (arith, row c)
@@ -82,7 +87,7 @@ array-read-word : tie.Need-array-read-word Inv-loop μ-loop
 array-read-word c = row c
 
 least-of-requires-2 : tie.Need-least-of-requires-2 Inv-loop μ-loop
-least-of-requires-2 c κs = (omega arith, room (c .before .before .before .before .before .before .before))
+least-of-requires-2 c κs = let turn = c .before in (omega arith, room (filled (turn .before) .before))
 
 loop-less : tie.Need-loop-less Inv-loop μ-loop
 loop-less c = search needs
@@ -90,19 +95,18 @@ loop-less c = search needs
 loop-again : tie.Need-loop-again Inv-loop μ-loop
 loop-again c =
     let turn = c .before .before in
-    let filled = turn .before .before .before .before .before in
+    let table = filled (turn .before) in
     let found = c .least-of2 .ensures in
-    at-next _ _ _ _ (omega (arith, filled .before .before .before .pre)) (filled .low-sums .result) _ _ _ _ _ _
-    (filled .low-sums .ensures) (filled .before .two-to .ensures) (turn .before .loop .inv) (turn .loop-test .taken)
-    (found .0, found .1 .0, found .1 .1)
+    at-next _ _ _ _ (omega arith) (table .low-sums .result) _ _ _ _ _ _ (table .low-sums .ensures) (table .before .two-to .ensures)
+    (turn .before .loop .inv) (turn .loop-test .taken) (found .0, found .1 .0, found .1 .1)
 
 cast-result : tie.Need-cast-result Inv-loop μ-loop
 cast-result c = search needs
 
 returns : tie.Need-returns Inv-loop μ-loop
 returns c =
-    let parted = c .before .before .before .before .before .before .before in
-    at-end _ _ _ _ (parted .before .args .k) _ _ _ _ (omega (arith, parted .low-rows .ensures)) (c .before .loop .inv) (c .loop-test .left)
+    let first = parted (c .before) .before in
+    at-end _ _ _ _ (first .args .k) _ _ _ _ (omega arith) (c .before .loop .inv) (c .loop-test .left)
 
 pub least-weight-spec : {M : Type 1} → statement M
 least-weight-spec =

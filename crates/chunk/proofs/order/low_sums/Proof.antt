@@ -1,4 +1,6 @@
--- `low_sums` meets its contract: the loop fills the table in Gray order, and keeps what `AtSum` says. Assumes nothing.
+-- `chunk::order::low_sums` meets its contract: the loop fills the table in Gray order, and keeps what `AtSum` says: the entries up
+-- to `i` stand in the table, and the last of them is in `sum`. Each turn adds the one row that changes, of at most five, and writes
+-- the next entry, of at most 32. The measure is the entries that are left. Assumes nothing.
 use mathlib.Core.Path.{refl}
 use Prim.Native.Nat.{_+_, _-_, _<_}
 use native.Mathlib.Omega.{arith}
@@ -21,7 +23,7 @@ two-to-requires : tie.Need-two-to-requires Inv-loop μ-loop
 two-to-requires c κs = search needs
 
 sub-last : tie.Need-sub-last Inv-loop μ-loop
-sub-last c = omega (arith, c .two-to .ensures, pow-pos (c .before .args .low))
+sub-last c = omega (arith, pow-pos (c .before .args .low))
 
 loop-holds : tie.Need-loop-holds Inv-loop μ-loop
 loop-holds c = sum-start _ _ _ _ (c .two-to .ensures) refl refl
@@ -32,12 +34,11 @@ add-i c = search needs
 -- the number of the row that is added
 row : (c : tie.In-loop Inv-loop μ-loop) → trailingZeros 32 (c .before .loop .i + 1) < 12
 row c =
-    row-of-twelve (c .before .before .before .args .low) (c .before .loop .i) (omega (arith, c .before .before .before .pre))
-    (omega (arith, c .before .loop .inv .end))
+    let first = c .before .before .before in row-of-twelve (first .args .low) (c .before .loop .i) (omega arith) (omega arith)
 
 -- the number of the entry that is written
 room : (c : tie.In-loop Inv-loop μ-loop) → c .before .loop .i + 1 < 32
-room c = sum-room _ _ (c .before .before .before .pre) _ _ _ _ (c .before .loop .inv) (c .loop-test .taken)
+room c = let first = c .before .before .before in sum-room _ _ (first .pre) _ _ _ _ (c .before .loop .inv) (c .loop-test .taken)
 
 cast-z : tie.Need-cast-z Inv-loop μ-loop
 cast-z c = omega (arith, row c)
@@ -61,7 +62,8 @@ loop-less : tie.Need-loop-less Inv-loop μ-loop
 loop-less c = search needs
 
 loop-again : tie.Need-loop-again Inv-loop μ-loop
-loop-again c = sum-next _ _ (c .before .before .before .pre) _ _ _ _ (c .before .loop .inv) (c .loop-test .taken)
+loop-again c =
+    let first = c .before .before .before in sum-next _ _ (first .pre) _ _ _ _ (c .before .loop .inv) (c .loop-test .taken)
 
 returns : tie.Need-returns Inv-loop μ-loop
 returns c = sum-end _ _ _ _ _ _ (c .before .loop .inv) (c .loop-test .left)

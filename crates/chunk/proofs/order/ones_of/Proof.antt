@@ -1,4 +1,4 @@
--- `ones_of` meets its contract: of 64 bits at most 64 are 1, which fits a byte. Assumes nothing.
+-- `chunk::order::ones_of` meets its contract: of 64 bits at most 64 are 1, which fits a byte. Assumes nothing.
 use native.Mathlib.Omega.{arith}
 use borrow.Author.Needs.{needs}
 use lib.Count.{ones-le}

@@ -1,4 +1,5 @@
--- `two_to` meets its contract: the shift leaves the type's range nowhere. Assumes nothing.
+-- `chunk::order::two_to` meets its contract: 1 shifted by fewer than 32 places stays within 32 bits, so no bit is lost.
+-- Assumes nothing.
 use mathlib.Core.Path.{_∙_}
 use native.Mathlib.Nat.{one-mul}
 use native.Mathlib.Omega.{arith}
