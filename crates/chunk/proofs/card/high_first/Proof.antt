@@ -21,7 +21,7 @@ loop-holds c = search needs
 
 mul-value : tie.Need-mul-value Inv-loop μ-loop
 mul-value c =
-    omega (arith, bytes-fit (c .before .loop .value) 0 (c .before .loop .j) (c .before .loop .inv .2) (omega arith) (omega arith))
+    let loop = c .before .loop in omega (arith, bytes-fit (loop .value) 0 (loop .j) (loop .inv .2) (omega arith) (omega arith))
 
 add-wide : tie.Need-add-wide Inv-loop μ-loop
 add-wide c = search needs
@@ -51,8 +51,10 @@ loop-again c =
 
 returns : tie.Need-returns Inv-loop μ-loop
 returns c =
-    let all : c .before .loop .j ≡ c .before .before .before .args .m = omega arith in
-    rw (← all) (c .before .loop .inv .1, c .before .loop .inv .2)
+    let loop = c .before .loop in
+    let first = c .before .before .before in
+    let all : loop .j ≡ first .args .m = omega arith in
+    rw (← all) (loop .inv .1, loop .inv .2)
 
 pub high-first-spec : {M : Type 1} → statement M
 high-first-spec =

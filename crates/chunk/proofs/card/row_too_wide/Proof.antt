@@ -34,8 +34,8 @@ too-wide-requires c κs = search needs
 returns : tie.Need-returns Inv-loop μ-loop
 unfolding rowTooWide
 returns c =
-    sym
-    (any-some _ 12 (c .before .before .before .loop .z) (c .before .before .loop-test .taken) (sym (c .before .too-wide .ensures) ∙ c .if1 .taken))
+    let turn = c .before .before in
+    sym (any-some _ 12 (turn .before .loop .z) (turn .loop-test .taken) (sym (c .before .too-wide .ensures) ∙ c .if1 .taken))
 
 add-z : tie.Need-add-z Inv-loop μ-loop
 add-z c = search needs
@@ -45,7 +45,8 @@ loop-less c = search needs
 
 loop-again : tie.Need-loop-again Inv-loop μ-loop
 loop-again c =
-    (omega arith, below-more _ _ (c .before .before .before .loop .inv .1) (sym (c .before .too-wide .ensures) ∙ c .if1 .left))
+    let loop = c .before .before .before .loop in
+    (omega arith, below-more _ _ (loop .inv .1) (sym (c .before .too-wide .ensures) ∙ c .if1 .left))
 
 returns-2 : tie.Need-returns-2 Inv-loop μ-loop
 unfolding rowTooWide

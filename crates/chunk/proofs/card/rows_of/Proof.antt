@@ -45,16 +45,18 @@ loop-less c = search needs
 
 loop-again : tie.Need-loop-again Inv-loop μ-loop
 loop-again c =
+    let first = c .before .before .before .before in
+    let card = first .args .card .now in
     let loop = c .before .before .loop in
     let row = c .high-first .result in
-    let here = getD-set-same (loop .rows) (loop .z) row 0 (omega arith) ∙ c .high-first .ensures .0
-    ∙ sym (row-of-bytes (c .before .before .before .before .args .card .now) (loop .z) (omega arith)) in
-    let below : (j : ℕ) → j < loop .z → getD (set (loop .rows) (loop .z) row) j 0 ≡ rowOf (c .before .before .before .before .args .card .now) j =
+    let is-row = c .high-first .ensures .0 ∙ sym (row-of-bytes card (loop .z) (omega arith)) in
+    let here = getD-set-same (loop .rows) (loop .z) row 0 (omega arith) ∙ is-row in
+    let below : (j : ℕ) → j < loop .z → getD (set (loop .rows) (loop .z) row) j 0 ≡ rowOf card j =
     λ j h. getD-set-other (loop .rows) (loop .z) j row 0 (omega arith) ∙ loop .inv .2 j h in
     (omega arith, simp length-set (loop .inv .1), below-more _ _ below here)
 
 returns : tie.Need-returns Inv-loop μ-loop
-returns c = rows-alike _ (c .before .loop .rows) (c .before .loop .inv .1) (λ z h. c .before .loop .inv .2 z (omega arith))
+returns c = let loop = c .before .loop in rows-alike _ (loop .rows) (loop .inv .1) (λ z h. loop .inv .2 z (omega arith))
 
 pub rows-of-spec : {M : Type 1} → statement M
 rows-of-spec =

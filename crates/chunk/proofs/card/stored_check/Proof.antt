@@ -1,4 +1,4 @@
--- `chunk::card::stored_check` meets its contract: the check is the number in the last two bytes. Assumes nothing.
+-- `chunk::card::stored_check` meets its contract: the check is the number in the last two bytes, below 65,536. Assumes nothing.
 use borrow.Author.Needs.{needs}
 use Rattle.model.specs.Card.{storedCheck}
 use Rattle.chunk.proofs.card.stored_check.Statement.{statement}

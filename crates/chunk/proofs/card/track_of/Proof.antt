@@ -1,4 +1,4 @@
--- `chunk::card::track_of` meets its contract: two bytes make a number below 65,536. Assumes nothing.
+-- `chunk::card::track_of` meets its contract: the track is the number in bytes 2 and 3, below 65,536. Assumes nothing.
 use borrow.Author.Needs.{needs}
 use Rattle.model.specs.Card.{trackOf}
 use Rattle.chunk.proofs.card.track_of.Statement.{statement}

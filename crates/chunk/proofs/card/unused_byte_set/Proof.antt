@@ -35,7 +35,10 @@ loop-less : tie.Need-loop-less Inv-loop μ-loop
 loop-less c = search needs
 
 loop-again : tie.Need-loop-again Inv-loop μ-loop
-loop-again c = (omega arith, join-more (λ j. byte (c .before .before .before .args .card .now) (100 + j)) (c .before .before .loop .joined) (c .before .before .loop .i) (c .before .before .loop .inv .1))
+loop-again c =
+    let loop = c .before .before .loop in
+    let first = c .before .before .before in
+    (omega arith, join-more (λ j. byte (first .args .card .now) (100 + j)) (loop .joined) (loop .i) (loop .inv .1))
 
 returns : tie.Need-returns Inv-loop μ-loop
 unfolding unusedByteSet

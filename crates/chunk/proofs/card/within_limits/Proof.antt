@@ -1,5 +1,5 @@
--- `chunk::card::within_limits` meets its contract: each way out is one of the limits' tests, in their order.
--- Assumes nothing.
+-- `chunk::card::within_limits` meets its contract: the code asks the definition's tests in their order, the first four turned
+-- round. Each way out knows that those before it passed, and these decide the definition's value. Assumes nothing.
 use borrow.Author.Tests.{le-leb, lt-leb}
 use Rattle.model.specs.Card.{withinLimits}
 use Rattle.chunk.proofs.card.within_limits.Statement.{statement}
@@ -15,17 +15,26 @@ returns-2 c = simp (le-leb _ _ (c .before .if1 .left), lt-leb _ _ (c .if2 .taken
 
 returns-3 : tie.Need-returns-3
 unfolding withinLimits
-returns-3 c = simp (le-leb _ _ (c .before .before .if1 .left), le-leb _ _ (c .before .if2 .left), lt-leb _ _ (c .if3 .taken))
+returns-3 c =
+    let second = c .before in
+    let first = second .before in
+    simp (le-leb _ _ (first .if1 .left), le-leb _ _ (second .if2 .left), lt-leb _ _ (c .if3 .taken))
 
 returns-4 : tie.Need-returns-4
 unfolding withinLimits
 returns-4 c =
-    simp (le-leb _ _ (c .before .before .before .if1 .left), le-leb _ _ (c .before .before .if2 .left), le-leb _ _ (c .before .if3 .left), lt-leb _ _ (c .if4 .taken))
+    let third = c .before in
+    let second = third .before in
+    let first = second .before in
+    simp (le-leb _ _ (first .if1 .left), le-leb _ _ (second .if2 .left), le-leb _ _ (third .if3 .left), lt-leb _ _ (c .if4 .taken))
 
 returns-5 : tie.Need-returns-5
 unfolding withinLimits
 returns-5 c =
-    simp (le-leb _ _ (c .before .before .before .if1 .left), le-leb _ _ (c .before .before .if2 .left), le-leb _ _ (c .before .if3 .left), le-leb _ _ (c .if4 .left))
+    let third = c .before in
+    let second = third .before in
+    let first = second .before in
+    simp (le-leb _ _ (first .if1 .left), le-leb _ _ (second .if2 .left), le-leb _ _ (third .if3 .left), le-leb _ _ (c .if4 .left))
 
 pub within-limits-spec : {M : Type 1} → statement M
 within-limits-spec = tie.close (tie.spec returns returns-2 returns-3 returns-4 returns-5)

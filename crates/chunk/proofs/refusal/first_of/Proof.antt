@@ -1,4 +1,5 @@
--- `chunk::refusal::first_of` meets its contract: the test decides. Assumes nothing.
+-- `chunk::refusal::first_of` meets its contract: the code tests what the definition tests, whether the upper number is 0.
+-- Assumes nothing.
 use borrow.Author.Tests.{eq-eqb, ne-eqb}
 use Rattle.chunk.proofs.refusal.first_of.Statement.{statement}
 use Rattle.chunk.proofs.refusal.first_of.Tie as tie
