@@ -48,7 +48,7 @@ pub record AtBehind (n low high : ℕ) (row : ℕ → ℕ) (last word least h : 
   pub at-most-met : AtMostMet low high row h least
   pub greatest : (b : ℕ) → b ≤ n → AtMostMet low high row h b → b ≤ least
 
-module _ (n low high : ℕ) (row : ℕ → ℕ) where
+module _ (low high : ℕ) (row : ℕ → ℕ) where
   -- what the inner loop finds in the table, said of the sums of rows
   of-table : (sums : List ℕ) (h word from start least : ℕ) → Table low row sums → word ≡ sumOfRows (behind low row) high (gray h)
       → LeastOf (λ j. ones (bitXor (getD sums j 0) word)) from (2 ^ low) start least
@@ -57,11 +57,60 @@ module _ (n low high : ℕ) (row : ℕ → ℕ) where
       least-of-same (λ j. ones (bitXor (getD sums j 0) word)) from (λ j. ones (both low high row h j)) (2 ^ low) start least
       (λ j l. rw (table j l, is-word))
 
-  pub at-start : (sums : List ℕ) (two size least : ℕ) → Table low row sums → two ≡ 2 ^ high → size ≡ 2 ^ low
+module _ (n low high : ℕ) (row : ℕ → ℕ) (narrow : Narrow n (low + high) row) where
+  -- the weight of set g of all rows, by its two parts
+  weight-of-parts : (g i j : ℕ) → g % 2 ^ low ≡ gray j → g / 2 ^ low ≡ gray i
+      → weight n (sumOfRows row (low + high) g) ≡ ones (both low high row i j)
+  weight-of-parts g i j is-low is-high =
+      weight-ones n (sumOfRows row (low + high) g) (rows-below n row (low + high) g narrow)
+      ∙ ap ones (rows-split row low high g ∙ rw (is-low, is-high))
+
+  -- the loops meet every nonempty set of rows ...
+  each-met : (b : ℕ) → AtMostMet low high row (2 ^ high - 1) b → AtMostEach n (low + high) row b
+  each-met b met g pos below =
+      by-parts (gray-onto low (g % 2 ^ low) (mod-lt g (pow-pos low)))
+      (gray-onto high (g / 2 ^ low) (shr-lt high low (rw (add-comm high low) below)))
+    where
+      some : (i j : ℕ) → gray j ≡ g % 2 ^ low → gray i ≡ g / 2 ^ low → 0 < i + j
+      some i j is-low is-high =
+          ⊎-elim
+          (λ (none : i + j ≡ 0).
+          let no-i : i ≡ 0 = omega arith in
+          let no-j : j ≡ 0 = omega arith in
+          let none-low : g % 2 ^ low ≡ 0 = sym is-low ∙ ap gray no-j ∙ gray-zero in
+          let none-high : g / 2 ^ low ≡ 0 = sym is-high ∙ ap gray no-i ∙ gray-zero in
+          let empty : g ≡ 0 = sym (pow.split g low) ∙ rw (none-high, none-low, zero-mul) in
+          omega arith)
+          (λ (l : 0 < i + j). l)
+          (eq-zero-or-pos (i + j))
+
+      by-parts : (j : ℕ) × (j < 2 ^ low) × (gray j ≡ g % 2 ^ low) → (i : ℕ) × (i < 2 ^ high) × (gray i ≡ g / 2 ^ low)
+          → b ≤ weight n (sumOfRows row (low + high) g)
+      by-parts (j, j-below, is-low) (i, i-below, is-high) =
+          rw (weight-of-parts g i j (sym is-low) (sym is-high))
+          (met i j (le-ones high i-below) j-below (some i j is-low is-high))
+
+  -- ... and nothing else
+  only-met : (b : ℕ) → AtMostEach n (low + high) row b → AtMostMet low high row (2 ^ high - 1) b
+  only-met b each i j l m pos =
+      let g : ℕ = gray i * 2 ^ low + gray j in
+      let j-below : gray j < 2 ^ low = gray-below low j m in
+      let i-below : gray i < 2 ^ high = gray-below high i (lt-of-le-ones high l) in
+      let block : suc (gray i) * 2 ^ low ≤ 2 ^ high * 2 ^ low = mul-le-mul-right (2 ^ low) i-below in
+      let some : 0 < g =
+      ⊎-elim (λ (none : i ≡ 0). omega (arith, gray-positive j (omega arith)))
+      (λ (up : 0 < i). omega (arith, mul-pos (gray-positive i up) (pow-pos low)))
+      (eq-zero-or-pos i) in
+      rw (← (weight-of-parts g i j (pow.low (gray i) low j-below) (pow.high (gray i) low j-below)))
+      (each g some (rw (pow-add 2 low high) (omega arith)))
+
+module _ {n low high : ℕ} {row : ℕ → ℕ} where
+  -- before the first turn: the sets of low rows alone
+  pub at-start : (sums : List ℕ) {two size least : ℕ} → Table low row sums → two ≡ 2 ^ high → size ≡ 2 ^ low
       → LeastOf (λ j. ones (bitXor (getD sums j 0) 0)) 1 size n least → AtBehind n low high row (two - 1) 0 least 0
-  at-start sums two size least table is-two is-size found =
+  at-start sums {least = least} table is-two is-size found =
       let none : 0 ≡ sumOfRows (behind low row) high (gray 0) = sym (rows-start (behind low row) high) in
-      let (at-most, at-most-each, greatest) = of-table sums 0 0 1 n least table none (rw (← is-size) found) in
+      let (at-most, at-most-each, greatest) = of-table low high row sums 0 0 1 n least table none (rw (← is-size) found) in
       record {
         end = omega (arith, pow-pos high);
         within = omega arith;
@@ -72,19 +121,20 @@ module _ (n low high : ℕ) (row : ℕ → ℕ) where
       }
 
   -- the row that is added is one of the twelve
-  pub row-behind : low + high ≤ 12 → (last word least h : ℕ) → AtBehind n low high row last word least h → h < last
+  pub row-behind : low + high ≤ 12 → {last word least h : ℕ} → AtBehind n low high row last word least h → h < last
       → low + trailingZeros 32 (h + 1) < 12
-  row-behind twelve last word least h at more = omega (arith, row-below high h (omega arith) (omega arith))
+  row-behind twelve {h = h} at more = omega (arith, row-below high h (omega arith) (omega arith))
 
-  pub at-next : high ≤ 12 → (sums : List ℕ) (size last word least h least′ : ℕ) → Table low row sums → size ≡ 2 ^ low
+  -- a turn
+  pub at-next : high ≤ 12 → (sums : List ℕ) {size last word least h least′ : ℕ} → Table low row sums → size ≡ 2 ^ low
       → AtBehind n low high row last word least h → h < last
       → let next = bitXor word (row (low + trailingZeros 32 (h + 1))) in
       LeastOf (λ j. ones (bitXor (getD sums j 0) next)) 0 size least least′ → AtBehind n low high row last next least′ (h + 1)
-  at-next twelve sums size last word least h least′ table is-size at more found =
+  at-next twelve sums {word = word} {least = least} {h = h} {least′ = least′} table is-size at more found =
       let next : ℕ = bitXor word (row (low + trailingZeros 32 (h + 1))) in
       let current : next ≡ sumOfRows (behind low row) high (gray (h + 1)) =
       word-next high h twelve (omega arith) (behind low row) word (at .current) in
-      let (at-most, at-most-each, greatest) = of-table sums (h + 1) next 0 least least′ table current (rw (← is-size) found) in
+      let (at-most, at-most-each, greatest) = of-table low high row sums (h + 1) next 0 least least′ table current (rw (← is-size) found) in
       record {
         end = at .end;
         within = omega arith;
@@ -101,59 +151,13 @@ module _ (n low high : ℕ) (row : ℕ → ℕ) where
             (λ j lo m. all (h + 1) j (omega arith) m (omega arith));
       }
 
-  module _ (narrow : Narrow n (low + high) row) where
-    -- the weight of set g of all rows, by its two parts
-    weight-of-parts : (g i j : ℕ) → g % 2 ^ low ≡ gray j → g / 2 ^ low ≡ gray i
-        → weight n (sumOfRows row (low + high) g) ≡ ones (both low high row i j)
-    weight-of-parts g i j is-low is-high =
-        weight-ones n (sumOfRows row (low + high) g) (rows-below n row (low + high) g narrow)
-        ∙ ap ones (rows-split row low high g ∙ rw (is-low, is-high))
-
-    -- the loops meet every nonempty set of rows ...
-    each-met : (b : ℕ) → AtMostMet low high row (2 ^ high - 1) b → AtMostEach n (low + high) row b
-    each-met b met g pos below =
-        by-parts (gray-onto low (g % 2 ^ low) (mod-lt g (pow-pos low)))
-        (gray-onto high (g / 2 ^ low) (shr-lt high low (rw (add-comm high low) below)))
-      where
-        some : (i j : ℕ) → gray j ≡ g % 2 ^ low → gray i ≡ g / 2 ^ low → 0 < i + j
-        some i j is-low is-high =
-            ⊎-elim
-            (λ (none : i + j ≡ 0).
-            let no-i : i ≡ 0 = omega arith in
-            let no-j : j ≡ 0 = omega arith in
-            let none-low : g % 2 ^ low ≡ 0 = sym is-low ∙ ap gray no-j ∙ gray-zero in
-            let none-high : g / 2 ^ low ≡ 0 = sym is-high ∙ ap gray no-i ∙ gray-zero in
-            let empty : g ≡ 0 = sym (pow.split g low) ∙ rw (none-high, none-low, zero-mul) in
-            omega arith)
-            (λ (l : 0 < i + j). l)
-            (eq-zero-or-pos (i + j))
-
-        by-parts : (j : ℕ) × (j < 2 ^ low) × (gray j ≡ g % 2 ^ low) → (i : ℕ) × (i < 2 ^ high) × (gray i ≡ g / 2 ^ low)
-            → b ≤ weight n (sumOfRows row (low + high) g)
-        by-parts (j, j-below, is-low) (i, i-below, is-high) =
-            rw (weight-of-parts g i j (sym is-low) (sym is-high))
-            (met i j (le-ones high i-below) j-below (some i j is-low is-high))
-
-    -- ... and nothing else
-    only-met : (b : ℕ) → AtMostEach n (low + high) row b → AtMostMet low high row (2 ^ high - 1) b
-    only-met b each i j l m pos =
-        let g : ℕ = gray i * 2 ^ low + gray j in
-        let j-below : gray j < 2 ^ low = gray-below low j m in
-        let i-below : gray i < 2 ^ high = gray-below high i (lt-of-le-ones high l) in
-        let block : suc (gray i) * 2 ^ low ≤ 2 ^ high * 2 ^ low = mul-le-mul-right (2 ^ low) i-below in
-        let some : 0 < g =
-        ⊎-elim (λ (none : i ≡ 0). omega (arith, gray-positive j (omega arith)))
-        (λ (up : 0 < i). omega (arith, mul-pos (gray-positive i up) (pow-pos low)))
-        (eq-zero-or-pos i) in
-        rw (← (weight-of-parts g i j (pow.low (gray i) low j-below) (pow.high (gray i) low j-below)))
-        (each g some (rw (pow-add 2 low high) (omega arith)))
-
-  pub at-end : (k last word least h : ℕ) → low + high ≡ k → AtBehind n low high row last word least h → last ≤ h
+  -- at the end all nonempty sets are met
+  pub at-end : {k last word least h : ℕ} → low + high ≡ k → AtBehind n low high row last word least h → last ≤ h
       → Narrow n k row → least ≡ leastOfSets n k row (2 ^ k - 1)
-  at-end k last word least h is-k at done =
+  at-end {least = least} {h = h} is-k at done =
       let all : h ≡ 2 ^ high - 1 = omega arith in
       rw (← is-k)
       (λ narrow.
       least-in-any-order n (low + high) row least (at .at-most-n)
-      (each-met narrow least (rw all at (at .at-most-met)))
-      (λ b hi each. at .greatest b hi (rw all (only-met narrow b each))))
+      (each-met n low high row narrow least (rw all at (at .at-most-met)))
+      (λ b hi each. at .greatest b hi (rw all (only-met n low high row narrow b each))))

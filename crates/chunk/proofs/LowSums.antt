@@ -27,10 +27,11 @@ pub record AtSum (low : ℕ) (row : ℕ → ℕ) (last : ℕ) (sums : List ℕ) 
   pub current : sum ≡ sumOfRows row low (gray i)
   pub entries : (j : ℕ) → j < i + 1 → getD sums j 0 ≡ sumOfRows row low (gray j)
 
-module _ (low : ℕ) (row : ℕ → ℕ) where
-  pub sum-start : (two : ℕ) (sums : List ℕ) → two ≡ 2 ^ low → length sums ≡ 32 → getD sums 0 0 ≡ 0
+module _ {low : ℕ} {row : ℕ → ℕ} where
+  -- before the first turn: the sum of no rows
+  pub sum-start : {two : ℕ} {sums : List ℕ} → two ≡ 2 ^ low → length sums ≡ 32 → getD sums 0 0 ≡ 0
       → AtSum low row (two - 1) sums 0 0
-  sum-start two sums is-two whole first =
+  sum-start is-two whole first =
       record {
         end = omega (arith, pow-pos low);
         within = omega arith;
@@ -40,16 +41,17 @@ module _ (low : ℕ) (row : ℕ → ℕ) where
       }
 
   -- the next entry is one of the table's 32
-  pub sum-room : low ≤ 5 → (last : ℕ) (sums : List ℕ) (sum i : ℕ) → AtSum low row last sums sum i → i < last → i + 1 < 32
-  sum-room five last sums sum i at more = omega (arith, pow-mono {i = low} {j = 5} five)
+  pub sum-room : low ≤ 5 → {last : ℕ} {sums : List ℕ} {sum i : ℕ} → AtSum low row last sums sum i → i < last → i + 1 < 32
+  sum-room five at more = omega (arith, pow-mono {i = low} {j = 5} five)
 
-  pub sum-next : low ≤ 5 → (last : ℕ) (sums : List ℕ) (sum i : ℕ) → AtSum low row last sums sum i → i < last
+  -- a turn
+  pub sum-next : low ≤ 5 → {last : ℕ} {sums : List ℕ} {sum i : ℕ} → AtSum low row last sums sum i → i < last
       → let next = bitXor sum (row (trailingZeros 32 (i + 1))) in AtSum low row last (set sums (i + 1) next) next (i + 1)
-  sum-next five last sums sum i at more =
+  sum-next five {sums = sums} {sum = sum} {i = i} at more =
       let next : ℕ = bitXor sum (row (trailingZeros 32 (i + 1))) in
       let current : next ≡ sumOfRows row low (gray (i + 1)) =
       word-next low i (omega arith) (omega arith) row sum (at .current) in
-      let room : i + 1 < length sums = omega (arith, sum-room five last sums sum i at more) in
+      let room : i + 1 < length sums = omega (arith, sum-room five at more) in
       record {
         end = at .end;
         within = omega arith;
@@ -60,5 +62,6 @@ module _ (low : ℕ) (row : ℕ → ℕ) where
             (getD-set-same sums (i + 1) next 0 room ∙ current);
       }
 
-  pub sum-end : (last : ℕ) (sums : List ℕ) (sum i : ℕ) → AtSum low row last sums sum i → last ≤ i → Table low row sums
-  sum-end last sums sum i at done j below = at .entries j (omega arith)
+  -- at the end the table is full
+  pub sum-end : {last : ℕ} {sums : List ℕ} {sum i : ℕ} → AtSum low row last sums sum i → last ≤ i → Table low row sums
+  sum-end at done j below = at .entries j (omega arith)

@@ -2,7 +2,7 @@
 -- are set in Gray(i), each taken once or not at all, so that no product overflows. A sound code's rows lie within n bits, and so
 -- does their sum. The measure is the rows that are left. Assumes nothing.
 use Prim.Native.Nat.{_-_, _≤_}
-use mathlib.Core.Path.{_≡_, refl, _∙_}
+use mathlib.Core.Path.{_≡_, _∙_}
 use borrow.Author.Needs.{needs}
 use native.Mathlib.Omega.{arith}
 use lib.ListN.{getD}
@@ -25,7 +25,7 @@ gray-number-requires c κs = search needs
 
 loop-holds : tie.Need-loop-holds Inv-loop μ-loop
 unfolding sumOfRows
-loop-holds c = (omega arith, refl)
+loop-holds c = search needs
 
 cast-row : tie.Need-cast-row Inv-loop μ-loop
 cast-row c = search needs

@@ -57,7 +57,7 @@ loop-holds : tie.Need-loop-holds Inv-loop μ-loop
 loop-holds c =
     let table = c .before .before .before in
     let found = c .before .least-of .ensures in
-    at-start _ _ _ _ (table .low-sums .result) _ _ _ (table .low-sums .ensures) (c .two-to2 .ensures) (table .before .two-to .ensures)
+    at-start (table .low-sums .result) (table .low-sums .ensures) (c .two-to2 .ensures) (table .before .two-to .ensures)
     (found .0, found .1 .0, found .1 .1)
 
 add-h : tie.Need-add-h Inv-loop μ-loop
@@ -72,7 +72,7 @@ parted c = filled c .before .before
 
 -- the number of the row that is added
 row : (c : tie.In-loop Inv-loop μ-loop) → parted (c .before) .low-rows .result + trailingZeros 32 (c .before .loop .h + 1) < 12
-row c = row-behind _ _ _ _ (omega arith) _ _ _ _ (c .before .loop .inv) (c .loop-test .taken)
+row c = row-behind (omega arith) (c .before .loop .inv) (c .loop-test .taken)
 
 add-z : tie.Need-add-z Inv-loop μ-loop
 add-z c = omega (arith, row c)
@@ -97,7 +97,7 @@ loop-again c =
     let turn = c .before .before in
     let table = filled (turn .before) in
     let found = c .least-of2 .ensures in
-    at-next _ _ _ _ (omega arith) (table .low-sums .result) _ _ _ _ _ _ (table .low-sums .ensures) (table .before .two-to .ensures)
+    at-next (omega arith) (table .low-sums .result) (table .low-sums .ensures) (table .before .two-to .ensures)
     (turn .before .loop .inv) (turn .loop-test .taken) (found .0, found .1 .0, found .1 .1)
 
 cast-result : tie.Need-cast-result Inv-loop μ-loop
@@ -106,7 +106,7 @@ cast-result c = search needs
 returns : tie.Need-returns Inv-loop μ-loop
 returns c =
     let first = parted (c .before) .before in
-    at-end _ _ _ _ (first .args .k) _ _ _ _ (omega arith) (c .before .loop .inv) (c .loop-test .left)
+    at-end {k = first .args .k} (omega arith) (c .before .loop .inv) (c .loop-test .left)
 
 pub least-weight-spec : {M : Type 1} → statement M
 least-weight-spec =

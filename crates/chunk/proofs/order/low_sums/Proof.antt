@@ -26,7 +26,7 @@ sub-last : tie.Need-sub-last Inv-loop μ-loop
 sub-last c = omega (arith, pow-pos (c .before .args .low))
 
 loop-holds : tie.Need-loop-holds Inv-loop μ-loop
-loop-holds c = sum-start _ _ _ _ (c .two-to .ensures) refl refl
+loop-holds c = sum-start (c .two-to .ensures) refl refl
 
 add-i : tie.Need-add-i Inv-loop μ-loop
 add-i c = search needs
@@ -38,7 +38,7 @@ row c =
 
 -- the number of the entry that is written
 room : (c : tie.In-loop Inv-loop μ-loop) → c .before .loop .i + 1 < 32
-room c = let first = c .before .before .before in sum-room _ _ (first .pre) _ _ _ _ (c .before .loop .inv) (c .loop-test .taken)
+room c = let first = c .before .before .before in sum-room (first .pre) (c .before .loop .inv) (c .loop-test .taken)
 
 cast-z : tie.Need-cast-z Inv-loop μ-loop
 cast-z c = omega (arith, row c)
@@ -53,7 +53,7 @@ cast-sums : tie.Need-cast-sums Inv-loop μ-loop
 cast-sums c = search needs
 
 mul-sums : tie.Need-mul-sums Inv-loop μ-loop
-mul-sums c = omega (arith, room c)
+mul-sums c = search needs
 
 array-write-sums : tie.Need-array-write-sums Inv-loop μ-loop
 array-write-sums c = room c
@@ -63,10 +63,10 @@ loop-less c = search needs
 
 loop-again : tie.Need-loop-again Inv-loop μ-loop
 loop-again c =
-    let first = c .before .before .before in sum-next _ _ (first .pre) _ _ _ _ (c .before .loop .inv) (c .loop-test .taken)
+    let first = c .before .before .before in sum-next (first .pre) (c .before .loop .inv) (c .loop-test .taken)
 
 returns : tie.Need-returns Inv-loop μ-loop
-returns c = sum-end _ _ _ _ _ _ (c .before .loop .inv) (c .loop-test .left)
+returns c = sum-end (c .before .loop .inv) (c .loop-test .left)
 
 pub low-sums-spec : {M : Type 1} → statement M
 low-sums-spec =
