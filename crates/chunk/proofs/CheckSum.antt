@@ -28,6 +28,7 @@ EndsAt b end = (end ≤ 510) × (sumBelow (summand b) 510 ≡ sumBelow (summand 
 pub ends-at-all : (b : List ℕ) → EndsAt b 510
 ends-at-all b = (omega arith, refl)
 
+-- where no unused byte is set, it ends at place 100
 pub ends-at-used : (b : List ℕ) → unusedByteSet b ≡ false → EndsAt b 100
 unfolding unusedByteSet
 ends-at-used b none =

@@ -11,7 +11,7 @@ use lib.Dec.{eqb}
 use Rattle.bits.specs.Searches.{anyBelow}
 use Rattle.bits.proofs.Numbers.{eq-or-ne}
 
--- a join is not 0 where one of the two is not
+-- a join is not 0 just where one of the two is not
 join-set : (x y : ℕ) → not (eqb (bitOr x y) 0) ≡ (not (eqb x 0) || not (eqb y 0))
 join-set x y =
     ⊎-elim

@@ -87,8 +87,9 @@ refused-requires-2 c κs = search needs
 returns-2 : tie.Need-returns-2
 returns-2 c =
     let summed = c .before .before in
+    let first = summed .before .before .before in
     refused-from _ _ 2 (c .refused2 .ensures)
-    (refusal-2 _ (summed .before .before .before .if1 .left)
+    (refusal-2 _ (first .if1 .left)
     (λ e. c .before .if2 .taken (summed .before .stored-check .ensures ∙ e ∙ sym (summed .computed-check .ensures))))
     (λ e. omega arith)
 
