@@ -8,6 +8,7 @@ use borrow.Author.Tests.{eq-eqb, ne-eqb, eqb-true, ltb-false}
 use native.Mathlib.Omega.{arith}
 use lib.Dec.{eqb, ltb}
 use lib.ListN.{length}
+use Rattle.model.specs.Card.{codeOf}
 use Rattle.model.specs.Decoded.{meaning}
 use Rattle.model.specs.Order.{lastPosition}
 use Rattle.model.specs.Words.{wordBytes}
@@ -58,40 +59,53 @@ module _ (card : List ℕ) (position : ℕ) (lent : List ℕ) where
   unfolding writeAnswer lentAfterWrite
   refused refusal e ne = meets (Refused refusal) lent (rw (e, ne-eqb refusal 0 ne)) (rw (e, ne-eqb refusal 0 ne))
 
-  module _ (decoded : Decoded) (from : DecodedFrom card decoded) where
-    -- refusals 1 to 5
-    pub card-refused : (decoded .refusal ≡ 0 → ⊥) → Meets (Refused (decoded .refusal)) lent
-    unfolding writeRefusal
-    card-refused ne = refused (decoded .refusal) (rw (← (from .refusal), ne-eqb (decoded .refusal) 0 ne)) ne
+  -- refusals 1 to 5
+  pub card-refused : (decoded : Decoded) → DecodedFrom card decoded → (decoded .refusal ≡ 0 → ⊥) → Meets (Refused (decoded .refusal)) lent
+  unfolding writeRefusal
+  card-refused decoded from ne = refused (decoded .refusal) (rw (← (from .refusal), ne-eqb (decoded .refusal) 0 ne)) ne
 
-    -- refusals 6 and 7, the first of which is answered
-    module _ (sound : decoded .refusal ≡ 0) (size last refusal : ℕ) (is-size : size ≡ wordLength (meaning (decoded .code)))
-        (is-last : last ≡ lastPosition (meaning (decoded .code)))
-        (is : refusal ≡ firstOf (refusalIf (not (eqb (length lent) size)) 6) (refusalIf (ltb last position) 7)) where
-      by-tests : refusal ≡ cond (not (eqb (length lent) size)) 6 (cond (ltb last position) 7 0)
-      by-tests = is ∙ first-by-tests (not (eqb (length lent) size)) (ltb last position) 6 7 (omega arith)
+-- what is measured once the card has passed: the length of its words, its last position, and the first of refusals 6 and 7 by them
+pub record Measured (card : List ℕ) (position : ℕ) (lent : List ℕ) (decoded : Decoded) (size last refusal : ℕ) : Type 0 where
+  pub from : DecodedFrom card decoded
+  pub passed : decoded .refusal ≡ 0
+  pub is-size : size ≡ wordLength (meaning (decoded .code))
+  pub is-last : last ≡ lastPosition (meaning (decoded .code))
+  pub is-first : refusal ≡ firstOf (refusalIf (not (eqb (length lent) size)) 6) (refusalIf (ltb last position) 7)
 
-      word-refusal : writeRefusal card position lent ≡ refusal
-      unfolding writeRefusal
-      word-refusal = rw (← (from .refusal), eq-eqb (decoded .refusal) 0 sound, ← (from .code sound), ← is-size, ← is-last, by-tests)
+module _ {card : List ℕ} {position : ℕ} {lent : List ℕ} {decoded : Decoded} {size last refusal : ℕ}
+    (measured : Measured card position lent decoded size last refusal) where
+  is-code : meaning (decoded .code) ≡ codeOf card
+  is-code = measured .from .code (measured .passed)
 
-      pub word-refused : (refusal ≡ 0 → ⊥) → Meets (Refused refusal) lent
-      word-refused ne = refused refusal word-refusal ne
+  by-tests : refusal ≡ cond (not (eqb (length lent) size)) 6 (cond (ltb last position) 7 0)
+  by-tests = measured .is-first ∙ first-by-tests (not (eqb (length lent) size)) (ltb last position) 6 7 (omega arith)
 
-      -- where none holds, the lent word has the right length and the position is on the track
-      within : (above : Bool) → ltb last position ≡ above → refusalIf above 7 ≡ 0 → position ≤ last
-      within true test e = absurd (omega arith)
-      within false test e = ltb-false last position test
+  word-refusal : writeRefusal card position lent ≡ refusal
+  unfolding writeRefusal
+  word-refusal =
+      rw (← (measured .from .refusal), eq-eqb (decoded .refusal) 0 (measured .passed), ← is-code)
+      (rw (← (measured .is-size), ← (measured .is-last), by-tests))
 
-      whole : (same : Bool) → eqb (length lent) size ≡ same → cond (not same) 6 (refusalIf (ltb last position) 7) ≡ 0
-          → (position ≤ last) × (length lent ≡ size)
-      whole true test e = (within (ltb last position) refl e, eqb-true (length lent) size test)
-      whole false test e = absurd (omega arith)
+  -- refusals 6 and 7, the first of which is answered
+  pub word-refused : (refusal ≡ 0 → ⊥) → Meets card position lent (Refused refusal) lent
+  word-refused ne = refused card position lent refusal word-refusal ne
 
-      pub servable : refusal ≡ 0 → (position ≤ last) × (length lent ≡ size)
-      servable none = whole (eqb (length lent) size) refl (sym by-tests ∙ none)
+  -- where neither holds, the lent word has the right length and the position is on the track
+  within : (above : Bool) → ltb last position ≡ above → refusalIf above 7 ≡ 0 → position ≤ last
+  within true test e = absurd (omega arith)
+  within false test e = ltb-false last position test
 
-      pub written : refusal ≡ 0 → (left : List ℕ) → left ≡ wordBytes (meaning (decoded .code)) position → Meets Written left
-      unfolding writeAnswer lentAfterWrite
-      written none left e =
-          meets Written left (rw (word-refusal ∙ none)) (rw (word-refusal ∙ none, ← (from .code sound)) e)
+  whole : (same : Bool) → eqb (length lent) size ≡ same → cond (not same) 6 (refusalIf (ltb last position) 7) ≡ 0
+      → (position ≤ last) × (length lent ≡ size)
+  whole true test e = (within (ltb last position) refl e, eqb-true (length lent) size test)
+  whole false test e = absurd (omega arith)
+
+  pub servable : refusal ≡ 0
+      → (position ≤ lastPosition (meaning (decoded .code))) × (length lent ≡ wordLength (meaning (decoded .code)))
+  servable none = rw (← (measured .is-size), ← (measured .is-last)) (whole (eqb (length lent) size) refl (sym by-tests ∙ none))
+
+  pub written : refusal ≡ 0 → (left : List ℕ) → left ≡ wordBytes (meaning (decoded .code)) position
+      → Meets card position lent Written left
+  unfolding writeAnswer lentAfterWrite
+  written none left e =
+      meets card position lent Written left (rw (word-refusal ∙ none)) (rw (word-refusal ∙ none, ← is-code) e)

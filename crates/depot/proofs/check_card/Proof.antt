@@ -1,4 +1,5 @@
--- `depot::check_card` meets its contract: the card's bytes are those that were decoded. Assumes nothing.
+-- `depot::check_card` meets its contract: it is answered what is right for whichever card was decoded so, and this card was.
+-- Assumes nothing.
 use borrow.Author.Needs.{needs}
 use Rattle.depot.proofs.check_card.Statement.{statement}
 use Rattle.depot.proofs.check_card.Tie as tie

@@ -1,4 +1,6 @@
--- `depot::read_word` meets its contract: one law for each way out. Assumes nothing.
+-- `depot::read_word` meets its contract: a card that is refused is answered by its refusal, and past the card's test the code is
+-- sound, as the reader asks; either answer is the one that the definition gives, of which the demands are theorems.
+-- Assumes nothing.
 use borrow.Author.Needs.{needs}
 use Rattle.depot.proofs.Reading.{card-refused, word-read}
 use Rattle.depot.proofs.read_word.Statement.{statement}
@@ -9,17 +11,17 @@ decode-requires c κs = search needs
 
 returns : tie.Need-returns
 returns c =
-    let asked = c .before .before .before .before .before .args in
-    card-refused _ (asked .word .now) _ (c .before .before .decode .ensures) (c .if1 .taken)
+    let first = c .before .before .before .before .before in
+    card-refused _ (first .args .word .now) _ (c .before .before .decode .ensures) (c .if1 .taken)
 
 read-requires : tie.Need-read-requires
 read-requires c κs = c .before .before .decode .ensures .sound (c .if1 .left)
 
 returns-2 : tie.Need-returns-2
 returns-2 c =
-    let decoded = c .before in
-    let asked = decoded .before .before .before .before .before .args in
-    word-read _ (asked .word .now) _ (decoded .before .before .decode .ensures) (decoded .if1 .left) _ (c .read .ensures)
+    let passed = c .before in
+    let first = passed .before .before .before .before .before in
+    word-read _ (first .args .word .now) _ (passed .before .before .decode .ensures) (passed .if1 .left) _ (c .read .ensures)
 
 pub read-word-spec : {M : Type 1} → statement M
 read-word-spec = tie.close (tie.spec decode-requires returns read-requires returns-2)
