@@ -6,10 +6,12 @@ use Rattle.bits.specs.Sums.{sumBelow, distance, joinAt}
 use Rattle.bits.specs.Walk.{walk}
 use Rattle.bits.specs.Places.{weight, place}
 use Rattle.bits.specs.Searches.{anyBelow, firstFrom, first, leastAt, greatest}
-use Rattle.model.specs.Card.{highFirst, trackOf, rowOf, storedCheck, computedCheck, sumOfRows, leastWeight, codeOf, withinLimits, rowTooWide, unusedRowSet, unusedByteSet, misplaced, dependent, cardRefusal}
+use Rattle.model.specs.Card.{highFirst, trackOf, rowOf, storedCheck, computedCheck, sumOfRows, leastWeight, codeOf}
+use Rattle.model.specs.Card.{withinLimits, rowTooWide, unusedRowSet, unusedByteSet, misplaced, dependent, cardRefusal}
 use Rattle.model.specs.Order.{gray, lastCodeword, codeword, changedRow, changedWeight, start, lastPosition}
 use Rattle.model.specs.Words.{fiveChunks, word, blockOf, wordAt}
-use Rattle.model.specs.Reading.{majority, chunkDistance, chunkReading, ruleOf, ruleNamed, rule₁, rule₂, rule₃, allowedBy, allowed, residual, nearest, reading}
+use Rattle.model.specs.Reading.{majority, chunkDistance, chunkReading, ruleOf, ruleNamed, rule₁, rule₂, rule₃}
+use Rattle.model.specs.Reading.{allowedBy, allowed, residual, nearest, reading}
 use Rattle.model.specs.Answers.{summaryOf, cardAnswer, spareSet, readWord}
 use Rattle.model.specs.Cases.{rowBytes, sealed, cardOf, cardB}
 use Rattle.report.specs.Text.{ascii, digitsWithin, decimal}
@@ -22,5 +24,19 @@ words = 0x7f ∷ 0x00 ∷ 0x5f ∷ 0x00 ∷ 0xc0 ∷ 0x01 ∷ 0x00 ∷ 0x80 ∷ 
 
 pub example : reportOf (cardB ++ words)
     ≡ ascii "track 14 last 15 radius 1\n1 at 7 residual 0 rule 2\n2 at 5 residual 1 rule 2\n3 refused 9\n4 refused 8\nwords 4 read 2\n"
-unfolding sumBelow distance joinAt walk weight place anyBelow firstFrom first leastAt greatest highFirst trackOf rowOf storedCheck computedCheck sumOfRows leastWeight codeOf withinLimits rowTooWide unusedRowSet unusedByteSet misplaced dependent cardRefusal gray lastCodeword codeword changedRow changedWeight start lastPosition fiveChunks word blockOf wordAt majority chunkDistance chunkReading ruleOf ruleNamed rule₁ rule₂ rule₃ allowedBy allowed residual nearest reading summaryOf cardAnswer spareSet readWord rowBytes sealed cardOf cardB ascii digitsWithin decimal cardLine wordLine shortLine lastLine wordLines readCount wordsRead wordsReport reportOf
+unfolding sumBelow distance joinAt
+    walk
+    weight place
+    anyBelow firstFrom first leastAt greatest
+    highFirst trackOf rowOf storedCheck computedCheck sumOfRows leastWeight codeOf
+    withinLimits rowTooWide unusedRowSet unusedByteSet misplaced dependent cardRefusal
+    gray lastCodeword codeword changedRow changedWeight start lastPosition
+    fiveChunks word blockOf wordAt
+    majority chunkDistance chunkReading ruleOf ruleNamed rule₁ rule₂ rule₃
+    allowedBy allowed residual nearest reading
+    summaryOf cardAnswer spareSet readWord
+    rowBytes sealed cardOf cardB
+    ascii digitsWithin decimal
+    cardLine wordLine shortLine lastLine
+    wordLines readCount wordsRead wordsReport reportOf
 example = refl
