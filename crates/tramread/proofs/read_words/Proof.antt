@@ -21,32 +21,45 @@ Inv-loop code input₀ out₀ w full held₀ met₀ read₀ turns₀ input out h
 abbrev μ-loop : tie.MeasureT-loop
 μ-loop code input₀ out₀ w full held₀ met₀ read₀ turns₀ input out held met read turns = turns
 
+-- the way back: from a turn's write to what the turn took in, to what it received, and to the head of the loop; from there to where
+-- the words' length was measured, and to the call
+abbrev taken : tie.Else2 Inv-loop μ-loop → tie.After-take-in Inv-loop μ-loop
+taken c = c .before .before .before .before .before .before .before
+
+abbrev received : tie.After-take-in Inv-loop μ-loop → tie.After-receive Inv-loop μ-loop
+received c = c .before .before .before .before .before .before
+
+abbrev head : tie.After-receive Inv-loop μ-loop → tie.At-loop Inv-loop μ-loop
+head c = c .before .before .before
+
+abbrev measured : tie.At-loop Inv-loop μ-loop → tie.After-word-length Inv-loop μ-loop
+measured c = c .before
+
+abbrev first : tie.At-loop Inv-loop μ-loop → tie.Start Inv-loop μ-loop
+first c = measured c .before .before .before
+
 -- what has come in has no more than 1,600 whole words
-few : (c : tie.After-receive Inv-loop μ-loop)
-    → c .receive .result / wordLength (meaning (c .before .before .before .before .before .before .before .args .code)) ≤ 1600
+few : (c : tie.After-receive Inv-loop μ-loop) → c .receive .result / wordLength (meaning (first (head c) .args .code)) ≤ 1600
 few c =
-    let measured = c .before .before .before .before in
-    rw (← (measured .word-length .ensures .0)) (div-le-of-le-mul (measured .word-length .result) (omega (arith, c .receive .ensures .0)))
+    let length-of = measured (head c) .word-length in
+    rw (← (length-of .ensures .0)) (div-le-of-le-mul (length-of .result) (omega arith))
 
 -- it stands in the buffer
 arrived : (c : tie.After-receive Inv-loop μ-loop) → length (take (c .receive .result) (c .receive .last .0)) ≡ c .receive .result
-arrived c =
-    length-take-le _ _
-    (omega (arith, c .receive .ensures .0, c .receive .kept .0, c .before .before .before .loop .inv, c .before .before .before .before .word-length .ensures))
+arrived c = length-take-le _ _ (omega arith)
 
 -- what a turn gives, in numbers
 turned : (c : tie.After-take-in Inv-loop μ-loop)
-    → let measured = c .before .before .before .before .before .before .before .before .before .before in
-    (c .take-in .result .words ≤ 1600) × (c .take-in .result .held < measured .word-length .result)
+    → let come = c .before .before .before .before .before .before in
+    (c .take-in .result .words ≤ 1600) × (c .take-in .result .held < measured (head come) .word-length .result)
     × (c .take-in .result .next ≤ length (c .take-in .last .0))
 turned c =
-    let received = c .before .before .before .before .before .before in
-    let turn = received .before .before .before in
-    let measured = turn .before in
-    let words : c .take-in .result .words ≤ 1600 = rw (c .take-in .ensures .words, arrived received) (few received) in (
+    let come = c .before .before .before .before .before .before in
+    let length-of = measured (head come) .word-length in
+    let words : c .take-in .result .words ≤ 1600 = rw (c .take-in .ensures .words, arrived come) (few come) in (
       words,
-      rw (c .take-in .ensures .held, ← (measured .word-length .ensures .0)) (mod-lt _ (measured .word-length .ensures .1)),
-      omega (arith, c .take-in .ensures .room, c .take-in .kept .0, turn .loop .inv .1),
+      rw (c .take-in .ensures .held, ← (length-of .ensures .0)) (mod-lt _ (length-of .ensures .1)),
+      omega arith,
     )
 
 word-length-requires : tie.Need-word-length-requires Inv-loop μ-loop
@@ -63,18 +76,9 @@ receive-requires c κs = search needs
 
 take-in-requires : tie.Need-take-in-requires Inv-loop μ-loop
 take-in-requires c κs =
-    let received = c .before .before .before .before .before in
-    let turn = received .before .before .before in
-    let measured = turn .before in
-    let start = measured .before .before .before in
-    let words = few received in (
-      start .pre .0,
-      (
-        omega (arith, received .receive .ensures .0, received .receive .kept .0, turn .loop .inv, measured .word-length .ensures),
-        omega (arith, turn .loop .inv .1),
-        omega (arith, turn .loop .inv .3),
-      ),
-    )
+    let come = c .before .before .before .before .before in
+    let words = few come in
+    (first (head come) .pre .0, (omega arith, omega arith, omega arith))
 
 slice-reshare-prefix-write-all : tie.Need-slice-reshare-prefix-write-all Inv-loop μ-loop
 slice-reshare-prefix-write-all c = turned (c .before .before .before .before) .2
@@ -95,14 +99,10 @@ returns : tie.Need-returns Inv-loop μ-loop
 returns c = search needs
 
 add-met : tie.Need-add-met Inv-loop μ-loop
-add-met c =
-    let taken = c .before .before .before .before .before .before .before in
-    omega (arith, turned taken .0, taken .before .before .before .before .before .before .before .before .before .loop .inv .3)
+add-met c = omega (arith, turned (taken c) .0)
 
 add-read : tie.Need-add-read Inv-loop μ-loop
-add-read c =
-    let taken = c .before .before .before .before .before .before .before .before in
-    omega (arith, turned taken .0, taken .take-in .ensures .few, taken .before .before .before .before .before .before .before .before .before .loop .inv)
+add-read c = omega (arith, turned (taken (c .before)) .0)
 
 sub-turns : tie.Need-sub-turns Inv-loop μ-loop
 sub-turns c = search needs
@@ -112,15 +112,14 @@ loop-less c = search needs
 
 loop-again : tie.Need-loop-again Inv-loop μ-loop
 loop-again c =
-    let taken = c .before .before .before .before .before .before .before .before in
-    let received = taken .before .before .before .before .before .before in
-    let turn = received .before .before in
-    let inv = turn .before .loop .inv in (
-      taken .take-in .kept .1 .1 .0 ∙ received .receive .kept .0 ∙ inv .0,
-      taken .take-in .kept .0 ∙ inv .1,
-      turned taken .1,
-      omega (arith, turned taken .0, inv .3, turn .loop-test .taken),
-      omega (arith, taken .take-in .ensures .few, inv .4),
+    let turn = taken (c .before) in
+    let come = received turn in
+    let inv = head come .loop .inv in (
+      turn .take-in .kept .1 .1 .0 ∙ come .receive .kept .0 ∙ inv .0,
+      turn .take-in .kept .0 ∙ inv .1,
+      turned turn .1,
+      omega (arith, turned turn .0),
+      omega arith,
     )
 
 put-end-requires : tie.Need-put-end-requires Inv-loop μ-loop
@@ -130,8 +129,7 @@ slice-reshare-prefix-write-all-2 : tie.Need-slice-reshare-prefix-write-all-2 Inv
 slice-reshare-prefix-write-all-2 c = search needs
 
 slice-aggregate-write-all-2 : tie.Need-slice-aggregate-write-all-2 Inv-loop μ-loop
-slice-aggregate-write-all-2 c =
-    sym (length-take-le _ _ (omega (arith, c .before .before .before .put-end .ensures .1, c .before .before .before .put-end .kept .0)))
+slice-aggregate-write-all-2 c = sym (length-take-le _ _ (omega arith))
 
 write-all-requires-2 : tie.Need-write-all-requires-2 Inv-loop μ-loop
 write-all-requires-2 c κs = search needs
@@ -142,7 +140,7 @@ same-length-3 c =
     let inv = left .before .loop .inv in
     let whole : length (left .loop-test .input) ≡ 64000 =
     ⊎-elim (λ w. rw (w .1) (inv .0)) (λ w. rw (w .6) (w .2 .kept .0 ∙ inv .0)) (left .loop-test .came) in
-    whole ∙ sym (left .before .before .before .before .before .pre .1 .0)
+    whole ∙ sym (first (left .before) .pre .1 .0)
 
 same-length-4 : tie.Need-same-length-4 Inv-loop μ-loop
 same-length-4 c = search needs
