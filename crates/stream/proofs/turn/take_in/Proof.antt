@@ -1,4 +1,5 @@
--- `stream::turn::take_in` meets its contract: n / w words of w bytes are whole, and n % w bytes are left. Assumes nothing.
+-- `stream::turn::take_in` meets its contract: n / w words of w bytes are whole, and their lines are those that are put; the n % w
+-- bytes that are left are those behind the whole words, and these are kept. Assumes nothing.
 use Prim.Native.Nat.{ℕ, _+_, _-_, _*_, _/_, _≤_}
 use mathlib.Core.Path.{_≡_, sym, ap, _∙_}
 use mathlib.Core.List.{List}
@@ -19,11 +20,15 @@ tail-behind-words bytes n w room =
     let whole : ℕ = n / w * w in
     let within : whole ≤ n = div-mul-le-self n w in
     let split : n ≡ whole + (n - whole) = omega arith in
-    sym (ap (λ (k : ℕ). drop whole (take k bytes)) split ∙ rw take-add (drop-at (take whole bytes) (take (n - whole) (drop whole bytes)) whole (length-take-le whole bytes (omega arith))))
+    let front : length (take whole bytes) ≡ whole = length-take-le whole bytes (omega arith) in
+    sym
+    (ap (λ (k : ℕ). drop whole (take k bytes)) split
+    ∙ rw take-add (drop-at (take whole bytes) (take (n - whole) (drop whole bytes)) whole front))
 
 -- n bytes have come in
-arrived : (c : tie.After-word-length) → let args = c .before .before .before .args in length (take (args .n) (args .input .now)) ≡ args .n
-arrived c = length-take-le _ _ (c .before .before .before .pre .1 .0)
+arrived : (c : tie.After-word-length)
+    → let first = c .before .before .before in length (take (first .args .n) (first .args .input .now)) ≡ first .args .n
+arrived c = let first = c .before .before .before in length-take-le _ _ (first .pre .1 .0)
 
 word-length-requires : tie.Need-word-length-requires
 word-length-requires c κs = search needs
@@ -40,23 +45,25 @@ slice-aggregate-put-words c = sym (arrived (c .before .before))
 put-words-requires : tie.Need-put-words-requires
 put-words-requires c κs =
     let measured = c .before .before in
-    let start = measured .before .before .before in
+    let first = measured .before .before .before in
     let w = measured .word-length .result in
-    let whole : start .args .n / w * w ≤ start .args .n = div-mul-le-self (start .args .n) w in
-    let each : wordLength (meaning (start .args .code)) ≡ w = sym (measured .word-length .ensures .0) in (
-      start .pre .0,
-      (rw (each, arrived measured) whole, rw (zero-add, ← each) (start .pre .1 .1), rw each at (start .pre .1 .2)),
+    let whole : first .args .n / w * w ≤ first .args .n = div-mul-le-self (first .args .n) w in
+    let each : wordLength (meaning (first .args .code)) ≡ w = sym (measured .word-length .ensures .0) in (
+      first .pre .0,
+      (rw (each, arrived measured) whole, rw (zero-add, ← each) (first .pre .1 .1), rw each at (first .pre .1 .2)),
     )
 
 mul-keep-tail : tie.Need-mul-keep-tail
 mul-keep-tail c =
     let measured = c .before .before .before .before .before .before in
-    omega (arith, div-mul-le-self (measured .before .before .before .args .n) (measured .word-length .result))
+    let first = measured .before .before .before in
+    omega (arith, div-mul-le-self (first .args .n) (measured .word-length .result))
 
 keep-tail-requires : tie.Need-keep-tail-requires
 keep-tail-requires c κs =
     let measured = c .before .before .before .before .before .before in
-    (div-mul-le-self _ _, measured .before .before .before .pre .1 .0)
+    let first = measured .before .before .before in
+    (div-mul-le-self _ _, first .pre .1 .0)
 
 same-length : tie.Need-same-length
 same-length c = search needs
@@ -69,8 +76,8 @@ returns c =
     let kept = c .before .before in
     let put = kept .before .before .before .before in
     let measured = put .before .before .before in
-    let start = measured .before .before .before in
-    let n = start .args .n in
+    let first = measured .before .before .before in
+    let n = first .args .n in
     let w = measured .word-length .result in
     let is-length = measured .word-length .ensures .0 in
     record {
@@ -78,7 +85,7 @@ returns c =
       held = rw (arrived measured, ← is-length) (kept .keep-tail .ensures .0 ∙ sym (mod-eq-sub-div-mul n w));
       lines = put .put-words .ensures .0;
       read = put .put-words .ensures .1 .1 .0;
-      kept = rw (← is-length) (kept .keep-tail .ensures .1 ∙ tail-behind-words (start .args .input .now) n w (start .pre .1 .0));
+      kept = rw (← is-length) (kept .keep-tail .ensures .1 ∙ tail-behind-words (first .args .input .now) n w (first .pre .1 .0));
       few = put .put-words .ensures .1 .1 .1;
       room = rw zero-add at (put .put-words .ensures .1 .0);
     }

@@ -35,13 +35,17 @@ loop-holds c =
 
 -- the word that a turn reads lies within the lent bytes
 lent : (c : tie.In-loop Inv-loop μ-loop)
-    → c .before .loop .from + c .before .before .word-length .result ≤ length (c .before .before .before .before .before .args .bytes .now)
+    → let measured = c .before .before in
+    let first = measured .before .before .before in
+    c .before .loop .from + measured .word-length .result ≤ length (first .args .bytes .now)
 lent c =
-    let w = c .before .before .word-length .result in
-    let args = c .before .before .before .before .before .args in
+    let measured = c .before .before in
+    let first = measured .before .before .before in
+    let args = first .args in
+    let w = measured .word-length .result in
     let i = c .before .loop .i in
     let inside : i * w + w ≤ args .words * w = within w i (args .words) (c .loop-test .taken) in
-    let whole : args .words * w ≤ length (args .bytes .now) = rw (c .before .before .word-length .ensures .0) (c .before .before .before .before .before .pre .1 .0) in
+    let whole : args .words * w ≤ length (args .bytes .now) = rw (measured .word-length .ensures .0) (first .pre .1 .0) in
     omega (arith, c .before .loop .inv .1)
 
 add-to : tie.Need-add-to Inv-loop μ-loop
@@ -83,8 +87,9 @@ loop-again c =
     let heard = line .before .before in
     let turn = heard .before .before in
     let loop = turn .before .loop in
-    let args = turn .before .before .before .before .before .args in
-    let length-of = turn .before .before .word-length in
+    let measured = turn .before .before in
+    let args = measured .before .before .before .args in
+    let length-of = measured .word-length in
     let i = loop .i in
     let C = meaning (args .code) in
     let answer : heard .read .result ≡ answerAt C (args .bytes .now) i =
@@ -105,7 +110,8 @@ same-length c = search needs
 returns : tie.Need-returns Inv-loop μ-loop
 returns c =
     let loop = c .before .loop in
-    let args = c .before .before .before .before .before .args in
+    let measured = c .before .before in
+    let args = measured .before .before .before .args in
     let all : loop .i ≡ args .words = omega arith in
     rw (← all) (loop .inv .2, (loop .inv .3, (loop .inv .4, loop .inv .5)))
 
