@@ -60,8 +60,8 @@ returns c =
     let track = last .before .before .before .before .before .before in
     let arm = track .before .before .before .before .before in
     rw (arm .answer .given .1) (
-      puts-then (omega (arith, track))
-          (puts-then (omega (arith, track)) (track .put-field .ensures .0) (last .put-field2 .ensures .0))
+      puts-then (omega arith)
+          (puts-then (omega arith) (track .put-field .ensures .0) (last .put-field2 .ensures .0))
           (radius .put-last-field .ensures .0),
       omega arith,
     )

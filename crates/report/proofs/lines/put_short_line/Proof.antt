@@ -1,4 +1,5 @@
--- `report::lines::put_short_line` meets its contract: nothing is put, or the line. Assumes nothing.
+-- `report::lines::put_short_line` meets its contract: where there is no byte nothing is put, and else the one field that the line
+-- has. Assumes nothing.
 use native.Mathlib.Omega.{arith}
 use borrow.Author.Needs.{needs}
 use borrow.Author.Tests.{eq-eqb, ne-eqb}
@@ -25,7 +26,8 @@ returns-2 : tie.Need-returns-2
 unfolding ascii shortLine
 returns-2 c =
     let line = c .before .before in
-    (simp (ne-eqb _ 0 (line .before .before .before .if1 .left)) (line .put-last-field .ensures .0), omega arith)
+    let some = line .before .before .before in
+    (simp (ne-eqb _ 0 (some .if1 .left)) (line .put-last-field .ensures .0), omega arith)
 
 pub put-short-line-spec : {M : Type 1} → statement M
 put-short-line-spec =

@@ -65,12 +65,12 @@ returns c =
     let arm = position .before .before .before .before in
     let number = arm .before .before .before .before in
     rw (arm .answer .given .1) (
-      puts-then (omega (arith, number))
-          (puts-then (omega (arith, number))
-          (puts-then (omega (arith, number)) (number .put-number .ensures .0) (position .put-field .ensures .0))
+      puts-then (omega arith)
+          (puts-then (omega arith)
+          (puts-then (omega arith) (number .put-number .ensures .0) (position .put-field .ensures .0))
           (residual .put-field2 .ensures .0))
           (rule .put-last-field .ensures .0),
-      omega (arith, number),
+      omega arith,
     )
 
 same-length-2 : tie.Need-same-length-2
@@ -83,7 +83,7 @@ returns-2 c =
     let arm = refusal .before .before .before .before in
     let number = arm .before .before .before .before in
     rw (arm .answer2 .given .1) (
-      puts-then (omega (arith, number)) (number .put-number .ensures .0) (refusal .put-last-field2 .ensures .0),
+      puts-then (omega arith) (number .put-number .ensures .0) (refusal .put-last-field2 .ensures .0),
       omega arith,
     )
 
