@@ -46,7 +46,7 @@ lent c =
     let i = c .before .loop .i in
     let inside : i * w + w ≤ args .words * w = within w i (args .words) (c .loop-test .taken) in
     let whole : args .words * w ≤ length (args .bytes .now) = rw (measured .word-length .ensures .0) (first .pre .1 .0) in
-    omega (arith, c .before .loop .inv .1)
+    omega arith
 
 add-to : tie.Need-add-to Inv-loop μ-loop
 add-to c = omega (arith, lent c)
@@ -98,9 +98,9 @@ loop-again c =
       rw (add-mul, one-mul, loop .inv .1),
       rw (lines-next C (args .bytes .now) i (args .met), ← answer)
           (puts-then (omega arith) (loop .inv .2) (line .put-word-line .ensures .0)),
-      omega (arith, line .put-word-line .ensures .1),
+      omega arith,
       rw (read-next C (args .bytes .now) i, ← answer, c .read-count .ensures .0, loop .inv .4),
-      omega (arith, c .read-count .ensures),
+      omega arith,
       line .put-word-line .kept .0 ∙ loop .inv .6,
     )
 
