@@ -6,7 +6,7 @@ use mathlib.Core.Logic.{⊎-elim}
 use borrow.Author.Tests.{ne-eqb}
 use native.Mathlib.Numerals.{add-one}
 use native.Mathlib.Omega.{arith}
-use lib.Bits.{bitOr, or-add-and, or-zero-l, and-le-l, and-le-r}
+use lib.Bits.{bitOr, or-add-and, or-zero-l, and-le-r}
 use lib.Dec.{eqb}
 use Rattle.bits.specs.Searches.{anyBelow}
 use Rattle.bits.proofs.Numbers.{eq-or-ne}
@@ -17,7 +17,7 @@ join-set x y =
     ⊎-elim
     (λ (none : x ≡ 0). rw (none, or-zero-l y))
     (λ (some : x ≡ 0 → ⊥).
-    let still : bitOr x y ≡ 0 → ⊥ = λ e. some (omega (arith, or-add-and x y, and-le-l x y, and-le-r x y)) in
+    let still : bitOr x y ≡ 0 → ⊥ = λ e. some (omega (arith, or-add-and x y, and-le-r x y)) in
     rw (ne-eqb x 0 some, ne-eqb (bitOr x y) 0 still))
     (eq-or-ne x 0)
 
