@@ -1,6 +1,7 @@
 -- `chunk::order::least_weight` meets its contract: the loop steps through the sums of the rows behind the low ones in Gray order, and
--- keeps what `AtBehind` says: `word` is the sum at `h`, and `least` the least of n and of the weights of all sets met, of low rows
--- and of rows up to there. At the end all nonempty sets are met. The measure is the sums that are left. Assumes nothing.
+-- keeps what `AtBehind` says: `word` is the sum at `h`, and `least` the least of n and of the weights of all sets met, each a set of
+-- low rows with one of the rows behind. At the end all nonempty sets are met. The measure is the sums that are left.
+-- Assumes nothing.
 use Prim.Native.Nat.{_+_, _-_, _≤_, _<_}
 use native.Mathlib.Omega.{arith}
 use borrow.Author.Needs.{needs}
@@ -16,6 +17,13 @@ Inv-loop n k rows low size sums least₀ last word₀ h₀ least word h = AtBehi
 
 abbrev μ-loop : tie.MeasureT-loop
 μ-loop n k rows low size sums least₀ last word₀ h₀ least word h = last - h
+
+-- the way back from before the loop: to where the table is filled, and to where the low rows are parted from those behind
+abbrev filled : tie.After-two-to2 Inv-loop μ-loop → tie.After-low-sums Inv-loop μ-loop
+filled c = c .before .before .before
+
+abbrev parted : tie.After-two-to2 Inv-loop μ-loop → tie.After-low-rows Inv-loop μ-loop
+parted c = filled c .before .before
 
 low-rows-requires : tie.Need-low-rows-requires Inv-loop μ-loop
 low-rows-requires c κs = search needs
@@ -34,8 +42,7 @@ cast-least-of c = search needs
 
 -- the table has room for the sums of the low rows
 room : (c : tie.After-two-to Inv-loop μ-loop) → c .two-to .result ≤ 32
-room c =
-    let parted = c .before in omega (arith, pow-mono {i = parted .low-rows .result} {j = 5} (parted .low-rows .ensures .0))
+room c = let low = c .before .low-rows in omega (arith, pow-mono {i = low .result} {j = 5} (low .ensures .0))
 
 least-of-requires : tie.Need-least-of-requires Inv-loop μ-loop
 least-of-requires c κs =
@@ -49,13 +56,11 @@ two-to-requires-2 : tie.Need-two-to-requires-2 Inv-loop μ-loop
 two-to-requires-2 c κs = search needs
 
 sub-last : tie.Need-sub-last Inv-loop μ-loop
-sub-last c =
-    let parted = c .before .before .before .before .before in
-    omega (arith, pow-pos (parted .before .args .k - parted .low-rows .result))
+sub-last c = omega (arith, pow-pos (parted c .before .args .k - parted c .low-rows .result))
 
 loop-holds : tie.Need-loop-holds Inv-loop μ-loop
 loop-holds c =
-    let table = c .before .before .before in
+    let table = filled c in
     let found = c .before .least-of .ensures in
     at-start (table .low-sums .result) (table .low-sums .ensures) (c .two-to2 .ensures) (table .before .two-to .ensures)
     (found .0, found .1 .0, found .1 .1)
@@ -63,15 +68,8 @@ loop-holds c =
 add-h : tie.Need-add-h Inv-loop μ-loop
 add-h c = search needs
 
--- where the sums of the low rows were asked for, and where the low rows were parted from those behind, seen from the loop
-abbrev filled : tie.At-loop Inv-loop μ-loop → tie.After-low-sums Inv-loop μ-loop
-filled c = c .before .before .before .before
-
-abbrev parted : tie.At-loop Inv-loop μ-loop → tie.After-low-rows Inv-loop μ-loop
-parted c = filled c .before .before
-
 -- the number of the row that is added
-row : (c : tie.In-loop Inv-loop μ-loop) → parted (c .before) .low-rows .result + trailingZeros 32 (c .before .loop .h + 1) < 12
+row : (c : tie.In-loop Inv-loop μ-loop) → parted (c .before .before) .low-rows .result + trailingZeros 32 (c .before .loop .h + 1) < 12
 row c = row-behind (omega arith) (c .before .loop .inv) (c .loop-test .taken)
 
 add-z : tie.Need-add-z Inv-loop μ-loop
@@ -87,7 +85,7 @@ array-read-word : tie.Need-array-read-word Inv-loop μ-loop
 array-read-word c = row c
 
 least-of-requires-2 : tie.Need-least-of-requires-2 Inv-loop μ-loop
-least-of-requires-2 c κs = let turn = c .before in (omega arith, room (filled (turn .before) .before))
+least-of-requires-2 c κs = let turn = c .before in (omega arith, room (filled (turn .before .before) .before))
 
 loop-less : tie.Need-loop-less Inv-loop μ-loop
 loop-less c = search needs
@@ -95,7 +93,7 @@ loop-less c = search needs
 loop-again : tie.Need-loop-again Inv-loop μ-loop
 loop-again c =
     let turn = c .before .before in
-    let table = filled (turn .before) in
+    let table = filled (turn .before .before) in
     let found = c .least-of2 .ensures in
     at-next (omega arith) (table .low-sums .result) (table .low-sums .ensures) (table .before .two-to .ensures)
     (turn .before .loop .inv) (turn .loop-test .taken) (found .0, found .1 .0, found .1 .1)
@@ -105,7 +103,7 @@ cast-result c = search needs
 
 returns : tie.Need-returns Inv-loop μ-loop
 returns c =
-    let first = parted (c .before) .before in
+    let first = parted (c .before .before) .before in
     at-end {k = first .args .k} (omega arith) (c .before .loop .inv) (c .loop-test .left)
 
 pub least-weight-spec : {M : Type 1} → statement M
