@@ -1,5 +1,5 @@
--- `chunk::card::row_too_wide` meets its contract. The loop's invariant: no row below `z` is too wide. The measure is the rows
--- that are left. Assumes nothing.
+-- `chunk::card::row_too_wide` meets its contract. The loop's invariant: no row below `z` is too wide. So the first that is answers
+-- true, and past the last none is. The measure is the rows that are left. Assumes nothing.
 use Prim.Native.Nat.{ℕ, _^_, _-_, _≤_, _<_}
 use mathlib.Core.Path.{_≡_, sym, _∙_}
 use mathlib.Core.Bool.{false}

@@ -1,5 +1,5 @@
--- `chunk::card::rows_of` meets its contract. The loop's invariant: the rows below `z` stand in the array. The measure is the rows
--- that are left. Assumes nothing.
+-- `chunk::card::rows_of` meets its contract. The loop's invariant: the rows below `z` stand in the array. Past the twelfth, array and
+-- card both give zero, so that the two agree at every number. The measure is the rows that are left. Assumes nothing.
 use Prim.Native.Nat.{ℕ, _-_, _≤_, _<_}
 use mathlib.Core.Path.{_≡_, sym, _∙_}
 use borrow.Author.Count.{below-more}

@@ -1,5 +1,5 @@
--- `chunk::card::unused_row_set` meets its contract. The loop's invariant: no row below `z` is both unused and set. The measure is
--- the rows that are left. Assumes nothing.
+-- `chunk::card::unused_row_set` meets its contract. The loop's invariant: no row below `z` is both unused and set; as the loop
+-- begins, at row k, all of them are used. The measure is the rows that are left. Assumes nothing.
 use Prim.Native.Nat.{ℕ, _-_, _≤_, _<_}
 use mathlib.Core.Path.{_≡_, sym}
 use mathlib.Core.Bool.{false, not, _&&_}
