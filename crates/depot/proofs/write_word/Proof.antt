@@ -21,15 +21,19 @@ entry c = c .before .before .before .before .before
 
 measured : (c : tie.After-first-of)
     → let args = entry (card-passed c) .args in
+    let ended = c .before .before in
+    let sized = ended .before .before in
     Measured (args .card .now) (args .position) (args .word .now) (card-passed c .before .before .decode .result)
-    (c .before .before .before .before .word-length .result) (c .before .before .last-position .result) (c .first-of .result)
+    (sized .word-length .result) (ended .last-position .result) (c .first-of .result)
 measured c =
+    let ended = c .before .before in
+    let sized = ended .before .before in
     record {
       from = card-passed c .before .before .decode .ensures;
       passed = card-passed c .if1 .left;
-      is-size = c .before .before .before .before .word-length .ensures .0;
-      is-last = c .before .before .last-position .ensures;
-      is-first = rw (c .before .before .before .refusal-if .ensures, c .before .refusal-if2 .ensures) at (c .first-of .ensures);
+      is-size = sized .word-length .ensures .0;
+      is-last = ended .last-position .ensures;
+      is-first = rw (ended .before .refusal-if .ensures, c .before .refusal-if2 .ensures) at (c .first-of .ensures);
     }
 
 decode-requires : tie.Need-decode-requires

@@ -81,10 +81,11 @@ take-in-requires c κs =
     (first (head come) .pre .0, (omega arith, omega arith, omega arith))
 
 slice-reshare-prefix-write-all : tie.Need-slice-reshare-prefix-write-all Inv-loop μ-loop
-slice-reshare-prefix-write-all c = turned (c .before .before .before .before) .2
+slice-reshare-prefix-write-all c = let turn = c .before .before .before .before in turned turn .2
 
 slice-aggregate-write-all : tie.Need-slice-aggregate-write-all Inv-loop μ-loop
-slice-aggregate-write-all c = sym (length-take-le _ _ (turned (c .before .before .before .before .before) .2))
+slice-aggregate-write-all c =
+    let turn = c .before .before .before .before .before in sym (length-take-le _ _ (turned turn .2))
 
 write-all-requires : tie.Need-write-all-requires Inv-loop μ-loop
 write-all-requires c κs = search needs
