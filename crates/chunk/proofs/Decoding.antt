@@ -10,7 +10,8 @@ use borrow.Author.Tests.{eq-eqb, ne-eqb}
 use lib.Dec.{eqb}
 use lib.ListN.{length, getD}
 use Rattle.bits.proofs.Numbers.{eq-or-ne, or-false-left}
-use Rattle.model.specs.Card.{lengthOf, rowCountOf, rowOf, codeOf, trackOf, storedCheck, computedCheck, withinLimits, misplaced, cardRefusal, SoundCard, dependent}
+use Rattle.model.specs.Card.{lengthOf, rowCountOf, rowOf, codeOf, trackOf, storedCheck, computedCheck}
+use Rattle.model.specs.Card.{withinLimits, rowTooWide, misplaced, dependent, cardRefusal, SoundCard}
 use Rattle.model.specs.Decoded.{meaning}
 use Rattle.model.specs.declared.Decoded.{Decoded}
 use Rattle.code_theory.specs.LeastOfSets.{leastOfSets}
@@ -19,7 +20,7 @@ use Rattle.code_theory.proofs.SoundCard.{limits-of-test, narrow-of-test, card-t
 use Rattle.chunk.specs.FirstRefusal.{refusalIf, firstOf}
 use Rattle.chunk.proofs.FirstRefusal.{first-by-tests}
 use Rattle.chunk.specs.DecodedFrom.{DecodedFrom}
-use Rattle.chunk.proofs.LeastWeightLoop.{Narrow}
+use Rattle.chunk.proofs.Rows.{Narrow}
 use Rattle.chunk.proofs.Refusals.{refusal-4-5-or-0}
 
 -- the least weight of the sets of a card's rows
@@ -31,12 +32,16 @@ pub least-of-card : (b : List ℕ) (n k distance : ℕ) (row : ℕ → ℕ) → 
     → (Narrow n k row → distance ≡ leastOfSets n k row (2 ^ k - 1)) → Narrow (lengthOf b) (rowCountOf b) (rowOf b) → distance ≡ least b
 least-of-card b n k distance row is-n is-k is-row is-least = rw (← is-n, ← is-k, ← is-row) is-least
 
+-- where the limits hold and no row has a bit past n, the rows are narrow
+narrow-rows : (b : List ℕ) → withinLimits (lengthOf b) (rowCountOf b) ≡ true → rowTooWide (lengthOf b) (rowOf b) ≡ false
+    → Narrow (lengthOf b) (rowCountOf b) (rowOf b)
+narrow-rows b limits test z h =
+    narrow-of-test (lengthOf b) (rowOf b) test z (omega (arith, limits-of-test (lengthOf b) (rowCountOf b) limits .3))
+
 module _ (b : List ℕ) (limits : withinLimits (lengthOf b) (rowCountOf b) ≡ true) where
   narrow : misplaced b ≡ false → Narrow (lengthOf b) (rowCountOf b) (rowOf b)
   unfolding misplaced
-  narrow placed z h =
-      narrow-of-test (lengthOf b) (rowOf b) (or-false-left _ _ (or-false-left _ _ placed)) z
-      (omega (arith, limits-of-test (lengthOf b) (rowCountOf b) limits .3))
+  narrow placed = narrow-rows b limits (or-false-left _ _ (or-false-left _ _ placed))
 
   -- the rows are dependent where their least weight is 0
   dependent-if-zero : misplaced b ≡ false → dependent (rowCountOf b) (rowOf b) ≡ eqb (least b) 0
@@ -55,12 +60,12 @@ module _ (b : List ℕ) (limits : withinLimits (lengthOf b) (rowCountOf b) ≡ t
       → firstOf (refusalIf (misplaced b) 4) (refusalIf (eqb distance 0) 5) ≡ cardRefusal b
   rows-refusal whole checked distance is-least =
       first-by-tests (misplaced b) (eqb distance 0) 4 5 (omega arith)
-      ∙ rw (refusal-4-5-or-0 b whole checked limits) (by-test (misplaced b) refl)
+      ∙ rw (refusal-4-5-or-0 b whole checked limits) (by-place (misplaced b) refl)
     where
-      by-test : (t : Bool) → misplaced b ≡ t
+      by-place : (t : Bool) → misplaced b ≡ t
           → cond t 4 (refusalIf (eqb distance 0) 5) ≡ cond t 4 (refusalIf (dependent (rowCountOf b) (rowOf b)) 5)
-      by-test true e = refl
-      by-test false e = rw (dependent-if-zero e, is-least (narrow e))
+      by-place true e = refl
+      by-place false e = rw (dependent-if-zero e, is-least (narrow e))
 
 -- the code of a sound card
 pub code-of-least : (b : List ℕ) → SoundCard b → (n k distance : ℕ) (rows : List ℕ) → n ≡ lengthOf b → k ≡ rowCountOf b
@@ -69,9 +74,7 @@ pub code-of-least : (b : List ℕ) → SoundCard b → (n k distance : ℕ) (row
 unfolding codeOf
 code-of-least b sound n k distance rows is-n is-k is-rows is-least =
     let tests = card-tests b sound in
-    let fit : Narrow (lengthOf b) (rowCountOf b) (rowOf b) =
-    λ z h. narrow-of-test (lengthOf b) (rowOf b) (tests .rows-narrow) z
-    (omega (arith, limits-of-test (lengthOf b) (rowCountOf b) (tests .limits) .3)) in
+    let fit = narrow-rows b (tests .limits) (tests .rows-narrow) in
     rw (is-n, is-k, is-rows, is-least fit, least-if-independent (lengthOf b) (rowCountOf b) (rowOf b) (tests .rows-independent))
 
 -- a refusal handed back alone

@@ -25,11 +25,8 @@ use Rattle.code_theory.proofs.LeastOfSets.{AtMostEach, least-in-any-order}
 use Rattle.chunk.proofs.GrayStep.{row-below, word-next}
 use Rattle.chunk.proofs.LeastOf.{LeastOf, least-of-same}
 use Rattle.chunk.proofs.LowSums.{Table}
+use Rattle.chunk.proofs.Rows.{Narrow}
 use Rattle.chunk.proofs.SplitRows.{behind, rows-split}
-
--- no row has a bit at n or above
-abbrev pub Narrow : (n k : ℕ) → (ℕ → ℕ) → Type 0
-Narrow n k row = (z : ℕ) → z < k → row z < 2 ^ n
 
 -- the sum of set j of the low rows and set h of the rows behind
 abbrev both : (low high : ℕ) (row : ℕ → ℕ) (h j : ℕ) → ℕ

@@ -36,6 +36,10 @@ rows-alike b rows twelve same =
 
 -- ---- how wide they are
 
+-- no row has a bit at n or above
+abbrev pub Narrow : (n k : ℕ) → (ℕ → ℕ) → Type 0
+Narrow n k row = (z : ℕ) → z < k → row z < 2 ^ n
+
 -- a row has a bit at n or above just where it is not 0 shifted down by n
 pub wide-by-shift : (n row : ℕ) → not (eqb (row / 2 ^ n) 0) ≡ leb (2 ^ n) row
 wide-by-shift n row = ⊎-elim narrow wide (lt-or-le row (2 ^ n))

@@ -12,7 +12,7 @@ use lib.ListN.{length}
 use Rattle.model.specs.Card.{lengthOf, rowCountOf, rowOf, storedCheck, computedCheck, withinLimits, misplaced}
 use Rattle.code_theory.proofs.SoundCard.{limits-of-test}
 use Rattle.chunk.proofs.Decoding.{least, least-of-card, rows-refusal, code-of-least, refused-from, decoded-from}
-use Rattle.chunk.proofs.LeastWeightLoop.{Narrow}
+use Rattle.chunk.proofs.Rows.{Narrow}
 use Rattle.chunk.proofs.Refusals.{refusal-1, refusal-2, refusal-3, misplaced-of-card}
 use Rattle.chunk.proofs.decode.decode.Statement.{statement}
 use Rattle.chunk.proofs.decode.decode.Tie as tie
