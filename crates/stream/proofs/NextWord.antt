@@ -1,16 +1,28 @@
--- One word more: its line follows the lines before it, and it is counted if it is read. The part that is lent of the bytes is
--- the word. Assumes nothing.
-use Prim.Native.Nat.{ℕ, _+_, _-_, _*_}
+-- Words put one after the other: what has been put of the first i, and one word more, whose line follows the lines before it, and
+-- which is counted if it is read. The part that is lent of the bytes is the word. Assumes nothing.
+use Prim.Native.Nat.{ℕ, _+_, _-_, _*_, _≤_}
 use mathlib.Core.Path.{_≡_}
 use mathlib.Core.List.{List, _++_}
 use native.Mathlib.Nat.{add-assoc, add-sub-cancel-left}
 use native.Mathlib.Numerals.{add-one}
-use lib.ListN.{take, drop}
+use lib.ListN.{length, take, drop}
 use Rattle.bits.specs.Sums.{sumBelow}
 use Rattle.model.specs.Card.{Code}
 use Rattle.model.specs.Answers.{wordLength, readWord}
 use Rattle.report.specs.Lines.{wordLine}
+use Rattle.report.specs.Puts.{Puts}
 use Rattle.report.specs.Report.{answerAt, wordLines, readCount, wordsRead}
+
+-- of `words` words of w bytes the lines of the first i have been put, at most 128 bytes each, and of these words those that were
+-- read are counted; word i starts at place `from`
+pub record WordsPutSoFar (C : Code) (bytes : List ℕ) (met words w : ℕ) (out₀ : List ℕ) (at : ℕ) (out : List ℕ) (next read from i : ℕ) : Type 0 where
+  pub within : i ≤ words
+  pub start : from ≡ i * w
+  pub lines : Puts out₀ at (wordLines C bytes met i) out next
+  pub room : next ≤ at + i * 128
+  pub counted : read ≡ wordsRead C bytes i
+  pub few : read ≤ i
+  pub same-length : length out ≡ length out₀
 
 module _ (C : Code) (bytes : List ℕ) (i : ℕ) where
   pub lines-next : (met : ℕ) → wordLines C bytes met (i + 1) ≡ wordLines C bytes met i ++ wordLine (met + (i + 1)) (answerAt C bytes i)

@@ -1,29 +1,17 @@
 -- `stream::turn::take_in` meets its contract: n / w words of w bytes are whole, and their lines are those that are put; the n % w
 -- bytes that are left are those behind the whole words, and these are kept. Assumes nothing.
-use Prim.Native.Nat.{ℕ, _+_, _-_, _*_, _/_, _≤_}
-use mathlib.Core.Path.{_≡_, sym, ap, _∙_}
-use mathlib.Core.List.{List}
+use Prim.Native.Nat.{_-_, _*_, _/_, _≤_}
+use mathlib.Core.Path.{_≡_, sym, _∙_}
 use native.Mathlib.Nat.{zero-add, div-mul-le-self, mod-eq-sub-div-mul}
 use native.Mathlib.Omega.{arith}
 use borrow.Author.Needs.{needs}
-use lib.ListN.{length, take, drop}
-use lib.Seq.{length-take-le, take-add, drop-at}
+use lib.ListN.{length, take}
+use lib.Seq.{length-take-le}
 use Rattle.model.specs.Decoded.{meaning}
 use Rattle.model.specs.Answers.{wordLength}
+use Rattle.stream.proofs.Pieces.{tail-behind-words}
 use Rattle.stream.proofs.turn.take_in.Statement.{statement}
 use Rattle.stream.proofs.turn.take_in.Tie as tie
-
--- the bytes short of a word, of the n bytes that have come in, are what is left behind the whole words
-tail-behind-words : (bytes : List ℕ) (n w : ℕ) → n ≤ length bytes
-    → take (n - n / w * w) (drop (n / w * w) bytes) ≡ drop (n / w * w) (take n bytes)
-tail-behind-words bytes n w room =
-    let whole : ℕ = n / w * w in
-    let within : whole ≤ n = div-mul-le-self n w in
-    let split : n ≡ whole + (n - whole) = omega arith in
-    let front : length (take whole bytes) ≡ whole = length-take-le whole bytes (omega arith) in
-    sym
-    (ap (λ (k : ℕ). drop whole (take k bytes)) split
-    ∙ rw take-add (drop-at (take whole bytes) (take (n - whole) (drop whole bytes)) whole front))
 
 -- n bytes have come in
 arrived : (c : tie.After-word-length)

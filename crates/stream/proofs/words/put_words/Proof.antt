@@ -1,25 +1,23 @@
--- `stream::words::put_words` meets its contract. The loop's invariant: the lines of the first `i` words have been put, the words read
--- among them counted, and `from` is where word `i` starts. The measure is the words that are left. Assumes nothing.
+-- `stream::words::put_words` meets its contract. The loop keeps what `WordsPutSoFar` says of the first `i` words; the part that is lent
+-- is word `i`, so its line follows. The measure is the words that are left. Assumes nothing.
 use Prim.Native.Nat.{_+_, _-_, _*_, _≤_}
 use mathlib.Core.Path.{_≡_, refl, sym, _∙_}
 use native.Mathlib.Nat.{zero-mul, add-mul, one-mul}
 use lib.ListN.{length}
 use Rattle.bits.specs.Sums.{sumBelow}
 use Rattle.model.specs.Decoded.{meaning}
-use Rattle.report.specs.Puts.{Puts}
 use Rattle.report.specs.Report.{answerAt, wordLines, wordsRead}
 use Rattle.report.proofs.Puts.{puts-then, puts-nothing}
 use borrow.Author.Needs.{needs}
 use native.Mathlib.Omega.{arith}
 use Rattle.stream.proofs.Pieces.{within}
-use Rattle.stream.proofs.NextWord.{lines-next, read-next, part-is-word}
+use Rattle.stream.proofs.NextWord.{WordsPutSoFar, lines-next, read-next, part-is-word}
 use Rattle.stream.proofs.words.put_words.Statement.{statement}
 use Rattle.stream.proofs.words.put_words.Tie as tie
 
 abbrev Inv-loop : tie.InvT-loop
 Inv-loop out₀ at code bytes met words w next₀ read₀ from₀ i₀ out next read from i =
-    (i ≤ words) × (from ≡ i * w) × Puts out₀ at (wordLines (meaning code) bytes met i) out next × (next ≤ at + i * 128)
-    × (read ≡ wordsRead (meaning code) bytes i) × (read ≤ i) × (length out ≡ length out₀)
+    WordsPutSoFar (meaning code) bytes met words w out₀ at out next read from i
 
 abbrev μ-loop : tie.MeasureT-loop
 μ-loop out₀ at code bytes met words w next₀ read₀ from₀ i₀ out next read from i = words - i
@@ -31,7 +29,15 @@ loop-holds : tie.Need-loop-holds Inv-loop μ-loop
 unfolding wordLines wordsRead sumBelow
 loop-holds c =
     let args = c .before .before .before .args in
-    (omega arith, sym (zero-mul (c .word-length .result)), puts-nothing (args .out .now) (args .at), omega arith, refl, omega arith, refl)
+    record {
+      within = omega arith;
+      start = sym (zero-mul (c .word-length .result));
+      lines = puts-nothing (args .out .now) (args .at);
+      room = omega arith;
+      counted = refl;
+      few = omega arith;
+      same-length = refl;
+    }
 
 -- the word that a turn reads lies within the lent bytes
 lent : (c : tie.In-loop Inv-loop μ-loop)
@@ -93,16 +99,18 @@ loop-again c =
     let i = loop .i in
     let C = meaning (args .code) in
     let answer : heard .read .result ≡ answerAt C (args .bytes .now) i =
-    heard .read .ensures ∙ part-is-word C (args .bytes .now) i (loop .from) (length-of .result) (length-of .ensures .0) (loop .inv .1) in (
-      omega arith,
-      rw (add-mul, one-mul, loop .inv .1),
-      rw (lines-next C (args .bytes .now) i (args .met), ← answer)
-          (puts-then (omega arith) (loop .inv .2) (line .put-word-line .ensures .0)),
-      omega arith,
-      rw (read-next C (args .bytes .now) i, ← answer, c .read-count .ensures .0, loop .inv .4),
-      omega arith,
-      line .put-word-line .kept .0 ∙ loop .inv .6,
-    )
+    heard .read .ensures ∙ part-is-word C (args .bytes .now) i (loop .from) (length-of .result) (length-of .ensures .0) (loop .inv .start) in
+    record {
+      within = omega arith;
+      start = omega (arith, add-mul i 1 (length-of .result), one-mul (length-of .result));
+      lines =
+          rw (lines-next C (args .bytes .now) i (args .met), ← answer)
+          (puts-then (omega arith) (loop .inv .lines) (line .put-word-line .ensures .0));
+      room = omega arith;
+      counted = rw (read-next C (args .bytes .now) i, ← answer, c .read-count .ensures .0, loop .inv .counted);
+      few = omega arith;
+      same-length = line .put-word-line .kept .0 ∙ loop .inv .same-length;
+    }
 
 same-length : tie.Need-same-length Inv-loop μ-loop
 same-length c = search needs
@@ -113,7 +121,7 @@ returns c =
     let measured = c .before .before in
     let args = measured .before .before .before .args in
     let all : loop .i ≡ args .words = omega arith in
-    rw (← all) (loop .inv .2, (loop .inv .3, (loop .inv .4, loop .inv .5)))
+    rw (← all) (loop .inv .lines, (loop .inv .room, (loop .inv .counted, loop .inv .few)))
 
 pub put-words-spec : {M : Type 1} → statement M
 put-words-spec =
