@@ -1,10 +1,10 @@
 -- What a write answers and what it leaves in the lent word, one law for each way out of the code. A refusal leaves the lent bytes;
 -- where the word is written, demand 2 holds of what the lent word then holds. Assumes nothing.
-use mathlib.Core.Path.{_≡_, refl, sym, _∙_}
-use mathlib.Core.Bool.{Bool, true, false, cond, not}
+use mathlib.Core.Path.{_≡_, sym, _∙_}
+use mathlib.Core.Bool.{cond, not}
 use mathlib.Core.List.{List}
 use Prim.Native.Nat.{ℕ, _≤_}
-use borrow.Author.Tests.{eq-eqb, ne-eqb, eqb-true, ltb-false}
+use borrow.Author.Tests.{eq-eqb, ne-eqb, eqb-true, ltb-false, not-false}
 use native.Mathlib.Omega.{arith}
 use lib.Dec.{eqb, ltb}
 use lib.ListN.{length}
@@ -20,7 +20,7 @@ use Rattle.position_theory.specs.Demands.{WrittenIfServable, UnchangedIfRefused
 use Rattle.position_theory.proofs.Demands.{neighbours-differ-in-one-bit, no-other-positions-word}
 use Rattle.position_theory.proofs.Writing.{written-if-servable, unchanged-if-refused, written-means}
 use Rattle.chunk.specs.FirstRefusal.{refusalIf, firstOf}
-use Rattle.chunk.proofs.FirstRefusal.{first-by-tests}
+use Rattle.chunk.proofs.FirstRefusal.{first-by-tests, none-by-tests}
 use Rattle.chunk.specs.DecodedFrom.{DecodedFrom}
 
 module _ (card : List ℕ) (position : ℕ) (lent : List ℕ) where
@@ -91,18 +91,12 @@ module _ {card : List ℕ} {position : ℕ} {lent : List ℕ} {decoded : Decoded
   word-refused ne = refused card position lent refusal word-refusal ne
 
   -- where neither holds, the lent word has the right length and the position is on the track
-  within : (above : Bool) → ltb last position ≡ above → refusalIf above 7 ≡ 0 → position ≤ last
-  within true test e = absurd (omega arith)
-  within false test e = ltb-false last position test
-
-  whole : (same : Bool) → eqb (length lent) size ≡ same → cond (not same) 6 (refusalIf (ltb last position) 7) ≡ 0
-      → (position ≤ last) × (length lent ≡ size)
-  whole true test e = (within (ltb last position) refl e, eqb-true (length lent) size test)
-  whole false test e = absurd (omega arith)
-
   pub servable : refusal ≡ 0
       → (position ≤ lastPosition (meaning (decoded .code))) × (length lent ≡ wordLength (meaning (decoded .code)))
-  servable none = rw (← (measured .is-size), ← (measured .is-last)) (whole (eqb (length lent) size) refl (sym by-tests ∙ none))
+  servable none =
+      let (whole, within) =
+      none-by-tests (not (eqb (length lent) size)) (ltb last position) 6 7 (omega arith) (omega arith) (sym (measured .is-first) ∙ none) in
+      rw (← (measured .is-size), ← (measured .is-last)) (ltb-false last position within, eqb-true (length lent) size (not-false _ whole))
 
   pub written : refusal ≡ 0 → (left : List ℕ) → left ≡ wordBytes (meaning (decoded .code)) position
       → Meets card position lent Written left

@@ -1,12 +1,12 @@
 -- Refusals 8 and 9 of a word that has the right length: the upper one first, and where neither holds the word is read by the rule
 -- that its separators name. Assumes nothing.
-use mathlib.Core.Path.{_≡_, refl, sym, _∙_}
+use mathlib.Core.Path.{_≡_, sym, _∙_}
 use mathlib.Core.Bool.{Bool, true, false, cond}
 use mathlib.Core.List.{List}
 use mathlib.Core.Logic.{⊎-elim}
 use Prim.Native.Nat.{ℕ}
 use native.Mathlib.Omega.{arith}
-use borrow.Author.Tests.{eq-eqb, ne-eqb}
+use borrow.Author.Tests.{eq-eqb, ne-eqb, eqb-false}
 use lib.Dec.{eqb}
 use lib.ListN.{length}
 use Rattle.bits.specs.Places.{place}
@@ -16,6 +16,7 @@ use Rattle.model.specs.Card.{Code}
 use Rattle.model.specs.Reading.{ruleNamed, allowedBy, allowed, nearest, reading}
 use Rattle.model.specs.declared.ReadAnswer.the-variants.{Refused}
 use Rattle.chunk.specs.FirstRefusal.{refusalIf, firstOf}
+use Rattle.chunk.proofs.FirstRefusal.{none-by-tests}
 use Rattle.position_theory.proofs.BoundedError.{read-word}
 
 module _ (C : Code) (received : List ℕ) (whole : length received ≡ wordLength C) where
@@ -39,12 +40,10 @@ module _ (C : Code) (received : List ℕ) (whole : length received ≡ wordLengt
 
   pub neither-holds : (refusal : ℕ) → refusal ≡ tested → refusal ≡ 0
       → (spareSet C received ≡ false) × (ruleNamed C (place received) ≡ 0 → ⊥)
-  neither-holds refusal is none = by-spare (spareSet C received) (sym none ∙ is)
-    where
-      by-spare : (t : Bool) → 0 ≡ firstOf (refusalIf t 8) (refusalIf (eqb (ruleNamed C (place received)) 0) 9)
-          → (t ≡ false) × (ruleNamed C (place received) ≡ 0 → ⊥)
-      by-spare true e = absurd (omega arith)
-      by-spare false e = (refl, λ zero. absurd (omega (arith, rw (eq-eqb (ruleNamed C (place received)) 0 zero) at e)))
+  neither-holds refusal is none =
+      let (spare, named) =
+      none-by-tests (spareSet C received) (eqb (ruleNamed C (place received)) 0) 8 9 (omega arith) (omega arith) (sym is ∙ none) in
+      (spare, eqb-false (ruleNamed C (place received)) 0 named)
 
   pub read-by-rule : spareSet C received ≡ false
       → nearest C (place received) (allowedBy C (place received) (ruleNamed C (place received))) ≡ readWord C received
