@@ -72,7 +72,8 @@ module _ (k : ℕ) (row : ℕ → ℕ) (t x : ℕ) where
             ⊎-elim (λ (e : j ≡ i). rw (e, ← at .current) far) (λ (ne : j ≡ i → ⊥). at .passed j (omega arith)) (eq-or-ne j i);
       }
 
-module _ (C : Code) (sound : Sound C) (x : ℕ) (fits : x < 2 ^ C .n) (t : ℕ) (is-radius : t ≡ radius C) (last word i : ℕ) (at : AtCandidate (C .k) (C .row) t x last word i) where
+module _ (C : Code) (sound : Sound C) (x : ℕ) (fits : x < 2 ^ C .n) (t : ℕ) (is-radius : t ≡ radius C)
+    (last word i : ℕ) (at : AtCandidate (C .k) (C .row) t x last word i) where
   -- codeword and chunk are numbers of n places, so the ones of their exclusive-or are the places in which they differ
   far-of-ones : (j : ℕ) → chunkDistance C (bit x) j ≡ ones (bitXor (sumOfRows (C .row) (C .k) (gray j)) x)
   unfolding chunkDistance codeword

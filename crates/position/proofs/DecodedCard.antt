@@ -19,16 +19,17 @@ module _ (card : List ℕ) (decoded : Decoded) (from : DecodedFrom card decoded)
   card-refused refused = rw (← (from .refusal), ne-eqb (decoded .refusal) 0 refused)
 
   pub card-sound : decoded .refusal ≡ 0
-      → (radius₀ bits last : ℕ) → radius₀ ≡ radius (meaning (decoded .code)) → bits ≡ wordBits (meaning (decoded .code)) → last ≡ lastPosition (meaning (decoded .code))
+      → (t bits last : ℕ) → t ≡ radius (meaning (decoded .code)) → bits ≡ wordBits (meaning (decoded .code))
+      → last ≡ lastPosition (meaning (decoded .code))
       → Sound (record {
         n = decoded .code .n;
         k = decoded .code .k;
         track = decoded .track;
         distance = decoded .code .distance;
-        radius = radius₀;
+        radius = t;
         bits = bits;
         last = last;
       }) ≡ cardAnswer card
   unfolding cardAnswer summaryOf
-  card-sound sound radius₀ bits last is-radius is-bits is-last =
+  card-sound sound t bits last is-radius is-bits is-last =
       rw (eq-eqb (cardRefusal card) 0 (sym (from .refusal) ∙ sound), ← (from .code sound), ← (from .track sound), is-radius, is-bits, is-last)

@@ -11,19 +11,25 @@ use Rattle.model.specs.Reading.{majority, separator₂, separator₃, ruleOf, r
 pub from-zero : (x : ℕ → ℕ) → from 0 x ≡ x
 from-zero x = fun-ext (λ p. ap x (zero-add p))
 
-module _ (C : Code) (x : ℕ → ℕ) (s₁ s₂ s₃ : ℕ) (h₁ : s₁ ≡ majority (C .D) x) (h₂ : s₂ ≡ majority (C .D) (separator₂ C x)) (h₃ : s₃ ≡ majority (C .D) (separator₃ C x)) where
+-- what the three separators of a word read
+pub record SeparatorsRead (C : Code) (x : ℕ → ℕ) (s₁ s₂ s₃ : ℕ) : Type 0 where
+  pub first : s₁ ≡ majority (C .D) x
+  pub second : s₂ ≡ majority (C .D) (separator₂ C x)
+  pub third : s₃ ≡ majority (C .D) (separator₃ C x)
+
+module _ {C : Code} {x : ℕ → ℕ} {s₁ s₂ s₃ : ℕ} (read : SeparatorsRead C x s₁ s₂ s₃) where
   pub names-rule₃ : s₁ ≡ s₂ → s₂ ≡ s₃ → 3 ≡ ruleNamed C x
   unfolding ruleNamed ruleOf
-  names-rule₃ e e′ = rw (← h₁, ← h₂, ← h₃, eq-eqb s₁ s₂ e, eq-eqb s₂ s₃ e′)
+  names-rule₃ e e′ = rw (← (read .first), ← (read .second), ← (read .third), eq-eqb s₁ s₂ e, eq-eqb s₂ s₃ e′)
 
   pub names-rule₁ : s₁ ≡ s₂ → (s₂ ≡ s₃ → ⊥) → 1 ≡ ruleNamed C x
   unfolding ruleNamed ruleOf
-  names-rule₁ e ne = rw (← h₁, ← h₂, ← h₃, eq-eqb s₁ s₂ e, ne-eqb s₂ s₃ ne)
+  names-rule₁ e ne = rw (← (read .first), ← (read .second), ← (read .third), eq-eqb s₁ s₂ e, ne-eqb s₂ s₃ ne)
 
   pub names-rule₂ : (s₁ ≡ s₂ → ⊥) → s₂ ≡ s₃ → 2 ≡ ruleNamed C x
   unfolding ruleNamed ruleOf
-  names-rule₂ ne e = rw (← h₁, ← h₂, ← h₃, ne-eqb s₁ s₂ ne, eq-eqb s₂ s₃ e)
+  names-rule₂ ne e = rw (← (read .first), ← (read .second), ← (read .third), ne-eqb s₁ s₂ ne, eq-eqb s₂ s₃ e)
 
   pub names-none : (s₁ ≡ s₂ → ⊥) → (s₂ ≡ s₃ → ⊥) → 0 ≡ ruleNamed C x
   unfolding ruleNamed ruleOf
-  names-none ne ne′ = rw (← h₁, ← h₂, ← h₃, ne-eqb s₁ s₂ ne, ne-eqb s₂ s₃ ne′)
+  names-none ne ne′ = rw (← (read .first), ← (read .second), ← (read .third), ne-eqb s₁ s₂ ne, ne-eqb s₂ s₃ ne′)

@@ -12,7 +12,8 @@ use lib.ListN.{getD}
 use lib.Pow.{pow-pos}
 use Rattle.model.specs.Decoded.{meaning}
 use Rattle.chunk.proofs.GrayStep.{row-of-twelve}
-use Rattle.chunk.proofs.ChunkSearch.{AtCandidate, Counted, one-counted, counted-all, counted-past, search-starts, search-goes-on, search-found, search-failed}
+use Rattle.chunk.proofs.ChunkSearch.{Counted, one-counted, counted-all, counted-past}
+use Rattle.chunk.proofs.ChunkSearch.{AtCandidate, search-starts, search-goes-on, search-found, search-failed}
 use Rattle.chunk.proofs.search.read_chunk.Statement.{statement}
 use Rattle.chunk.proofs.search.read_chunk.Tie as tie
 

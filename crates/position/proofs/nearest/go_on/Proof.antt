@@ -22,7 +22,8 @@ words : (c : tie.After-word-of2)
     → BlockWords (meaning (c .before .before .args .code)) (c .before .before .args .p) (c .before .word-of .result) (c .word-of2 .result)
 words c =
     let first = c .before .before in
-    block-words (meaning (first .args .code)) (first .args .p) _ _ (first .pre .0) (first .pre .1) (c .before .word-of .ensures) (c .word-of2 .ensures)
+    block-words (meaning (first .args .code)) (first .args .p) _ _ (first .pre .0) (first .pre .1)
+    (c .before .word-of .ensures) (c .word-of2 .ensures)
 
 none-passed : (c : tie.After-word-of2)
     → PassedPlaces (meaning (c .before .before .args .code)) (c .before .before .args .p) (c .before .before .args .t2) 0 (c .before .before .args .s)
@@ -50,7 +51,8 @@ returns c =
     let first = there .before .before in
     let C = meaning (first .args .code) in
     let passed = c .pass-places .ensures .1 C (first .args .p) (words there) (none-passed there) (omega arith) in
-    (c .pass-places .ensures .0, past-separator₁ C (first .pre .0) (first .args .p) (first .pre .1) _ (c .pass-places .result) passed, passed .scanned)
+    let end = past-separator₁ C (first .pre .0) (first .args .p) (first .pre .1) _ (c .pass-places .result) passed in
+    (c .pass-places .ensures .0, end, passed .scanned)
 
 pub go-on-spec : {M : Type 1} → statement M
 go-on-spec =

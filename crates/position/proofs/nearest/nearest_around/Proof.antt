@@ -41,7 +41,7 @@ returns-2 c =
     let search = c .before .go-on .ensures in
     c .found2 .ensures
     ∙ answer-of-search C _ 3 _ _ _ (search .2) (search .0 ∙ before .0)
-    (search .1 ∙ track-goes-on C (first .pre .0) (first .args .p) (omega (arith, first .pre .2, c .before .before .if1 .left, c .before .before .before .last-codeword .ensures)))
+    (search .1 ∙ track-goes-on C (first .pre .0) (first .args .p) (omega arith))
 
 pub nearest-around-spec : {M : Type 1} → statement M
 nearest-around-spec =

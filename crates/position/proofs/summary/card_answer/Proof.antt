@@ -1,4 +1,5 @@
--- `position::summary::card_answer` meets its contract: one law for each way out. Assumes nothing.
+-- `position::summary::card_answer` meets its contract: a refusal is answered as it stands, and where there is none the code is sound,
+-- so its figures are those of the card. Assumes nothing.
 use Rattle.model.specs.Decoded.{meaning}
 use Rattle.code_theory.specs.Promise.{Sound}
 use Rattle.position.proofs.DecodedCard.{card-refused, card-sound}
@@ -23,7 +24,8 @@ last-position-requires c κs = sound (c .before .before .before)
 returns-2 : tie.Need-returns-2
 returns-2 c card from =
     let decoded = c .before .before .before .before in
-    card-sound card _ from (decoded .if1 .left) _ _ _ (c .before .before .radius-of .ensures) (c .before .layout-of .ensures .bits-are) (c .last-position .ensures)
+    card-sound card _ from (decoded .if1 .left) _ _ _ (c .before .before .radius-of .ensures) (c .before .layout-of .ensures .bits-are)
+    (c .last-position .ensures)
 
 pub card-answer-spec : {M : Type 1} → statement M
 card-answer-spec =
