@@ -1,7 +1,7 @@
 -- Refusals 8 and 9 of a word that has the right length: the upper one first, and where neither holds the word is read by the rule
 -- that its separators name. Assumes nothing.
 use mathlib.Core.Path.{_≡_, sym, _∙_}
-use mathlib.Core.Bool.{Bool, true, false, cond}
+use mathlib.Core.Bool.{Bool, true, false, cond, not}
 use mathlib.Core.List.{List}
 use mathlib.Core.Logic.{⊎-elim}
 use Prim.Native.Nat.{ℕ}
@@ -23,6 +23,13 @@ module _ (C : Code) (received : List ℕ) (whole : length received ≡ wordLengt
   -- the first of the two, by the tests on this word
   abbrev pub tested : ℕ
   tested = firstOf (refusalIf (spareSet C received) 8) (refusalIf (eqb (ruleNamed C (place received)) 0) 9)
+
+  -- a test on a count of ones that tells of the spare bits, and one on the rule, give it
+  pub tested-by : (refusal spare unnamed ones rule : ℕ) → refusal ≡ firstOf spare unnamed → spare ≡ refusalIf (not (eqb ones 0)) 8
+      → unnamed ≡ refusalIf (eqb rule 0) 9 → not (eqb ones 0) ≡ spareSet C received → rule ≡ ruleNamed C (place received)
+      → refusal ≡ tested
+  tested-by refusal spare unnamed ones rule is is-spare is-unnamed of-spare is-rule =
+      is ∙ rw (is-spare, is-unnamed, of-spare, is-rule)
 
   pub first-refused : (refusal : ℕ) → refusal ≡ tested → (refusal ≡ 0 → ⊥) → Refused refusal ≡ readWord C received
   unfolding readWord reading allowed allowedBy nearest

@@ -52,7 +52,9 @@ module _ (C : Code) {all text held : List ℕ} {met read : ℕ} (s : Streamed C 
         bytes = s .bytes ++ piece;
         joined = rw (s .joined, taken .kept, append-assoc (s .bytes) held more, append-assoc (s .bytes) piece tail, split);
         printed = rw (lines, count) (printed-more C (s .printed) piece m whole);
-        short = rw (taken .kept, length-drop, taken .words, ← (mod-eq-sub-div-mul (length arrived) w)) (mod-lt (length arrived) (omega (arith, s .short)));
+        short =
+            rw (taken .kept, length-drop, taken .words, ← (mod-eq-sub-div-mul (length arrived) w))
+            (mod-lt (length arrived) (omega (arith, s .short)));
       }
 
 -- the end: all that has been printed is the report of the card and all the bytes

@@ -48,7 +48,8 @@ module _ (C : Code) {bytes text : List ℕ} {met read : ℕ} (printed : Printed 
       rw (length-append, printed .whole, mul-add-div-right {m = w} (omega arith) met (length tail), div-eq-of-lt short) (add-zero met) in
       let rest : length (bytes ++ tail) % w ≡ length tail =
       rw (length-append, printed .whole, mul-add-mod-self-right met w (length tail)) (mod-eq-of-lt short) in
-      rw (words, rest, printed .lines, printed .count, lines-of-first C met bytes tail (printed .whole) 0, read-of-first C met bytes tail (printed .whole))
+      rw (words, rest, printed .lines, printed .count)
+      (rw (lines-of-first C met bytes tail (printed .whole) 0, read-of-first C met bytes tail (printed .whole)))
 
 -- of a sound card, the lines of its words, the bytes short of a word and the last line
 pub report-of-sound : (card : List ℕ) → SoundCard card

@@ -39,10 +39,11 @@ same-length c = search needs
 
 returns : tie.Need-returns
 returns c =
-    let start = c .before .before .before .before .before .before .before .before in
-    let args = start .args in
+    let read = c .before .before .before .before .before in
+    let args = read .before .before .before .args in
     let came : c .count .result ≤ args .full - args .held = omega (arith, simp length-take at (c .count .ensures .0 .0)) in
-    ((omega arith, omega arith), take-put (args .held) (args .full - args .held) (args .buffer .now) (c .before .before .before .before .before .read .last .1 .0) (omega arith))
+    let kept = take-put (args .held) (args .full - args .held) (args .buffer .now) (read .read .last .1 .0) (omega arith) in
+    ((omega arith, omega arith), kept)
 
 pub receive-spec : {M : Type 1} → statement M
 receive-spec =

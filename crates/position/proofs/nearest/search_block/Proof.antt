@@ -1,13 +1,14 @@
 -- `position::nearest::search_block` meets its contract: the search begins at the position whose word is put together of the
 -- block's two words, and passes the places from there. Assumes nothing.
 use mathlib.Core.Path.{_≡_, _∙_, ap₂}
-use Prim.Native.Nat.{_+_}
+use Prim.Native.Nat.{ℕ, _+_, _≤_}
 use native.Mathlib.Omega.{arith}
 use borrow.Author.Needs.{needs}
 use Rattle.bits.specs.Sums.{distance}
+use Rattle.model.specs.Card.{Code}
 use Rattle.model.specs.Decoded.{meaning}
 use Rattle.model.specs.Order.{start}
-use Rattle.model.specs.Words.{word}
+use Rattle.model.specs.Words.{wordBits, word}
 use Rattle.code_theory.proofs.Promise.{promise}
 use Rattle.position_theory.proofs.Bounds.{position-bound, word-bits-bound}
 use Rattle.position_theory.proofs.Stepping.{steps-room}
@@ -38,36 +39,45 @@ block-start-requires c κs = search needs
 bits-unlike-requires : tie.Need-bits-unlike-requires
 bits-unlike-requires c κs = search needs
 
-words : (c : tie.After-bits-unlike)
-    → let first = c .before .before .before .before .before in
-    BlockWords (meaning (first .args .code)) (first .args .i) (c .before .before .before .before .word-of .result) (c .before .before .before .word-of2 .result)
-words c =
-    let first = c .before .before .before .before .before in
-    block-words (meaning (first .args .code)) (first .args .i) _ _ (first .pre .0) (first .pre .2)
-    (c .before .before .before .before .word-of .ensures) (c .before .before .before .word-of2 .ensures)
+-- at the place where all is known of the two words and their splice
+module _ (c : tie.After-bits-unlike) where
+  abbrev first : tie.Start
+  first = c .before .before .before .before .before
 
--- the first position of the search
-low : (c : tie.After-bits-unlike)
-    → let first = c .before .before .before .before .before in
-    let C = meaning (first .args .code) in
-    c .before .block-start .result + c .bits-unlike .result ≡ start C (first .args .i) + distance (first .args .at) (word C (first .args .i)) (word C (first .args .i + 1))
-low c =
-    let first = c .before .before .before .before .before in
-    ap₂ _+_ (c .before .block-start .ensures)
-    (c .bits-unlike .ensures
-    ∙ steps-counted (meaning (first .args .code)) (first .args .i) _ _ _ (first .args .at) (words c)
-    (c .before .before .before .before .word-of .ensures) (omega (arith, first .pre .3, first .pre .4)) (c .before .before .spliced .ensures))
+  abbrev old : tie.After-word-of
+  old = c .before .before .before .before
+
+  abbrev new : tie.After-word-of2
+  new = c .before .before .before
+
+  abbrev i : ℕ
+  i = first .args .i
+
+  abbrev C : Code
+  C = meaning (first .args .code)
+
+  -- `at` is a place of the word
+  within : first .args .at ≤ wordBits C
+  within = omega (arith, first .pre .3, first .pre .4)
+
+  words : BlockWords C i (old .word-of .result) (new .word-of2 .result)
+  words = block-words C i _ _ (first .pre .0) (first .pre .2) (old .word-of .ensures) (new .word-of2 .ensures)
+
+  -- the first position of the search
+  low : c .before .block-start .result + c .bits-unlike .result ≡ start C i + distance (first .args .at) (word C i) (word C (i + 1))
+  low =
+      ap₂ _+_ (c .before .block-start .ensures)
+      (c .bits-unlike .ensures
+      ∙ steps-counted C i _ _ _ (first .args .at) words (old .word-of .ensures) within (c .before .before .spliced .ensures))
 
 add-begin : tie.Need-add-begin
 add-begin c =
-    let first = c .before .before .before .before .before in
-    let C = meaning (first .args .code) in
-    let sound = first .pre .0 in
+    let sound = first c .pre .0 in
     omega (
       arith,
       low c,
-      position-bound C sound (first .args .i) _ (first .pre .2)
-          (steps-room C (promise C sound) (first .args .i) (first .pre .2) (first .args .at) (omega (arith, first .pre .3, first .pre .4))),
+      position-bound (C c) sound (i c) _ (first c .pre .2)
+          (steps-room (C c) (promise (C c) sound) (i c) (first c .pre .2) (first c .args .at) (within c)),
     )
 
 begin-requires : tie.Need-begin-requires
@@ -75,41 +85,40 @@ begin-requires c κs = search needs
 
 -- the search as it begins has passed the places below the first
 begun : (c : tie.After-begin)
-    → let first = c .before .before .before .before .before .before in
-    PassedPlaces (meaning (first .args .code)) (first .args .i) (first .args .t2) (first .args .at) (c .begin .result)
+    → let there = c .before in PassedPlaces (C there) (i there) (first there .args .t2) (first there .args .at) (c .begin .result)
 unfolding Begun
 begun c =
-    let first = c .before .before .before .before .before .before in
-    let C = meaning (first .args .code) in
-    let held = splice-holds C (first .args .i) _ _ _ (first .args .at) (words (c .before))
-    (c .before .before .before .before .before .word-of .ensures) (omega (arith, first .pre .3, first .pre .4)) (c .before .before .before .spliced .ensures)
+    let there = c .before in
+    let args = first there .args in
+    let held =
+    splice-holds (C there) (i there) _ _ _ (args .at) (words there) (old there .word-of .ensures) (within there) (there .before .before .spliced .ensures)
     in
     record {
-      within = omega (arith, first .pre .3, first .pre .4);
-      position-is = c .begin .ensures .1 ∙ low (c .before);
-      scanned = c .begin .ensures .2 C (first .pre .0) (rw (low (c .before)) held) (first .pre .1);
+      within = within there;
+      position-is = c .begin .ensures .1 ∙ low there;
+      scanned = c .begin .ensures .2 (C there) (first there .pre .0) (rw (low there) held) (first there .pre .1);
     }
 
 pass-places-requires : tie.Need-pass-places-requires
 pass-places-requires c κs =
-    let there = c .before .before .before in
-    let first = there .before .before .before .before .before .before in
+    let at-first = c .before .before .before in
+    let there = at-first .before in
     record {
-      code = meaning (first .args .code);
-      block = first .args .i;
-      words = words (there .before);
-      passed = begun there;
-      forward = first .pre .3;
-      room = first .pre .4;
+      code = C there;
+      block = i there;
+      words = words there;
+      passed = begun at-first;
+      forward = first there .pre .3;
+      room = first there .pre .4;
     }
 
 returns : tie.Need-returns
 unfolding Passes
 returns c =
-    let there = c .before .before .before .before in
-    let first = there .before .before .before .before .before .before in (
-      c .pass-places .ensures .0 ∙ there .begin .ensures .0 ∙ low (there .before),
-      c .pass-places .ensures .1 (meaning (first .args .code)) (first .args .i) (words (there .before)) (begun there) (first .pre .4),
+    let at-first = c .before .before .before .before in
+    let there = at-first .before in (
+      c .pass-places .ensures .0 ∙ at-first .begin .ensures .0 ∙ low there,
+      c .pass-places .ensures .1 (C there) (i there) (words there) (begun at-first) (first there .pre .4),
     )
 
 pub search-block-spec : {M : Type 1} → statement M

@@ -1,6 +1,6 @@
 -- `position::reading::named_rule` meets its contract: the three separators are read, and each way out of the tests on what they read
 -- is a law on the rule that they name. Assumes nothing.
-use mathlib.Core.Path.{_≡_, _∙_, ap}
+use mathlib.Core.Path.{_∙_, ap}
 use native.Mathlib.Omega.{arith}
 use borrow.Author.Needs.{needs}
 use Rattle.bits.specs.Places.{place}

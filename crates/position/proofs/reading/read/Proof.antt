@@ -1,58 +1,79 @@
 -- `position::reading::read` meets its contract: refusal 6, the first of refusals 8 and 9, and then what the named rule answers, for
 -- the array that holds the word. Assumes nothing.
 use mathlib.Core.Path.{_≡_, _∙_, sym, ap, fun-ext}
-use Prim.Native.Nat.{_-_, _*_}
+use mathlib.Core.Bool.{false}
+use mathlib.Core.List.{List}
+use Prim.Native.Nat.{ℕ, _-_, _*_}
 use native.Mathlib.Omega.{arith}
 use borrow.Author.Needs.{needs}
 use borrow.Author.Tests.{ne-eqb}
-use lib.Dec.{eqb}
 use lib.ListN.{length}
 use Rattle.bits.specs.Sums.{sumBelow, from}
 use Rattle.bits.specs.Places.{place}
 use Rattle.model.specs.Answers.{wordLength, spareSet, readWord}
+use Rattle.model.specs.Card.{Code}
 use Rattle.model.specs.Decoded.{meaning}
 use Rattle.model.specs.Reading.{ruleNamed}
 use Rattle.model.specs.Words.{wordBits}
-use Rattle.chunk.specs.FirstRefusal.{refusalIf, firstOf}
-use Rattle.position.proofs.ReadRefusals.{first-refused, neither-holds, read-by-rule}
+use Rattle.position.proofs.ReadRefusals.{tested, tested-by, first-refused, neither-holds, read-by-rule}
 use Rattle.position.proofs.SpareBits.{spare-test, nothing-spare}
 use Rattle.position.proofs.reading.read.Statement.{statement}
 use Rattle.position.proofs.reading.read.Tie as tie
 
-right-length : (c : tie.Else1) → length (c .before .before .before .args .word .now) ≡ wordLength (meaning (c .before .before .before .args .code))
+right-length : (c : tie.Else1)
+    → let first = c .before .before .before in length (first .args .word .now) ≡ wordLength (meaning (first .args .code))
 right-length c = c .if1 .left ∙ c .before .word-length .ensures .0
 
 -- the array holds the received word
 held : (c : tie.After-received) → place (c .received .result) ≡ place (c .before .before .before .before .args .word .now)
 held c = fun-ext (c .received .ensures)
 
--- the count of ones is that of the spare bits
-spare-ones : (c : tie.After-ones-between)
-    → let first = c .before .before .before .before .before .before .before .before in
-    let C = meaning (first .args .code) in
-    c .ones-between .result ≡ sumBelow (from (wordBits C) (place (c .before .before .before .before .received .result))) (8 * wordLength C - wordBits C)
-spare-ones c =
-    let laid = c .before .before .before in
-    rw (laid .layout-of .ensures .bits-are, laid .before .before .before .word-length .ensures .0) at (c .ones-between .ensures .0)
-
--- the rule, and the first of refusals 8 and 9, are those of the received word
+-- the rule is that of the received word
 rule : (c : tie.After-named-rule)
     → let first = c .before .before .before .before .before .before in
     c .named-rule .result ≡ ruleNamed (meaning (first .args .code)) (place (first .args .word .now))
 rule c = c .named-rule .ensures .0 ∙ ap (ruleNamed _) (held (c .before .before))
 
-refused-first : (c : tie.After-first-of)
-    → let first = c .before .before .before .before .before .before .before .before .before .before .before in
-    let C = meaning (first .args .code) in
-    let b = first .args .word .now in
-    c .first-of .result ≡ firstOf (refusalIf (spareSet C b) 8) (refusalIf (eqb (ruleNamed C (place b)) 0) 9)
-refused-first c =
-    let counted = c .before .before .before in
-    let named = counted .before .before in
-    let got = named .before .before in
-    let first = got .before .before .before .before in
-    let spare = spare-test (meaning (first .args .code)) (first .args .word .now) (got .received .result) (got .received .ensures) _ (spare-ones counted) in
-    rw (c .before .before .refusal-if .ensures, c .before .refusal-if2 .ensures, spare, rule named) at (c .first-of .ensures)
+-- the count of ones is that of the spare bits
+spare-ones : (c : tie.After-ones-between)
+    → let got = c .before .before .before .before in
+    let C = meaning (got .before .before .before .before .args .code) in
+    c .ones-between .result ≡ sumBelow (from (wordBits C) (place (got .received .result))) (8 * wordLength C - wordBits C)
+spare-ones c =
+    let laid = c .before .before .before in
+    let sized = laid .before .before .before in
+    rw (laid .layout-of .ensures .bits-are, sized .word-length .ensures .0) at (c .ones-between .ensures .0)
+
+-- the way back: from the first of refusals 8 and 9 to the count of ones, the rule, the array, and the call
+module _ (c : tie.After-first-of) where
+  abbrev counted : tie.After-ones-between
+  counted = c .before .before .before
+
+  abbrev named : tie.After-named-rule
+  named = counted .before .before
+
+  abbrev got : tie.After-received
+  got = named .before .before
+
+  abbrev first : tie.Start
+  first = got .before .before .before .before
+
+  abbrev C : Code
+  C = meaning (first .args .code)
+
+  abbrev received : List ℕ
+  received = first .args .word .now
+
+  whole : length received ≡ wordLength C
+  whole = right-length (got .before)
+
+  -- the first of refusals 8 and 9 is that of the received word
+  refused-first : c .first-of .result ≡ tested C received whole
+  refused-first =
+      let spare = spare-test C received (got .received .result) (got .received .ensures) _ (spare-ones counted) in
+      tested-by C received whole (c .first-of .result) (c .before .before .refusal-if .result) (c .before .refusal-if2 .result)
+      (counted .ones-between .result) (named .named-rule .result) (c .first-of .ensures)
+      (c .before .before .refusal-if .ensures) (c .before .refusal-if2 .ensures) spare (rule named)
 
 layout-of-requires : tie.Need-layout-of-requires
 layout-of-requires c κs = search needs
@@ -96,32 +117,32 @@ first-of-requires c κs = search needs
 returns-2 : tie.Need-returns-2
 returns-2 c =
     let tested = c .before in
-    let got = tested .before .before .before .before .before .before .before in
-    first-refused _ _ (right-length (got .before)) _ (refused-first tested) (c .if2 .taken)
+    first-refused _ _ (whole tested) _ (refused-first tested) (c .if2 .taken)
+
+-- past both refusals
+neither : (c : tie.Else2)
+    → let tested = c .before in (spareSet (C tested) (received tested) ≡ false) × (ruleNamed (C tested) (place (received tested)) ≡ 0 → ⊥)
+neither c =
+    let tested = c .before in
+    neither-holds _ _ (whole tested) _ (refused-first tested) (c .if2 .left)
 
 by-rule-requires : tie.Need-by-rule-requires
 by-rule-requires c κs =
     let tested = c .before in
-    let named = tested .before .before .before .before .before in
-    let got = named .before .before in
-    let first = got .before .before .before .before in
-    let none = neither-holds _ _ (right-length (got .before)) _ (refused-first tested) (c .if2 .left) in
-    let some : named .named-rule .result ≡ 0 → ⊥ = λ zero. none .1 (sym (rule named) ∙ zero) in (
-      first .pre,
-      nothing-spare (meaning (first .args .code)) (first .args .word .now) (got .received .result) (got .received .ensures) (right-length (got .before)) (none .0),
+    let array = got tested .received in
+    let some : named tested .named-rule .result ≡ 0 → ⊥ = λ zero. neither c .1 (sym (rule (named tested)) ∙ zero) in (
+      first tested .pre,
+      nothing-spare (C tested) (received tested) (array .result) (array .ensures) (whole tested) (neither c .0),
       omega arith,
-      named .named-rule .ensures .1,
+      named tested .named-rule .ensures .1,
     )
 
 returns-3 : tie.Need-returns-3
 returns-3 c =
     let tested = c .before .before in
     let named = tested .before .before .before .before .before in
-    let got = named .before .before in
-    let first = got .before .before .before .before in
-    let C = meaning (first .args .code) in
-    let none = neither-holds _ _ (right-length (got .before)) _ (refused-first tested) (c .before .if2 .left) in
-    rw (held got, rule named) at (c .by-rule .ensures) ∙ read-by-rule C (first .args .word .now) (right-length (got .before)) (none .0)
+    rw (held (named .before .before), rule named) at (c .by-rule .ensures)
+    ∙ read-by-rule (C tested) (received tested) (whole tested) (neither (c .before) .0)
 
 pub read-spec : {M : Type 1} → statement M
 read-spec =

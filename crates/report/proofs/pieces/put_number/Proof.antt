@@ -41,7 +41,8 @@ filled c =
     let one : loop .rest < 10 = c .loop-test .left in
     let some : 1 ≤ loop .from = omega (arith, has-digit (loop .rest)) in
     let all : length ((48 + loop .rest) ∷ drop (loop .from) (loop .digits)) ≤ 20 - (loop .from - 1) = simp length-drop (omega arith) in
-    rw (stored-first (loop .digits) (loop .from) (48 + loop .rest) some (omega arith), take-all _ _ all, loop .inv .3, decimal-below-ten (loop .rest) one)
+    let stored = stored-first (loop .digits) (loop .from) (48 + loop .rest) some (omega arith) in
+    rw (stored, take-all _ _ all, loop .inv .3, decimal-below-ten (loop .rest) one)
 
 loop-holds : tie.Need-loop-holds Inv-loop μ-loop
 loop-holds c =
