@@ -16,40 +16,63 @@ use Rattle.code_theory.proofs.Promise.{promise}
 use Rattle.position_theory.proofs.Stepping.{residual-step}
 use Rattle.position.specs.declared.scan.Scan.{Scan}
 use Rattle.position.specs.Scanned.{Scanned}
-use Rattle.position.specs.SearchReady.{BlockWords, PassedPlaces}
+use Rattle.position.specs.SearchReady.{BlockWords, PassedPlaces, Passes}
 
-module _ (C : Code) (i : ℕ) (u v x : List ℕ) (words : BlockWords C i u v) (q : ℕ) (s : Scan) (passed : PassedPlaces C i x q s) (room : q < wordBits C) where
+-- bits that are not the same differ by 1
+differs : (u v : List ℕ) (q : ℕ) → (place u q ≡ place v q → ⊥) → unlike (place u q) (place v q) ≡ 1
+differs u v q differ = omega (arith, place-bit u q, place-bit v q, differ)
+
+module _ (C : Code) (i : ℕ) (u v x : List ℕ) (words : BlockWords C i u v) (q : ℕ) (s : Scan)
+    (passed : PassedPlaces C i x q s) (room : q < wordBits C) where
   one-more : distance (q + 1) (word C i) (word C (i + 1))
       ≡ distance q (word C i) (word C (i + 1)) + unlike (place u q) (place v q)
   one-more = rw (add-one q, words .old q room, words .new q room) (distance-suc q (word C i) (word C (i + 1)))
 
-  pub pass-alike : place u q ≡ place v q → PassedPlaces C i x (q + 1) s
+  pass-alike : place u q ≡ place v q → PassedPlaces C i x (q + 1) s
   pass-alike e =
       let none : unlike (place u q) (place v q) ≡ 0 = rw e (omega arith) in
       record { within = omega arith; position-is = passed .position-is ∙ omega (arith, one-more); scanned = passed .scanned }
 
   module _ (differ : place u q ≡ place v q → ⊥) where
-    differs : unlike (place u q) (place v q) ≡ 1
-    differs = omega (arith, place-bit u q, place-bit v q, differ)
-
     step : residual C (place x) (s .position + 1) + unlike (place u q) (place x q)
         ≡ s .residual + unlike (place v q) (place x q)
     step =
         rw (passed .scanned .here, passed .position-is, words .old q room, words .new q room)
-        (residual-step C (promise C (words .sound)) i (words .inside) (place x) q _ room refl (rw (← (words .old q room), ← (words .new q room)) differs))
+        (residual-step C (promise C (words .sound)) i (words .inside) (place x) q _ room refl
+        (rw (← (words .old q room), ← (words .new q room)) (differs u v q differ)))
 
     -- a turn to what was received takes one from the residual
     pub residual-positive : place x q ≡ place v q → 1 ≤ s .residual
     residual-positive e =
         let alike : unlike (place v q) (place x q) ≡ 0 = rw e (omega arith) in
-        let turned : unlike (place u q) (place x q) ≡ 1 = rw e differs in
+        let turned : unlike (place u q) (place x q) ≡ 1 = rw e (differs u v q differ) in
         omega (arith, step)
 
-    pub next-residual-is : (r : ℕ) → r + unlike (place u q) (place x q) ≡ s .residual + unlike (place v q) (place x q)
+    next-residual-is : (r : ℕ) → r + unlike (place u q) (place x q) ≡ s .residual + unlike (place v q) (place x q)
         → r ≡ residual C (place x) (s .position + 1)
     next-residual-is r e = omega (arith, step)
 
-    pub pass-differing : (r : Scan) → r .position ≡ s .position + 1 → Scanned (residual C (place x)) r
+    pass-differing : (r : Scan) → r .position ≡ s .position + 1 → Scanned (residual C (place x)) r
         → PassedPlaces C i x (q + 1) r
     pass-differing r e scanned =
-        record { within = omega arith; position-is = e ∙ omega (arith, passed .position-is, one-more, differs); scanned = scanned }
+        record { within = omega arith; position-is = e ∙ omega (arith, passed .position-is, one-more, differs u v q differ); scanned = scanned }
+
+-- a search t that has passed the places below q, in whichever code and block u and v are words of, passes place q
+module _ (u v x : List ℕ) (at q : ℕ) (s t : Scan) (so-far : Passes u v x at q s t) where
+  pub passes-alike : place u q ≡ place v q → Passes u v x at (q + 1) s t
+  unfolding Passes
+  passes-alike e C i words start room =
+      pass-alike C i u v x words q t (so-far C i words start (omega arith)) (omega arith) e
+
+  -- `next` is the residual after the bit was turned to v's, and r the search one position on with that residual
+  pub passes-differing : (place u q ≡ place v q → ⊥) → (next : ℕ)
+      → ((old : ℕ) → old < 2 → unlike old (place v q) ≡ 1
+      → next + unlike old (place x q) ≡ t .residual + unlike (place v q) (place x q))
+      → (r : Scan) → r .position ≡ t .position + 1
+      → ((f : ℕ → ℕ) → Scanned f t → next ≡ f (t .position + 1) → Scanned f r) → Passes u v x at (q + 1) s r
+  unfolding Passes
+  passes-differing differ next turned r on scans C i words start room =
+      let here = so-far C i words start (omega arith) in
+      let new-residual = turned (place u q) (place-bit u q) (differs u v q differ) in
+      let residual-is = next-residual-is C i u v x words q t here (omega arith) differ next new-residual in
+      pass-differing C i u v x words q t here (omega arith) differ r on (scans _ (here .scanned) residual-is)

@@ -1,24 +1,26 @@
--- `position::hamming::bits_unlike` meets its contract. The loop's invariant: `unlike` is the distance of the first `j` bytes. The
--- measure is the bytes that are left. Assumes nothing.
+-- `position::hamming::bits_unlike` meets its contract. The loop keeps that `unlike` is the distance of the first `j` bytes, which is
+-- at most their 8j bits, so the sum fits; a byte more adds the distance of the two bytes. The measure is the bytes that are left.
+-- Assumes nothing.
 use Prim.Native.Nat.{_-_, _*_, _≤_}
 use mathlib.Core.Path.{_≡_, refl}
 use borrow.Author.Needs.{needs}
 use native.Mathlib.Omega.{arith}
 use Rattle.bits.specs.Sums.{sumBelow, distance}
 use Rattle.bits.specs.Places.{place}
+use Rattle.bits.proofs.Distance.{distance-le}
 use Rattle.position.proofs.ByteDistance.{distance-byte}
 use Rattle.position.proofs.hamming.bits_unlike.Statement.{statement}
 use Rattle.position.proofs.hamming.bits_unlike.Tie as tie
 
 abbrev Inv-loop : tie.InvT-loop
-Inv-loop a b unlike₀ j₀ unlike j = (j ≤ 40) × (unlike ≡ distance (8 * j) (place a) (place b)) × (unlike ≤ 8 * j)
+Inv-loop a b unlike₀ j₀ unlike j = (j ≤ 40) × (unlike ≡ distance (8 * j) (place a) (place b))
 
 abbrev μ-loop : tie.MeasureT-loop
 μ-loop a b unlike₀ j₀ unlike j = 40 - j
 
 loop-holds : tie.Need-loop-holds Inv-loop μ-loop
 unfolding distance sumBelow
-loop-holds c = (omega arith, refl, omega arith)
+loop-holds c = (omega arith, refl)
 
 array-read-byte-unlike : tie.Need-array-read-byte-unlike Inv-loop μ-loop
 array-read-byte-unlike c = search needs
@@ -30,7 +32,10 @@ byte-unlike-requires : tie.Need-byte-unlike-requires Inv-loop μ-loop
 byte-unlike-requires c κs = search needs
 
 add-unlike : tie.Need-add-unlike Inv-loop μ-loop
-add-unlike c = search needs
+add-unlike c =
+    let loop = c .before .before .loop in
+    let args = c .before .before .before .args in
+    omega (arith, loop .inv .1, c .byte-unlike .ensures .1, distance-le (8 * loop .j) (place (args .t1)) (place (args .t2)))
 
 add-j : tie.Need-add-j Inv-loop μ-loop
 add-j c = search needs
@@ -43,11 +48,13 @@ loop-again c =
     let loop = c .before .before .loop in
     let args = c .before .before .before .args in
     let more = distance-byte (args .t1) (args .t2) (loop .j) in
-    (omega arith, omega (arith, loop .inv .1, c .byte-unlike .ensures .0), omega (arith, c .byte-unlike .ensures .1))
+    (omega arith, omega (arith, loop .inv .1, c .byte-unlike .ensures .0))
 
 returns : tie.Need-returns Inv-loop μ-loop
 returns c =
-    let all : c .before .loop .j ≡ 40 = omega arith in rw (c .before .loop .inv .1, all)
+    let loop = c .before .loop in
+    let all : loop .j ≡ 40 = omega arith in
+    rw (loop .inv .1, all)
 
 pub bits-unlike-spec : {M : Type 1} → statement M
 bits-unlike-spec =

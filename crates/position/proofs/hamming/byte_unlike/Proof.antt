@@ -1,4 +1,5 @@
--- `position::hamming::byte_unlike` meets its contract: the count of ones of the exclusive-or is the distance. Assumes nothing.
+-- `position::hamming::byte_unlike` meets its contract: two bytes differ where their exclusive-or has a 1, and it has eight bits.
+-- Assumes nothing.
 use native.Mathlib.Omega.{arith}
 use lib.Bits.{xor-lt}
 use Rattle.position.proofs.ByteDistance.{ones-of-bytes, bytes-apart}

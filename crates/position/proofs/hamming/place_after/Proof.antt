@@ -1,23 +1,24 @@
--- `position::hamming::place_after` meets its contract. Both loops keep that `passed` counts the differing places before the byte, or the
--- place, that they have come to, and is at most m. The measures are the bytes and the places that are left. Assumes nothing.
+-- `position::hamming::place_after` meets its contract. Both loops keep that u and v differ in `passed` places before the byte, or the
+-- place, that they have come to, and that these are at most m; the second goes on until they are m. It comes to no end of the word
+-- before, since u and v differ in m places at least. The measures are the bytes and the places that are left. Assumes nothing.
 use mathlib.Core.Path.{_≡_, refl}
 use mathlib.Core.Logic.{⊎-elim}
 use mathlib.Core.List.{List}
 use Prim.Native.Nat.{ℕ, _-_, _*_, _≤_, _<_}
+use native.Mathlib.Nat.{eq-or-lt-of-le}
 use native.Mathlib.Numerals.{add-one}
 use native.Mathlib.Omega.{arith}
 use borrow.Author.Needs.{needs}
 use Rattle.bits.specs.Sums.{sumBelow, distance}
 use Rattle.bits.specs.Places.{place}
-use Rattle.bits.proofs.Distance.{distance-suc, distance-longer}
-use Rattle.bits.proofs.Numbers.{lt-or-le}
+use Rattle.bits.proofs.Distance.{distance-suc, distance-le}
 use Rattle.position.proofs.ByteDistance.{distance-byte}
 use Rattle.position.proofs.hamming.place_after.Statement.{statement}
 use Rattle.position.proofs.hamming.place_after.Tie as tie
 
--- with `passed` differing places before place q, at most m
+-- u and v differ in `passed` places before place q, at most m
 abbrev Passed : (u v : List ℕ) (m q passed : ℕ) → Type 0
-Passed u v m q passed = (q ≤ 320) × (passed ≡ distance q (place u) (place v)) × (passed ≤ m) × (passed ≤ q)
+Passed u v m q passed = (q ≤ 320) × (passed ≡ distance q (place u) (place v)) × (passed ≤ m)
 
 abbrev Inv-bytes : tie.InvT-bytes
 Inv-bytes u v m passed₀ j₀ passed j = Passed u v m (8 * j) passed
@@ -33,7 +34,7 @@ abbrev μ-loop : tie.MeasureT-loop
 
 bytes-holds : tie.Need-bytes-holds Inv-bytes μ-bytes Inv-loop μ-loop
 unfolding distance sumBelow
-bytes-holds c = (omega arith, refl, omega arith, omega arith)
+bytes-holds c = (omega arith, refl, omega arith)
 
 element-copy-out-byte-unlike : tie.Need-element-copy-out-byte-unlike Inv-bytes μ-bytes Inv-loop μ-loop
 element-copy-out-byte-unlike c = search needs
@@ -45,7 +46,10 @@ byte-unlike-requires : tie.Need-byte-unlike-requires Inv-bytes μ-bytes Inv-loop
 byte-unlike-requires c κs = search needs
 
 add-more : tie.Need-add-more Inv-bytes μ-bytes Inv-loop μ-loop
-add-more c = search needs
+add-more c =
+    let here = c .before .before .before .before in
+    let args = here .before .args in
+    omega (arith, here .bytes .inv .1, c .byte-unlike .ensures .1, distance-le (8 * here .bytes .j) (place (args .u .now)) (place (args .v .now)))
 
 add-j : tie.Need-add-j Inv-bytes μ-bytes Inv-loop μ-loop
 add-j c = search needs
@@ -58,12 +62,8 @@ bytes-again c =
     let counted = c .before in
     let here = counted .before .before .before .before in
     let args = here .before .args in
-    let more = distance-byte (args .u .now) (args .v .now) (here .bytes .j) in (
-      omega arith,
-      omega (arith, here .bytes .inv .1, counted .byte-unlike .ensures .0),
-      omega arith,
-      omega (arith, counted .byte-unlike .ensures .1),
-    )
+    let more = distance-byte (args .u .now) (args .v .now) (here .bytes .j) in
+    (omega arith, omega (arith, here .bytes .inv .1, counted .byte-unlike .ensures .0), omega arith)
 
 cast-q : tie.Need-cast-q Inv-bytes μ-bytes Inv-loop μ-loop
 cast-q c = search needs
@@ -74,15 +74,15 @@ mul-q c = search needs
 loop-holds : tie.Need-loop-holds Inv-bytes μ-bytes Inv-loop μ-loop
 loop-holds c = c .before .bytes .inv
 
--- while places are left to pass, the last one is not reached
+-- while places are left to pass, the end is not reached: u and v differ in at least m places before it
 inside : (c : tie.In-loop Inv-bytes μ-bytes Inv-loop μ-loop) → c .before .loop .q < 320
 inside c =
-    let args = c .before .before .before .before .args in
+    let first = c .before .before .before .before in
     let loop = c .before .loop in
-    ⊎-elim (λ (l : loop .q < 320). l)
-    (λ (l : 320 ≤ loop .q).
-    absurd (omega (arith, loop .inv .1, c .before .before .before .before .pre, distance-longer (place (args .u .now)) (place (args .v .now)) {a = 320} {d = loop .q} l)))
-    (lt-or-le (loop .q) 320)
+    ⊎-elim
+    (λ (end : loop .q ≡ 320). absurd (omega (arith, rw end at (loop .inv .1), first .pre)))
+    (λ (l : loop .q < 320). l)
+    (eq-or-lt-of-le (loop .inv .0))
 
 bit-at-requires : tie.Need-bit-at-requires Inv-bytes μ-bytes Inv-loop μ-loop
 bit-at-requires c κs = inside c
@@ -104,12 +104,12 @@ loop-less c = omega (arith, inside (c .before .before))
 
 loop-again : tie.Need-loop-again Inv-bytes μ-bytes Inv-loop μ-loop
 loop-again c =
-    let here = c .before .before .before in
-    let args = here .before .before .before .args in
-    let one = distance-suc (here .loop .q) (place (args .u .now)) (place (args .v .now)) in (
-      omega (arith, inside (c .before .before)),
-      rw (add-one (here .loop .q), one, ← (here .loop .inv .1), c .before .bit-at .ensures .0, c .bit-at2 .ensures .0),
-      omega arith,
+    let in-loop = c .before .before in
+    let loop = in-loop .before .loop in
+    let first = in-loop .before .before .before .before in
+    let one = distance-suc (loop .q) (place (first .args .u .now)) (place (first .args .v .now)) in (
+      omega (arith, inside in-loop),
+      rw (add-one (loop .q), one, ← (loop .inv .1), c .before .bit-at .ensures .0, c .bit-at2 .ensures .0),
       omega arith,
     )
 

@@ -1,5 +1,5 @@
--- `position::scan::advance` meets its contract: one position more, taken where its residual is less, by one law each.
--- Assumes nothing.
+-- `position::scan::advance` meets its contract: where the new residual is below the least so far, the new position is the nearest,
+-- and otherwise the nearest is what it was; a law of `Scanned` says either. Assumes nothing.
 use Rattle.position.proofs.Scanning.{scanned-nearer, scanned-no-nearer}
 use mathlib.Core.Path.{refl}
 use borrow.Author.Needs.{needs}
@@ -12,15 +12,13 @@ add-position c = search needs
 returns : tie.Need-returns
 returns c = (
   (refl, refl),
-  λ f scanned next.
-      scanned-nearer f (c .before .before .before .args .s) scanned (c .before .before .before .args .residual) next (c .if1 .taken),
+  λ f scanned next. scanned-nearer f _ scanned _ next (c .if1 .taken),
 )
 
 returns-2 : tie.Need-returns-2
 returns-2 c = (
   (refl, refl),
-  λ f scanned next.
-      scanned-no-nearer f (c .before .before .before .args .s) scanned (c .before .before .before .args .residual) next (c .if1 .left),
+  λ f scanned next. scanned-no-nearer f _ scanned _ next (c .if1 .left),
 )
 
 pub advance-spec : {M : Type 1} → statement M

@@ -1,4 +1,5 @@
--- `position::scan::next_residual` meets its contract: the two bits are 0 or 1, so the rest is arithmetic. Assumes nothing.
+-- `position::scan::next_residual` meets its contract: old, new and received bit are each 0 or 1, so the rest is arithmetic; where
+-- one is taken, the contract asks for a residual of at least 1. Assumes nothing.
 use native.Mathlib.Omega.{arith}
 use borrow.Author.Needs.{needs}
 use Rattle.position.proofs.scan.next_residual.Statement.{statement}
@@ -11,7 +12,7 @@ add-result : tie.Need-add-result
 add-result c = search needs
 
 returns : tie.Need-returns
-returns c = λ old h differs. omega (arith, c .if1 .taken, c .before .pre .3 (c .if1 .taken))
+returns c old bit differs = omega (arith, c .before .pre .3 (c .if1 .taken))
 
 returns-2 : tie.Need-returns-2
 returns-2 c = search needs
