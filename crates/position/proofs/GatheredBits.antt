@@ -1,15 +1,23 @@
 -- A number gathered from bytes: the bits of each byte from some bit on are put behind those gathered so far. Assumes nothing.
-use mathlib.Core.Path.{_≡_, sym, _∙_}
+use mathlib.Core.Path.{_≡_, sym, ap, _∙_}
+use mathlib.Core.List.{List}
 use mathlib.Core.Logic.{⊎-elim}
 use Prim.Native.Nat.{ℕ, _+_, _-_, _*_, _/_, _%_, _^_, _≤_, _<_}
-use native.Mathlib.Nat.{le-dest}
+use native.Mathlib.Nat.{le-dest, add-assoc}
 use native.Mathlib.Omega.{arith}
 use lib.Bits.{bitAnd, bitXor, and-mask, mask-lt}
-use Rattle.bits.specs.Places.{bit, cut}
+use lib.ListN.{getD}
+use Rattle.bits.specs.Sums.{from}
+use Rattle.bits.specs.Places.{bit, place, cut}
 use Rattle.bits.proofs.Binary.{bit-bit, bit-high, bit-xor, bit-zero}
 use Rattle.bits.proofs.Numbers.{lt-or-le}
-use Rattle.bits.proofs.Places.{cut-below, cut-above}
+use Rattle.bits.proofs.Places.{cut-below, cut-above, places-of-byte}
 use Rattle.bits.proofs.Shifts.{moved-below, moved-above, moved-down, cut-kept}
+
+-- the places from q on, as far as its byte goes, are the bits of the byte from bit q % 8 on
+pub rest-of-byte : (w : List ℕ) (q k : ℕ) → q % 8 + k < 8 → place w (q + k) ≡ bit (getD w (q / 8) 0) (q % 8 + k)
+rest-of-byte w q k h =
+    let by-byte : q + k ≡ 8 * (q / 8) + (q % 8 + k) = omega arith in rw by-byte (places-of-byte w (q / 8) (q % 8 + k) h)
 
 -- the 64 bits of a value are the first p of x, and zeros
 abbrev pub Gathered : (x : ℕ → ℕ) (p value : ℕ) → Type 0
@@ -19,7 +27,7 @@ pub none-gathered : (x : ℕ → ℕ) → Gathered x 0 0
 none-gathered x k h = bit-zero k ∙ sym (cut-above 0 x k (omega arith))
 
 -- the bits of a byte from bit q on are the next of x
-pub byte-gathered : (x : ℕ → ℕ) (p value byte q : ℕ) → q < 8 → byte < 2 ^ 8 → Gathered x p value
+byte-gathered : (x : ℕ → ℕ) (p value byte q : ℕ) → q < 8 → byte < 2 ^ 8 → Gathered x p value
     → ((k : ℕ) → q + k < 8 → bit byte (q + k) ≡ x (p + k))
     → Gathered x (p + (8 - q)) (bitXor value (byte / 2 ^ q * 2 ^ p % 2 ^ 64))
 byte-gathered x p value byte q eight narrow so-far next k h =
@@ -27,9 +35,16 @@ byte-gathered x p value byte q eight narrow so-far next k h =
     ∙ rw (cut-kept 64 (byte / 2 ^ q * 2 ^ p) k h, so-far k h)
     (⊎-elim
     (λ (l : k < p).
-    rw (moved-below p (byte / 2 ^ q) k l, cut-below (p + (8 - q)) x k (omega arith), cut-below p x k l, ← (cut-below p x k l), ← (so-far k h))
-    (omega (arith, bit-bit value k)))
-    (λ (l : p ≤ k). let s = le-dest l in rw (cut-above p x k l, ← (s .1), moved-above p (byte / 2 ^ q) (s .0), moved-down q byte (s .0)) (behind (s .0)))
+    rw (
+      moved-below p (byte / 2 ^ q) k l,
+      cut-below (p + (8 - q)) x k (omega arith),
+      cut-below p x k l,
+      ← (cut-below p x k l),
+      ← (so-far k h),
+    ) (omega (arith, bit-bit value k)))
+    (λ (l : p ≤ k).
+    let s = le-dest l in
+    rw (cut-above p x k l, ← (s .1), moved-above p (byte / 2 ^ q) (s .0), moved-down q byte (s .0)) (behind (s .0)))
     (lt-or-le k p))
   where
     behind : (s : ℕ) → (0 + bit byte (q + s)) % 2 ≡ cut (p + (8 - q)) x (p + s)
@@ -40,6 +55,14 @@ byte-gathered x p value byte q eight narrow so-far next k h =
         (λ (l : 8 ≤ q + s).
         rw (cut-above (p + (8 - q)) x (p + s) (omega arith), bit-high byte 8 (q + s) narrow l))
         (lt-or-le (q + s) 8)
+
+-- of the places of w from `at` on p are gathered; the rest of the byte that holds the next one is gathered too
+pub places-gathered : (w : List ℕ) (at p value : ℕ) → getD w ((at + p) / 8) 0 < 2 ^ 8 → Gathered (from at (place w)) p value
+    → Gathered (from at (place w)) (p + (8 - (at + p) % 8))
+    (bitXor value (getD w ((at + p) / 8) 0 / 2 ^ ((at + p) % 8) * 2 ^ p % 2 ^ 64))
+places-gathered w at p value narrow so-far =
+    byte-gathered (from at (place w)) p value (getD w ((at + p) / 8) 0) ((at + p) % 8) (omega arith) narrow so-far
+    (λ k h. rw (← (rest-of-byte w (at + p) k h)) (ap (place w) (add-assoc at p k)))
 
 -- cut to n bits, it is the first n bits of x
 pub gathered-cut : (x : ℕ → ℕ) (p value n : ℕ) → n ≤ 64 → n ≤ p → Gathered x p value

@@ -1,5 +1,6 @@
--- `position::blocks::block_of` meets its contract. The loop's invariant: block `low` starts at or before the position, and every
--- block after `high` starts past it, since the starts rise. The measure is the blocks between. Assumes nothing.
+-- `position::blocks::block_of` meets its contract. The loop keeps that block `low` starts at or before the position and every block
+-- after `high` past it: where the middle one starts past it, so do all after that, since the starts rise. Where the two meet, it is
+-- the last block that starts at or before the position. The measure is the blocks between. Assumes nothing.
 use Prim.Native.Nat.{ℕ, _+_, _-_, _/_, _≤_, _<_}
 use mathlib.Core.Path.{_≡_, sym}
 use mathlib.Core.Logic.{⊎-elim}
@@ -41,10 +42,12 @@ loop-holds c = (
 )
 
 add-middle : tie.Need-add-middle Inv-loop μ-loop
-add-middle c = omega (arith, last-codeword-bound _ (c .before .before .before .before .pre))
+add-middle c =
+    let first = c .before .before .before .before in omega (arith, last-codeword-bound _ (first .pre))
 
 add-middle-2 : tie.Need-add-middle-2 Inv-loop μ-loop
-add-middle-2 c = omega (arith, last-codeword-bound _ (c .before .before .before .before .pre))
+add-middle-2 c =
+    let first = c .before .before .before .before in omega (arith, last-codeword-bound _ (first .pre))
 
 start-by-requires : tie.Need-start-by-requires Inv-loop μ-loop
 start-by-requires c κs = search needs

@@ -1,4 +1,4 @@
--- `position::blocks::last_codeword` meets its contract. Assumes nothing.
+-- `position::blocks::last_codeword` meets its contract: 2^k is at least 1, so 1 can be taken from it. Assumes nothing.
 use borrow.Author.Needs.{needs}
 use native.Mathlib.Omega.{arith}
 use lib.Pow.{pow-pos}

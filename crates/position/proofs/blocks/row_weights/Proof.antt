@@ -1,15 +1,15 @@
--- `position::blocks::row_weights` meets its contract. The loop's invariant: the weights of the rows below `z` are in place. The measure
--- is the rows that are left. Assumes nothing.
+-- `position::blocks::row_weights` meets its contract. The loop keeps that the weights of the rows below `z` are in place. A code has
+-- 12 rows at most, so each has its entry; a row that is narrow has all its ones in the first n bits. The measure is the rows that
+-- are left. Assumes nothing.
 use mathlib.Core.Path.{_≡_}
-use mathlib.Core.Logic.{⊎-elim}
 use Prim.Native.Nat.{ℕ, _-_, _≤_, _<_}
 use native.Mathlib.Omega.{arith}
+use borrow.Author.Count.{below-none}
 use borrow.Author.Needs.{needs}
 use lib.ListN.{length, getD, length-set}
-use lib.Seq.{getD-set-same, getD-set-other}
 use Rattle.bits.specs.Places.{weight}
-use Rattle.bits.proofs.Numbers.{eq-or-ne}
 use Rattle.model.specs.Decoded.{meaning}
+use Rattle.position.proofs.FilledList.{one-entry-more}
 use Rattle.position.proofs.blocks.row_weights.Statement.{statement}
 use Rattle.position.proofs.blocks.row_weights.Tie as tie
 
@@ -21,7 +21,7 @@ abbrev μ-loop : tie.MeasureT-loop
 μ-loop code rows weights₀ z₀ weights z = code .k - z
 
 loop-holds : tie.Need-loop-holds Inv-loop μ-loop
-loop-holds c = (omega arith, search needs, λ y h. absurd (omega arith))
+loop-holds c = (omega arith, search needs, below-none _)
 
 cast-if1 : tie.Need-cast-if1 Inv-loop μ-loop
 cast-if1 c = search needs
@@ -50,19 +50,10 @@ loop-less c = search needs
 loop-again : tie.Need-loop-again Inv-loop μ-loop
 loop-again c =
     let loop = c .before .before .before .loop in
-    let start = c .before .before .before .before .before in
-    let few = start .pre .k-high in
-    let new = c .row-weight .ensures (start .args .code .n) (start .pre .narrow (loop .z) (omega arith)) in (
-      omega arith,
-      simp length-set (loop .inv .1),
-      λ y h.
-          ⊎-elim
-          (λ (e : y ≡ loop .z).
-          rw (e, getD-set-same (loop .weights) (loop .z) (c .row-weight .result) 0 (omega (arith, loop .inv .1))) new)
-          (λ (ne : y ≡ loop .z → ⊥).
-          rw (getD-set-other (loop .weights) (loop .z) y (c .row-weight .result) 0 ne) (loop .inv .2 y (omega arith)))
-          (eq-or-ne y (loop .z)),
-    )
+    let first = c .before .before .before .before .before in
+    let inside : loop .z < length (loop .weights) = omega (arith, loop .inv .1, first .pre .k-high) in
+    let weighed = c .row-weight .ensures (first .args .code .n) (first .pre .narrow (loop .z) (omega arith)) in
+    (omega arith, simp length-set (loop .inv .1), one-entry-more _ (loop .weights) (loop .z) _ inside (loop .inv .2) weighed)
 
 returns : tie.Need-returns Inv-loop μ-loop
 returns c z h = c .before .before .loop .inv .2 z (omega arith)

@@ -1,6 +1,7 @@
--- `position::blocks::start_by` meets its contract. The loop's invariant: `begin` is the start as far as the rows below `z` go,
--- which never exceeds the whole. The measure is the rows that are left. Assumes nothing.
-use Prim.Native.Nat.{_+_, _-_, _*_, _≤_}
+-- `position::blocks::start_by` meets its contract. The loop keeps that `begin` is the start as far as the rows below `z` go. No such
+-- part of the start exceeds the whole, and that is bounded, so every sum and product fits. The measure is the rows that are left.
+-- Assumes nothing.
+use Prim.Native.Nat.{ℕ, _+_, _-_, _*_, _≤_}
 use mathlib.Core.Path.{_≡_, sym, ap₂, _∙_}
 use borrow.Author.Needs.{needs}
 use native.Mathlib.Omega.{arith}
@@ -17,45 +18,41 @@ Inv-loop code i weights begin₀ z₀ begin z = (z ≤ code .k) × (begin ≡ st
 abbrev μ-loop : tie.MeasureT-loop
 μ-loop code i weights begin₀ z₀ begin z = code .k - z
 
--- block 0's part
-first-fits : (c : tie.Start Inv-loop μ-loop) → 3 * c .args .code .distance * c .args .i ≤ 1310400
-first-fits c =
+-- the start before any row is added
+separators-fit : (c : tie.Start Inv-loop μ-loop) → 3 * c .args .code .distance * c .args .i ≤ 1310400
+separators-fit c =
     rw (← (up-to-none (meaning (c .args .code)) (c .args .i)))
     (up-to-bound (meaning (c .args .code)) (c .args .i) (c .pre .0) (c .pre .1) 0 (omega arith))
 
--- what the row of this turn adds
-added : (c : tie.After-times-added Inv-loop μ-loop)
-    → let loop = c .before .before .before .loop in
-    let args = c .before .before .before .before .before .args in
-    getD (args .t2) (loop .z) 0 * c .times-added .result ≡ rowPart (meaning (args .code)) (args .i) (loop .z)
-added c =
-    let start = c .before .before .before .before .before in
-    ap₂ _*_ (start .pre .2 (c .before .before .before .loop .z) (c .before .if1 .taken)) (c .times-added .ensures)
+-- one turn of the loop, from where it knows how often its row is added
+module _ (c : tie.After-times-added Inv-loop μ-loop) where
+  abbrev turn : tie.At-loop Inv-loop μ-loop
+  turn = c .before .before .before
 
--- the start with this row added
-next : (c : tie.After-times-added Inv-loop μ-loop)
-    → let loop = c .before .before .before .loop in
-    let args = c .before .before .before .before .before .args in
-    loop .begin + 2 * (getD (args .t2) (loop .z) 0 * c .times-added .result)
-    ≡ startUpTo (meaning (args .code)) (args .i) (loop .z + 1)
-next c =
-    let loop = c .before .before .before .loop in
-    let args = c .before .before .before .before .before .args in
-    omega (arith, added c, loop .inv .1, up-to-more (meaning (args .code)) (args .i) (loop .z))
+  abbrev first : tie.Start Inv-loop μ-loop
+  first = turn .before .before
 
-next-fits : (c : tie.After-times-added Inv-loop μ-loop)
-    → let loop = c .before .before .before .loop in
-    loop .begin + 2 * (getD (c .before .before .before .before .before .args .t2) (loop .z) 0 * c .times-added .result) ≤ 1310400
-next-fits c =
-    let start = c .before .before .before .before .before in
-    let z = c .before .before .before .loop .z in
-    rw (next c) (up-to-bound (meaning (start .args .code)) (start .args .i) (start .pre .0) (start .pre .1) (z + 1) (omega arith))
+  -- what the row adds, apart from the factor 2
+  abbrev part : ℕ
+  part = getD (first .args .t2) (turn .loop .z) 0 * c .times-added .result
+
+  part-is : part ≡ rowPart (meaning (first .args .code)) (first .args .i) (turn .loop .z)
+  part-is = ap₂ _*_ (first .pre .2 (turn .loop .z) (c .before .if1 .taken)) (c .times-added .ensures)
+
+  -- the start with this row added
+  next : turn .loop .begin + 2 * part ≡ startUpTo (meaning (first .args .code)) (first .args .i) (turn .loop .z + 1)
+  next = omega (arith, part-is, turn .loop .inv .1, up-to-more (meaning (first .args .code)) (first .args .i) (turn .loop .z))
+
+  next-fits : turn .loop .begin + 2 * part ≤ 1310400
+  next-fits =
+      rw next
+      (up-to-bound (meaning (first .args .code)) (first .args .i) (first .pre .0) (first .pre .1) (turn .loop .z + 1) (omega arith))
 
 mul-begin : tie.Need-mul-begin Inv-loop μ-loop
 mul-begin c = omega (arith, D-high _ (c .before .pre .0), c .before .pre .0 .n-high)
 
 mul-begin-2 : tie.Need-mul-begin-2 Inv-loop μ-loop
-mul-begin-2 c = omega (arith, first-fits (c .before))
+mul-begin-2 c = omega (arith, separators-fit (c .before))
 
 loop-holds : tie.Need-loop-holds Inv-loop μ-loop
 loop-holds c = (omega arith, sym (up-to-none (meaning (c .before .args .code)) (c .before .args .i)))
@@ -71,7 +68,7 @@ array-read-begin c = search needs
 
 times-added-requires : tie.Need-times-added-requires Inv-loop μ-loop
 times-added-requires c κs =
-    let start = c .before .before .before .before in omega (arith, start .pre .0 .k-high)
+    let first = c .before .before .before .before in omega (arith, first .pre .0 .k-high)
 
 mul-begin-4 : tie.Need-mul-begin-4 Inv-loop μ-loop
 mul-begin-4 c = omega (arith, next-fits c)
@@ -93,9 +90,10 @@ loop-again c = (omega arith, next c)
 
 returns : tie.Need-returns Inv-loop μ-loop
 returns c =
-    let start = c .before .before .before .before in
-    let all : c .before .before .loop .z ≡ start .args .code .k = omega arith in
-    c .before .before .loop .inv .1 ∙ rw all (up-to-all (meaning (start .args .code)) (start .args .i))
+    let turn = c .before .before in
+    let first = turn .before .before in
+    let all : turn .loop .z ≡ first .args .code .k = omega arith in
+    turn .loop .inv .1 ∙ rw all (up-to-all (meaning (first .args .code)) (first .args .i))
 
 pub start-by-spec : {M : Type 1} → statement M
 start-by-spec =

@@ -1,4 +1,5 @@
--- `position::blocks::times_added` meets its contract: a shift down divides by a power of two. Assumes nothing.
+-- `position::blocks::times_added` meets its contract: before codeword 2^z the row has not been added; from there on it has been once,
+-- and once more for each 2^(z+1) codewords since, a division that is a shift down. Assumes nothing.
 use Prim.Native.Nat.{_-_, _/_, _^_, _+_, _≤_}
 use native.Mathlib.Nat.{div-le-self}
 use native.Mathlib.Omega.{arith}
@@ -22,14 +23,14 @@ shr-result c = search needs
 
 add-result-2 : tie.Need-add-result-2
 add-result-2 c =
-    let first = c .before .two-to .result in
-    let i = c .before .before .args .i in
-    let less : (i - first) / 2 ^ (c .before .before .args .z + 1) ≤ i - first = div-le-self _ _ in
-    omega (arith, c .before .two-to .ensures, pow-pos (c .before .before .args .z))
+    let args = c .before .before .args in
+    let first = c .before .two-to in
+    let less : (args .i - first .result) / 2 ^ (args .z + 1) ≤ args .i - first .result = div-le-self _ _ in
+    omega (arith, first .ensures, pow-pos (args .z))
 
 returns-2 : tie.Need-returns-2
 returns-2 c =
-    rw (c .before .two-to .ensures) (added-again _ _ (rw (c .before .two-to .ensures) at (c .if1 .left)))
+    let first = c .before .two-to .ensures in rw first (added-again _ _ (rw first at (c .if1 .left)))
 
 pub times-added-spec : {M : Type 1} → statement M
 times-added-spec =

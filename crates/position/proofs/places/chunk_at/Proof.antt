@@ -1,14 +1,12 @@
--- `position::places::chunk_at` meets its contract. The loop's invariant: the first `p` bits are gathered, maybe with some bits behind
--- the last one wanted. The measure is the bits that are left. Assumes nothing.
-use mathlib.Core.Path.{_≡_}
-use mathlib.Core.List.{List}
-use Prim.Native.Nat.{ℕ, _+_, _-_, _/_, _%_, _≤_, _<_}
+-- `position::places::chunk_at` meets its contract. The loop keeps that the bits of `value` are the first `p` places from `at` on; a
+-- turn takes the rest of a byte, so `p` may come past n, and what is too much is cut off at the end. The measure is the bits that
+-- are left. Assumes nothing.
+use Prim.Native.Nat.{_+_, _-_, _≤_}
 use native.Mathlib.Omega.{arith}
 use borrow.Author.Needs.{needs}
-use lib.ListN.{getD}
 use Rattle.bits.specs.Sums.{from}
-use Rattle.bits.specs.Places.{bit, place}
-use Rattle.position.proofs.GatheredBits.{Gathered, none-gathered, byte-gathered, gathered-cut}
+use Rattle.bits.specs.Places.{place}
+use Rattle.position.proofs.GatheredBits.{Gathered, none-gathered, places-gathered, gathered-cut}
 use Rattle.position.proofs.places.chunk_at.Statement.{statement}
 use Rattle.position.proofs.places.chunk_at.Tie as tie
 
@@ -42,25 +40,13 @@ add-p c = search needs
 loop-less : tie.Need-loop-less Inv-loop μ-loop
 loop-less c = search needs
 
--- the bits of a byte from a place on are that place and those behind it
-next : (w : List ℕ) (at p k : ℕ) → (at + p) % 8 + k < 8
-    → bit (getD w ((at + p) / 8) 0) ((at + p) % 8 + k) ≡ from at (place w) (p + k)
-unfolding place
-next w at p k h =
-    let same : (at + (p + k)) / 8 ≡ (at + p) / 8 = omega arith in
-    let up : (at + (p + k)) % 8 ≡ (at + p) % 8 + k = omega arith in
-    rw (same, up)
-
 loop-again : tie.Need-loop-again Inv-loop μ-loop
 loop-again c =
     let loop = c .before .before .before .loop in
-    let args = c .before .before .before .before .args in
-    let q = args .at + loop .p in (
+    let args = c .before .before .before .before .args in (
       omega arith,
       rw (c .moved-to .ensures .0)
-          (byte-gathered (from (args .at) (place (args .w .now))) (loop .p) (loop .value) (getD (args .w .now) (q / 8) 0) (q % 8)
-          (omega arith) (c .moved-to .ensures .1) (loop .inv .1)
-          (next (args .w .now) (args .at) (loop .p))),
+          (places-gathered (args .w .now) (args .at) (loop .p) (loop .value) (c .moved-to .ensures .1) (loop .inv .1)),
     )
 
 low-bits-requires : tie.Need-low-bits-requires Inv-loop μ-loop

@@ -1,16 +1,15 @@
--- `position::words::put_chunk` meets its contract. The loop's invariant: the first `p` bits of the chunk are put down, the last of them
--- maybe zeros behind the chunk. The measure is the bits that are left. Assumes nothing.
-use Prim.Native.Nat.{ℕ, _+_, _-_, _*_, _/_, _%_, _^_, _≤_, _<_}
-use mathlib.Core.Path.{_≡_, _∙_}
+-- `position::words::put_chunk` meets its contract. The loop keeps that the word is the one before, joined at `at` with the first `p`
+-- bits of the value; a turn fills the rest of a byte, so `p` may come past `len`, where the value's bits are 0. The measure is the
+-- bits that are left. Assumes nothing.
+use Prim.Native.Nat.{ℕ, _+_, _-_, _/_, _≤_, _<_}
+use mathlib.Core.Path.{_≡_}
 use borrow.Author.Needs.{needs}
 use native.Mathlib.Omega.{arith}
-use lib.Bits.{bitXor}
-use lib.ListN.{length, getD, length-set}
+use lib.ListN.{length, length-set}
 use Rattle.bits.specs.Sums.{joinAt}
 use Rattle.bits.specs.Places.{bit, place, cut}
-use Rattle.bits.proofs.Shifts.{moved-down}
-use Rattle.position.proofs.ChunkByChunk.{chunk-none, chunk-more, chunk-whole, chunk-free}
-use Rattle.position.proofs.FilledByte.{filled-here, filled-before, filled-behind}
+use Rattle.position.proofs.ChunkByChunk.{chunk-none, chunk-whole}
+use Rattle.position.proofs.FilledByte.{chunk-filled}
 use Rattle.position.proofs.words.put_chunk.Statement.{statement}
 use Rattle.position.proofs.words.put_chunk.Tie as tie
 
@@ -58,22 +57,10 @@ loop-again : tie.Need-loop-again Inv-loop μ-loop
 loop-again c =
     let loop = c .before .before .loop in
     let args = c .before .before .before .args in
-    let q = args .at + loop .p in
-    let v = args .value / 2 ^ loop .p in
-    let byte = bitXor (getD (loop .word) (q / 8) 0) (c .moved-up .result) in
-    let inside : q / 8 < length (loop .word) = omega (arith, loop .inv .1) in
-    let is : byte ≡ bitXor (getD (loop .word) (q / 8) 0) (v * 2 ^ (q % 8) % 2 ^ 8) = rw (c .moved-up .ensures) in (
+    let inside : (args .at + loop .p) / 8 < length (loop .word) = omega (arith, loop .inv .1) in (
       omega arith,
       simp length-set (loop .inv .1),
-      chunk-more (args .at) (place (args .before)) (bit (args .value)) (loop .p) (loop .p + (8 - q % 8)) (omega arith) (loop .inv .2)
-          (λ k l h.
-          let free = chunk-free (args .at) (place (args .before)) (bit (args .value)) (loop .p) (loop .inv .2) k l in
-          let moved : args .at + k - q ≡ k - loop .p = omega arith in
-          let up : loop .p + (k - loop .p) ≡ k = omega arith in
-          filled-here (loop .word) q v byte inside is (args .at + k) (omega arith) (omega arith) free
-          ∙ rw (moved, moved-down (loop .p) (args .value) (k - loop .p), up))
-          (filled-before (loop .word) q v byte inside is)
-          (λ s h. filled-behind (loop .word) q v byte inside is s (omega arith)),
+      chunk-filled (args .at) (args .value) (loop .p) (place (args .before)) (loop .word) _ inside (rw (c .moved-up .ensures)) (loop .inv .2),
     )
 
 returns : tie.Need-returns Inv-loop μ-loop

@@ -1,17 +1,17 @@
--- `position::words::write` meets its contract. The loop's invariant: the bytes below `j` are the word's. The measure is the bytes
--- that are left. Assumes nothing.
+-- `position::words::write` meets its contract. The loop keeps that the lent bytes below `j` are the word's; at the end all are, and
+-- they are as many as a word has. A word has 40 bytes at most, so each is read. The measure is the bytes that are left.
+-- Assumes nothing.
 use Prim.Native.Nat.{ℕ, _-_, _<_}
-use mathlib.Core.Path.{_≡_, _∙_}
-use borrow.Author.Count.{below-more}
+use mathlib.Core.Path.{_≡_, refl, _∙_}
 use borrow.Author.Needs.{needs}
 use native.Mathlib.Omega.{arith}
 use lib.ListN.{length, getD, length-set}
-use lib.Seq.{getD-set-same, getD-set-other}
 use mir.Syntax.{w8}
 use mir.Val.{Fits}
 use Rattle.model.specs.Decoded.{meaning}
-use Rattle.code_theory.proofs.LeastDistance.{D-high}
+use Rattle.position_theory.proofs.Bounds.{word-bits-bound}
 use Rattle.position.proofs.CopiedWord.{copied-word}
+use Rattle.position.proofs.FilledList.{one-entry-more}
 use Rattle.position.proofs.words.write.Statement.{statement}
 use Rattle.position.proofs.words.write.Tie as tie
 
@@ -29,8 +29,8 @@ loop-holds c = search needs
 
 array-read-lent : tie.Need-array-read-lent Inv-loop μ-loop
 array-read-lent c =
-    let start = c .before .before .before .before in
-    omega (arith, c .before .loop .inv .0, start .pre .1, D-high (meaning (start .args .code)) (start .pre .0 .0), start .pre .0 .0 .n-high)
+    let first = c .before .before .before .before in
+    omega (arith, c .before .loop .inv .0, first .pre .1, word-bits-bound (meaning (first .args .code)) (first .pre .0 .0))
 
 slice-write-lent : tie.Need-slice-write-lent Inv-loop μ-loop
 slice-write-lent c = search needs
@@ -44,26 +44,19 @@ loop-less c = search needs
 loop-again : tie.Need-loop-again Inv-loop μ-loop
 loop-again c =
     let loop = c .before .loop in
-    let b = getD (c .before .before .word-at .result) (loop .j) 0 in (
-      simp length-set (loop .inv .0),
-      below-more _ _
-          (λ i h. getD-set-other (loop .lent) (loop .j) i b 0 (λ e. omega arith) ∙ loop .inv .1 i h)
-          (getD-set-same (loop .lent) (loop .j) b 0 (omega arith)),
-    )
+    (simp length-set (loop .inv .0), one-entry-more _ (loop .lent) (loop .j) _ (omega arith) (loop .inv .1) refl)
 
 same-length : tie.Need-same-length Inv-loop μ-loop
 same-length c = search needs
 
 returns : tie.Need-returns Inv-loop μ-loop
 returns c =
-    let start = c .before .before .before .before in
+    let first = c .before .before .before .before in
+    let word = c .before .before .word-at in
     let loop = c .before .loop in
-    let word = c .before .before .word-at .result in
-    let fits : (i : ℕ) → Fits w8 (getD word i 0) = λ i. search needs in
-    copied-word (loop .lent) word (λ i h. loop .inv .1 i (omega arith)) (meaning (start .args .code)) (start .args .position)
-    (loop .inv .0 ∙ start .pre .1)
-    (λ i. fits i .fits)
-    (c .before .before .word-at .ensures)
+    let bytes : (i : ℕ) → Fits w8 (getD (word .result) i 0) = λ i. search needs in
+    copied-word (loop .lent) (word .result) (λ i h. loop .inv .1 i (omega arith)) (meaning (first .args .code)) (first .args .position)
+    (loop .inv .0 ∙ first .pre .1) (λ i. bytes i .fits) (word .ensures)
 
 pub write-spec : {M : Type 1} → statement M
 write-spec =
