@@ -16,12 +16,18 @@ use Rattle.bits.proofs.Numbers.{lt-or-le}
 use Rattle.bits.proofs.Distance.{distance-ext, distance-self, distance-split}
 use Rattle.bits.proofs.Places.{cut-below, cut-above}
 use Rattle.model.specs.Card.{Code}
-use Rattle.model.specs.Order.{start}
+use Rattle.model.specs.Order.{lastCodeword, start}
 use Rattle.model.specs.Words.{wordBits, word, wordAt}
+use Rattle.code_theory.specs.Promise.{Sound}
 use Rattle.code_theory.proofs.Promise.{promise}
-use Rattle.position_theory.proofs.Bounds.{word-bits-bound}
-use Rattle.position_theory.proofs.Stepping.{word-passed}
+use Rattle.position_theory.proofs.Bounds.{word-bits-bound, position-bound}
+use Rattle.position_theory.proofs.Stepping.{steps-room, word-passed}
 use Rattle.position.specs.SearchReady.{BlockWords}
+
+-- where the places below q have been passed, the position fits
+pub passed-bound : (C : Code) → Sound C → (i : ℕ) → i < lastCodeword C → (q : ℕ) → q ≤ wordBits C
+    → start C i + distance q (word C i) (word C (i + 1)) ≤ 1310400
+passed-bound C sound i inside q room = position-bound C sound i _ inside (steps-room C (promise C sound) i inside q room)
 
 module _ (C : Code) (i : ℕ) (u v w : List ℕ) (at : ℕ) (words : BlockWords C i u v)
     (spare : (p : ℕ) → place u p ≡ cut (wordBits C) (word C i) p) (room : at ≤ wordBits C)

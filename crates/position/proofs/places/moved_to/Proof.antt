@@ -1,4 +1,5 @@
--- `position::places::moved_to` meets its contract: what the shifts mean. Assumes nothing.
+-- `position::places::moved_to` meets its contract, which says what the two shifts mean: a byte moved down is at most the byte, so it
+-- fits a number. Assumes nothing.
 use Prim.Native.Nat.{_/_, _^_, _≤_}
 use native.Mathlib.Nat.{div-le-self}
 use native.Mathlib.Omega.{arith}

@@ -1,4 +1,5 @@
--- `position::places::ones_between` meets its contract: the ones of the number that the places make up. Assumes nothing.
+-- `position::places::ones_between` meets its contract: the places make up a number of `len` bits, and its count of ones is the sum of
+-- these bits. Assumes nothing.
 use mathlib.Core.Path.{_≡_, sym, _∙_}
 use native.Mathlib.Omega.{arith}
 use borrow.Author.Needs.{needs}

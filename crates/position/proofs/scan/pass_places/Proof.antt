@@ -7,10 +7,9 @@ use Prim.Native.Nat.{_-_, _≤_, _<_}
 use borrow.Author.Needs.{needs}
 use native.Mathlib.Omega.{arith}
 use Rattle.bits.specs.Places.{place}
-use Rattle.position_theory.proofs.Bounds.{word-bits-bound, residual-bound, position-bound}
-use Rattle.position_theory.proofs.Stepping.{steps-room}
-use Rattle.code_theory.proofs.Promise.{promise}
+use Rattle.position_theory.proofs.Bounds.{word-bits-bound, residual-bound}
 use Rattle.position.specs.SearchReady.{PassedPlaces, Passes}
+use Rattle.position.proofs.BlockSearch.{passed-bound}
 use Rattle.position.proofs.Passing.{residual-positive, passes-alike, passes-differing}
 use Rattle.position.proofs.scan.pass_places.Statement.{statement}
 use Rattle.position.proofs.scan.pass_places.Tie as tie
@@ -75,14 +74,8 @@ advance-requires c κs =
     let in-loop = c .before .before .before .before .before in
     let ready = in-loop .before .before .pre in
     let here = passed in-loop in
-    let sound = ready .words .sound in
-    let inside = ready .words .inside in
-    omega (
-      arith,
-      here .position-is,
-      position-bound (ready .code) sound (ready .block) _ inside
-          (steps-room (ready .code) (promise (ready .code) sound) (ready .block) inside (in-loop .before .loop .q) (here .within)),
-    )
+    let words = ready .words in
+    omega (arith, here .position-is, passed-bound (ready .code) (words .sound) (ready .block) (words .inside) (in-loop .before .loop .q) (here .within))
 
 add-q : tie.Need-add-q Inv-loop μ-loop
 add-q c = search needs

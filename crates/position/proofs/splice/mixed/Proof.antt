@@ -1,4 +1,5 @@
--- `position::splice::mixed` meets its contract: the law of a byte put together of two. Assumes nothing.
+-- `position::splice::mixed` meets its contract: with 2^q for `unit`, the quotient keeps the bits of `high` from q on and the remainder
+-- those of `low` below, and a law says so of their sum, which is a byte. Assumes nothing.
 use Prim.Native.Nat.{_<_, _+_, _*_, _/_, _%_}
 use native.Mathlib.Omega.{arith}
 use borrow.Author.Needs.{needs}
@@ -13,30 +14,33 @@ two-to-requires c κs = search needs
 positive : (c : tie.After-two-to) → 0 < c .two-to .result
 positive c = rw (c .two-to .ensures) (pow-pos _)
 
-byte : (c : tie.After-two-to)
-    → c .before .args .high / c .two-to .result * c .two-to .result + c .before .args .low % c .two-to .result < 256
-byte c =
-    let narrow : c .before .args .high < 256 = omega arith in
-    rw (c .two-to .ensures) (mixed-fits (c .before .args .q) (c .before .args .low) (c .before .args .high) (c .before .pre) narrow)
+-- the sum is a byte
+fits : (c : tie.After-two-to)
+    → let args = c .before .args in
+    let unit = c .two-to .result in
+    args .high / unit * unit + args .low % unit < 256
+fits c =
+    let first = c .before in
+    rw (c .two-to .ensures) (mixed-fits (first .args .q) (first .args .low) (first .args .high) (first .pre) (omega arith))
 
 div-result : tie.Need-div-result
 div-result c = positive c
 
 mul-result : tie.Need-mul-result
-mul-result c = omega (arith, byte c)
+mul-result c = omega (arith, fits c)
 
 rem-result : tie.Need-rem-result
 rem-result c = positive c
 
 add-result : tie.Need-add-result
-add-result c = omega (arith, byte c)
+add-result c = omega (arith, fits c)
 
 cast-result : tie.Need-cast-result
-cast-result c = omega (arith, byte c)
+cast-result c = omega (arith, fits c)
 
 returns : tie.Need-returns
 returns c p h =
-    rw (c .two-to .ensures) (mixed-bits (c .before .args .q) (c .before .args .low) (c .before .args .high) p)
+    let args = c .before .args in rw (c .two-to .ensures) (mixed-bits (args .q) (args .low) (args .high) p)
 
 pub mixed-spec : {M : Type 1} → statement M
 mixed-spec = tie.close (tie.spec two-to-requires div-result mul-result rem-result add-result cast-result returns)

@@ -1,5 +1,6 @@
--- `position::splice::spliced` meets its contract. The loop's invariant: the bytes below `j` are v's and the others u's. The measure is
--- the whole bytes that are left; the byte that holds the place is put together of both. Assumes nothing.
+-- `position::splice::spliced` meets its contract. The loop keeps that the word is v's below byte `j` and u's from there on. After the
+-- whole bytes, the byte that holds the place is put together of both, if the place is not its first. The measure is the whole bytes
+-- that are left. Assumes nothing.
 use mathlib.Core.Path.{_≡_}
 use Prim.Native.Nat.{_+_, _-_, _*_, _/_, _%_, _≤_}
 use lib.ListN.{length, length-set}
@@ -57,13 +58,15 @@ returns c =
     let all : loop .j ≡ at / 8 = omega arith in
     let here : 8 * (at / 8) + at % 8 ≡ at = omega arith in
     rw here at
-    (spliced-more _ _ (loop .word) (at / 8) (at % 8) (c .mixed .result) (omega (arith, loop .inv .1)) (omega arith) (rw all at (loop .inv .2))
-    (c .mixed .ensures))
+    (spliced-more _ _ (loop .word) (at / 8) (at % 8) (c .mixed .result) (omega (arith, loop .inv .1)) (omega arith)
+    (rw all at (loop .inv .2)) (c .mixed .ensures))
 
 returns-2 : tie.Need-returns-2 Inv-loop μ-loop
 returns-2 c =
     let loop = c .before .before .loop in
-    let all : 8 * loop .j ≡ c .before .before .before .args .at = omega arith in rw all at (loop .inv .2)
+    let at = c .before .before .before .args .at in
+    let all : 8 * loop .j ≡ at = omega arith in
+    rw all at (loop .inv .2)
 
 pub spliced-spec : {M : Type 1} → statement M
 spliced-spec =

@@ -1,48 +1,41 @@
--- `position::words::word_at` meets its contract: a position stands at the start of its block, or inside a block that has a next
--- word to walk to. Assumes nothing.
-use Prim.Native.Nat.{ℕ, _+_, _-_, _≤_}
-use mathlib.Core.Logic.{⊎-elim}
+-- `position::words::word_at` meets its contract: the word of a position is defined as the walk from w(i) to w(i+1), i its block, of as
+-- many steps as it stands from the block's start; and no position of the track stands farther than the two words are apart.
+-- Assumes nothing.
+use Prim.Native.Nat.{_≤_}
 use borrow.Author.Needs.{needs}
-use native.Mathlib.Omega.{arith}
-use Rattle.bits.specs.Sums.{distance}
-use Rattle.model.specs.Card.{Code}
 use Rattle.model.specs.Decoded.{meaning}
-use Rattle.model.specs.Order.{start, lastPosition}
-use Rattle.model.specs.Words.{wordBits, word, blockOf, wordAt}
+use Rattle.model.specs.Order.{lastCodeword}
+use Rattle.model.specs.Words.{wordAt}
 use Rattle.code_theory.specs.Promise.{Sound}
 use Rattle.code_theory.proofs.Promise.{promise}
-use Rattle.position_theory.proofs.Blocks.{block-le, block-low, in-its-block}
-use Rattle.position_theory.proofs.Words.{apart}
+use Rattle.position_theory.proofs.Blocks.{block-le, block-low}
+use Rattle.position.proofs.WalkedWord.{steps-in-block}
 use Rattle.position.proofs.words.word_at.Statement.{statement}
 use Rattle.position.proofs.words.word_at.Tie as tie
-
--- the steps into its block that a position stands are steps of the walk to the next word
-steps-to-make : (C : Code) → Sound C → (position : ℕ) → position ≤ lastPosition C
-    → position - start C (blockOf C position) ≤ distance (wordBits C) (word C (blockOf C position)) (word C (blockOf C position + 1))
-steps-to-make C S position h =
-    ⊎-elim (λ e. omega arith)
-    (λ inside. omega (arith, inside .1, apart C (promise C S) (blockOf C position) (inside .0)))
-    (in-its-block C (promise C S) position h)
 
 block-of-requires : tie.Need-block-of-requires
 block-of-requires c κs = search needs
 
+-- the block is one of the track's, and it is a sound code's
+on-track : (c : tie.After-block-of)
+    → let C = meaning (c .before .args .code) in Sound C × (c .block-of .result ≤ lastCodeword C)
+on-track c =
+    let sound = c .before .pre .0 in (sound, rw (c .block-of .ensures) (block-le _ (promise _ sound) (c .before .args .position)))
+
 block-start-requires : tie.Need-block-start-requires
-block-start-requires c κs =
-    let S = c .before .pre .0 in (S, rw (c .block-of .ensures) (block-le _ (promise _ S) (c .before .args .position)))
+block-start-requires c κs = on-track c
 
 sub-word-in-block : tie.Need-sub-word-in-block
 sub-word-in-block c =
-    let start = c .before .before in
-    rw (c .block-start .ensures, c .before .block-of .ensures) (block-low _ (promise _ (start .pre .0)) (start .args .position))
+    let first = c .before .before in
+    rw (c .block-start .ensures, c .before .block-of .ensures) (block-low _ (promise _ (first .pre .0)) (first .args .position))
 
 word-in-block-requires : tie.Need-word-in-block-requires
 word-in-block-requires c κs =
-    let first = c .before .before in
-    let S = first .pre .0 in (
-      (S, rw (c .before .block-of .ensures) (block-le _ (promise _ S) (first .args .position))),
+    let first = c .before .before in (
+      on-track (c .before),
       rw (c .block-start .ensures, c .before .block-of .ensures)
-          (steps-to-make (meaning (first .args .code)) S (first .args .position) (first .pre .1)),
+          (steps-in-block (meaning (first .args .code)) (first .pre .0) (first .args .position) (first .pre .1)),
     )
 
 returns : tie.Need-returns

@@ -1,18 +1,17 @@
--- `position::words::word_in_block` meets its contract: w(i+1) up to a place before which m of its bits differ from w(i), and w(i) from
--- there on, is the walk of m steps. Assumes nothing.
+-- `position::words::word_in_block` meets its contract: w(i+1) up to a place before which the two words differ in m places, and w(i)
+-- from there on, is the walk of m steps. There is such a place, since the words differ in m places at least. Assumes nothing.
 use Prim.Native.Nat.{_+_}
-use mathlib.Core.Path.{_≡_, sym, _∙_, fun-ext}
+use mathlib.Core.Path.{_∙_, fun-ext}
 use borrow.Author.Needs.{needs}
 use native.Mathlib.Omega.{arith}
-use Rattle.bits.specs.Sums.{distance}
-use Rattle.bits.specs.Places.{place}
-use Rattle.bits.proofs.Distance.{distance-ext, distance-longer}
-use Rattle.bits.proofs.Places.{place-bit, cut-below}
+use Rattle.bits.specs.Places.{cut}
+use Rattle.bits.proofs.Distance.{distance-longer}
+use Rattle.bits.proofs.Places.{place-bit}
 use Rattle.model.specs.Decoded.{meaning}
 use Rattle.model.specs.Words.{wordBits, word}
 use Rattle.code_theory.proofs.Starts.{last-codeword-bound}
 use Rattle.position_theory.proofs.Bounds.{word-bits-bound}
-use Rattle.position.proofs.WalkedWord.{walk-spliced, walk-cut}
+use Rattle.position.proofs.WalkedWord.{walk-spliced, distance-cut, walk-cut}
 use Rattle.position.proofs.words.word_in_block.Statement.{statement}
 use Rattle.position.proofs.words.word_in_block.Tie as tie
 
@@ -32,12 +31,11 @@ place-after-requires c κs =
     let first = words .before .before in
     let C = meaning (first .args .code) in
     let d = wordBits C in
-    let u = place (words .before .word-of .result) in
-    let v = place (words .word-of2 .result) in
-    let same : distance d (word C (first .args .i)) (word C (first .args .i + 1)) ≡ distance d u v =
-    distance-ext d (λ p b. sym (words .before .word-of .ensures p ∙ cut-below d _ p b))
-    (λ p b. sym (words .word-of2 .ensures p ∙ cut-below d _ p b)) in
-    omega (arith, same, first .pre .1, distance-longer u v {a = d} {d = 320} (word-bits-bound C (first .pre .0 .0)))
+    let u = word C (first .args .i) in
+    let v = word C (first .args .i + 1) in
+    let longer = distance-longer (cut d u) (cut d v) {a = d} {d = 320} (word-bits-bound C (first .pre .0 .0)) in
+    rw (fun-ext (words .before .word-of .ensures), fun-ext (words .word-of2 .ensures))
+    (omega (arith, first .pre .1, distance-cut d d u v (omega arith)))
 
 spliced-requires : tie.Need-spliced-requires
 spliced-requires c κs = search needs

@@ -1,6 +1,6 @@
--- `position::words::word_of` meets its contract: each chunk is put down behind the ones before it, by one law each.
--- Assumes nothing.
-use Prim.Native.Nat.{ℕ, _+_, _%_, _^_, _≤_, _<_}
+-- `position::words::word_of` meets its contract: each chunk is put down on the zeros behind the ones before it, and after each the word
+-- is w(i) as far as it goes, by one law each; a word has 320 bits at most, so each chunk fits. Assumes nothing.
+use Prim.Native.Nat.{ℕ, _%_, _^_, _≤_, _<_}
 use mathlib.Core.Path.{_≡_}
 use mathlib.Core.List.{List}
 use borrow.Author.Needs.{needs}
@@ -8,27 +8,35 @@ use native.Mathlib.Omega.{arith}
 use Rattle.bits.specs.Places.{bit, place}
 use Rattle.model.specs.Card.{Code}
 use Rattle.model.specs.Decoded.{meaning}
+use Rattle.position.specs.declared.layout.Layout.{Layout}
 use Rattle.position.specs.LayoutOf.{LayoutOf}
 use Rattle.position.proofs.WordChunks.{UpTo, put-separator₁, put-chunk₁, put-separator₂, put-chunk₂, put-separator₃, zeros-behind}
 use Rattle.position.proofs.ZeroBytes.{zero-place}
 use Rattle.position.proofs.words.word_of.Statement.{statement}
 use Rattle.position.proofs.words.word_of.Tie as tie
 
+-- where layout, parity and codeword are known
 module _ (c : tie.After-codeword) where
-  abbrev C : Code
-  C = meaning (c .before .before .before .args .code)
+  abbrev first : tie.Start
+  first = c .before .before .before
 
-  laid : LayoutOf C (c .before .before .layout-of .result)
+  abbrev C : Code
+  C = meaning (first .args .code)
+
+  abbrev layout : Layout
+  layout = c .before .before .layout-of .result
+
+  laid : LayoutOf C layout
   laid = c .before .before .layout-of .ensures
 
   -- a word that holds the bits of w(i) up to a place
   abbrev Holds : ℕ → List ℕ → Type 0
-  Holds at held = UpTo C (c .before .before .before .args .i) at (place held)
+  Holds at held = UpTo C (first .args .i) at (place held)
 
   code-fits : C .n ≤ 64
-  code-fits = c .before .before .before .pre .n-high
+  code-fits = first .pre .n-high
 
-  parity-bits : (p : ℕ) → p < C .D → bit (c .before .separator .result) p ≡ c .before .before .before .args .i % 2
+  parity-bits : (p : ℕ) → p < C .D → bit (c .before .separator .result) p ≡ first .args .i % 2
   parity-bits p b = c .before .separator .ensures .1 p b
 
   parity-narrow : c .before .separator .result < 2 ^ C .D
@@ -37,25 +45,27 @@ module _ (c : tie.After-codeword) where
   codeword-narrow : c .codeword .result < 2 ^ C .n
   codeword-narrow = c .codeword .ensures .1
 
-first : (c : tie.After-put-chunk) → let o = c .before in Holds o (C o .D) (c .put-chunk .result)
-first c =
-    let o = c .before in
-    put-separator₁ _ _ _ _ (parity-bits o) (o .codeword .ensures .0) (zero-place 40) (c .put-chunk .ensures)
+separator₁-put : (c : tie.After-put-chunk) → let known = c .before in Holds known (layout known .chunk1) (c .put-chunk .result)
+separator₁-put c =
+    let known = c .before in
+    put-separator₁ _ _ (laid known) _ _ _ (parity-bits known) (known .codeword .ensures .0) (zero-place 40) (c .put-chunk .ensures)
 
-second : (c : tie.After-put-chunk2) → let o = c .before .before in Holds o (C o .D + C o .n) (c .put-chunk2 .result)
-second c =
-    let o = c .before .before in
-    put-chunk₁ _ _ _ _ (parity-bits o) (o .codeword .ensures .0) (first (c .before)) (rw (laid o .chunk₁-at) at (c .put-chunk2 .ensures))
+chunk₁-put : (c : tie.After-put-chunk2) → let known = c .before .before in Holds known (layout known .separator2) (c .put-chunk2 .result)
+chunk₁-put c =
+    let known = c .before .before in
+    put-chunk₁ _ _ (laid known) _ _ _ (parity-bits known) (known .codeword .ensures .0) (separator₁-put (c .before)) (c .put-chunk2 .ensures)
 
-third : (c : tie.After-put-chunk3) → let o = c .before .before .before in Holds o (C o .D + C o .n + C o .D) (c .put-chunk3 .result)
-third c =
-    let o = c .before .before .before in
-    put-separator₂ _ _ _ _ (parity-bits o) (o .codeword .ensures .0) (second (c .before)) (rw (laid o .separator₂-at) at (c .put-chunk3 .ensures))
+separator₂-put : (c : tie.After-put-chunk3)
+    → let known = c .before .before .before in Holds known (layout known .chunk2) (c .put-chunk3 .result)
+separator₂-put c =
+    let known = c .before .before .before in
+    put-separator₂ _ _ (laid known) _ _ _ (parity-bits known) (known .codeword .ensures .0) (chunk₁-put (c .before)) (c .put-chunk3 .ensures)
 
-fourth : (c : tie.After-put-chunk4) → let o = c .before .before .before .before in Holds o (C o .D + C o .n + C o .D + C o .n) (c .put-chunk4 .result)
-fourth c =
-    let o = c .before .before .before .before in
-    put-chunk₂ _ _ _ _ (parity-bits o) (o .codeword .ensures .0) (third (c .before)) (rw (laid o .chunk₂-at) at (c .put-chunk4 .ensures))
+chunk₂-put : (c : tie.After-put-chunk4)
+    → let known = c .before .before .before .before in Holds known (layout known .separator3) (c .put-chunk4 .result)
+chunk₂-put c =
+    let known = c .before .before .before .before in
+    put-chunk₂ _ _ (laid known) _ _ _ (parity-bits known) (known .codeword .ensures .0) (separator₂-put (c .before)) (c .put-chunk4 .ensures)
 
 layout-of-requires : tie.Need-layout-of-requires
 layout-of-requires c κs = search needs
@@ -72,32 +82,44 @@ put-chunk-requires c κs =
 
 put-chunk-requires-2 : tie.Need-put-chunk-requires-2
 put-chunk-requires-2 c κs =
-    let o = c .before in
-    let at = laid o .chunk₁-at in
-    (omega (arith, at, laid o .fits), code-fits o, codeword-narrow o, rw at (zeros-behind _ _ _ (first c)))
+    let known = c .before in (
+      omega (arith, laid known .chunk₁-at, laid known .fits),
+      code-fits known,
+      codeword-narrow known,
+      zeros-behind _ _ _ (separator₁-put c),
+    )
 
 put-chunk-requires-3 : tie.Need-put-chunk-requires-3
 put-chunk-requires-3 c κs =
-    let o = c .before .before in
-    let at = laid o .separator₂-at in
-    (omega (arith, at, laid o .fits), laid o .separator-fits, parity-narrow o, rw at (zeros-behind _ _ _ (second c)))
+    let known = c .before .before in (
+      omega (arith, laid known .separator₂-at, laid known .fits),
+      laid known .separator-fits,
+      parity-narrow known,
+      zeros-behind _ _ _ (chunk₁-put c),
+    )
 
 put-chunk-requires-4 : tie.Need-put-chunk-requires-4
 put-chunk-requires-4 c κs =
-    let o = c .before .before .before in
-    let at = laid o .chunk₂-at in
-    (omega (arith, at, laid o .fits), code-fits o, codeword-narrow o, rw at (zeros-behind _ _ _ (third c)))
+    let known = c .before .before .before in (
+      omega (arith, laid known .chunk₂-at, laid known .fits),
+      code-fits known,
+      codeword-narrow known,
+      zeros-behind _ _ _ (separator₂-put c),
+    )
 
 put-chunk-requires-5 : tie.Need-put-chunk-requires-5
 put-chunk-requires-5 c κs =
-    let o = c .before .before .before .before in
-    let at = laid o .separator₃-at in
-    (omega (arith, at, laid o .fits), laid o .separator-fits, parity-narrow o, rw at (zeros-behind _ _ _ (fourth c)))
+    let known = c .before .before .before .before in (
+      omega (arith, laid known .separator₃-at, laid known .fits),
+      laid known .separator-fits,
+      parity-narrow known,
+      zeros-behind _ _ _ (chunk₂-put c),
+    )
 
 returns : tie.Need-returns
 returns c =
-    let o = c .before .before .before .before .before in
-    put-separator₃ _ _ _ _ (parity-bits o) (o .codeword .ensures .0) (fourth (c .before)) (rw (laid o .separator₃-at) at (c .put-chunk5 .ensures))
+    let known = c .before .before .before .before .before in
+    put-separator₃ _ _ (laid known) _ _ _ (parity-bits known) (known .codeword .ensures .0) (chunk₂-put (c .before)) (c .put-chunk5 .ensures)
 
 pub word-of-spec : {M : Type 1} → statement M
 word-of-spec =
