@@ -51,7 +51,7 @@ loop-again : tie.Need-loop-again Inv-loop μ-loop
 loop-again c =
     let loop = c .before .before .before .loop in
     let first = c .before .before .before .before .before in
-    let inside : loop .z < length (loop .weights) = omega (arith, loop .inv .1, first .pre .k-high) in
+    let inside : loop .z < length (loop .weights) = omega arith in
     let weighed = c .row-weight .ensures (first .args .code .n) (first .pre .narrow (loop .z) (omega arith)) in
     (omega arith, simp length-set (loop .inv .1), one-entry-more _ (loop .weights) (loop .z) _ inside (loop .inv .2) weighed)
 

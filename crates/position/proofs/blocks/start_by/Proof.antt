@@ -41,7 +41,7 @@ module _ (c : tie.After-times-added Inv-loop μ-loop) where
 
   -- the start with this row added
   next : turn .loop .begin + 2 * part ≡ startUpTo (meaning (first .args .code)) (first .args .i) (turn .loop .z + 1)
-  next = omega (arith, part-is, turn .loop .inv .1, up-to-more (meaning (first .args .code)) (first .args .i) (turn .loop .z))
+  next = omega (arith, part-is, up-to-more (meaning (first .args .code)) (first .args .i) (turn .loop .z))
 
   next-fits : turn .loop .begin + 2 * part ≤ 1310400
   next-fits =
@@ -49,7 +49,7 @@ module _ (c : tie.After-times-added Inv-loop μ-loop) where
       (up-to-bound (meaning (first .args .code)) (first .args .i) (first .pre .0) (first .pre .1) (turn .loop .z + 1) (omega arith))
 
 mul-begin : tie.Need-mul-begin Inv-loop μ-loop
-mul-begin c = omega (arith, D-high _ (c .before .pre .0), c .before .pre .0 .n-high)
+mul-begin c = omega (arith, D-high _ (c .before .pre .0))
 
 mul-begin-2 : tie.Need-mul-begin-2 Inv-loop μ-loop
 mul-begin-2 c = omega (arith, separators-fit (c .before))
@@ -67,8 +67,7 @@ array-read-begin : tie.Need-array-read-begin Inv-loop μ-loop
 array-read-begin c = search needs
 
 times-added-requires : tie.Need-times-added-requires Inv-loop μ-loop
-times-added-requires c κs =
-    let first = c .before .before .before .before in omega (arith, first .pre .0 .k-high)
+times-added-requires c κs = search needs
 
 mul-begin-4 : tie.Need-mul-begin-4 Inv-loop μ-loop
 mul-begin-4 c = omega (arith, next-fits c)

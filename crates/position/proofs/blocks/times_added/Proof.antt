@@ -26,7 +26,7 @@ add-result-2 c =
     let args = c .before .before .args in
     let first = c .before .two-to in
     let less : (args .i - first .result) / 2 ^ (args .z + 1) ≤ args .i - first .result = div-le-self _ _ in
-    omega (arith, first .ensures, pow-pos (args .z))
+    omega (arith, pow-pos (args .z))
 
 returns-2 : tie.Need-returns-2
 returns-2 c =

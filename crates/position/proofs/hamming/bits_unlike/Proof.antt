@@ -35,7 +35,7 @@ add-unlike : tie.Need-add-unlike Inv-loop μ-loop
 add-unlike c =
     let loop = c .before .before .loop in
     let args = c .before .before .before .args in
-    omega (arith, loop .inv .1, c .byte-unlike .ensures .1, distance-le (8 * loop .j) (place (args .t1)) (place (args .t2)))
+    omega (arith, distance-le (8 * loop .j) (place (args .t1)) (place (args .t2)))
 
 add-j : tie.Need-add-j Inv-loop μ-loop
 add-j c = search needs
@@ -48,7 +48,7 @@ loop-again c =
     let loop = c .before .before .loop in
     let args = c .before .before .before .args in
     let more = distance-byte (args .t1) (args .t2) (loop .j) in
-    (omega arith, omega (arith, loop .inv .1, c .byte-unlike .ensures .0))
+    (omega arith, omega arith)
 
 returns : tie.Need-returns Inv-loop μ-loop
 returns c =

@@ -49,7 +49,7 @@ add-more : tie.Need-add-more Inv-bytes μ-bytes Inv-loop μ-loop
 add-more c =
     let here = c .before .before .before .before in
     let args = here .before .args in
-    omega (arith, here .bytes .inv .1, c .byte-unlike .ensures .1, distance-le (8 * here .bytes .j) (place (args .u .now)) (place (args .v .now)))
+    omega (arith, distance-le (8 * here .bytes .j) (place (args .u .now)) (place (args .v .now)))
 
 add-j : tie.Need-add-j Inv-bytes μ-bytes Inv-loop μ-loop
 add-j c = search needs
@@ -59,11 +59,10 @@ bytes-less c = search needs
 
 bytes-again : tie.Need-bytes-again Inv-bytes μ-bytes Inv-loop μ-loop
 bytes-again c =
-    let counted = c .before in
-    let here = counted .before .before .before .before in
+    let here = c .before .before .before .before .before in
     let args = here .before .args in
     let more = distance-byte (args .u .now) (args .v .now) (here .bytes .j) in
-    (omega arith, omega (arith, here .bytes .inv .1, counted .byte-unlike .ensures .0), omega arith)
+    (omega arith, omega arith, omega arith)
 
 cast-q : tie.Need-cast-q Inv-bytes μ-bytes Inv-loop μ-loop
 cast-q c = search needs
@@ -77,10 +76,9 @@ loop-holds c = c .before .bytes .inv
 -- while places are left to pass, the end is not reached: u and v differ in at least m places before it
 inside : (c : tie.In-loop Inv-bytes μ-bytes Inv-loop μ-loop) → c .before .loop .q < 320
 inside c =
-    let first = c .before .before .before .before in
     let loop = c .before .loop in
     ⊎-elim
-    (λ (end : loop .q ≡ 320). absurd (omega (arith, rw end at (loop .inv .1), first .pre)))
+    (λ (end : loop .q ≡ 320). absurd (omega (arith, rw end at (loop .inv .1))))
     (λ (l : loop .q < 320). l)
     (eq-or-lt-of-le (loop .inv .0))
 
@@ -114,7 +112,7 @@ loop-again c =
     )
 
 returns : tie.Need-returns Inv-bytes μ-bytes Inv-loop μ-loop
-returns c = (c .before .loop .inv .0, omega (arith, c .before .loop .inv .1, c .before .loop .inv .2))
+returns c = (c .before .loop .inv .0, omega arith)
 
 pub place-after-spec : {M : Type 1} → statement M
 place-after-spec =

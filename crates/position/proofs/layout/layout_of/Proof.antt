@@ -33,7 +33,7 @@ returns c =
       separator₃-at = refl;
       bits-are = omega arith;
       fits = short c;
-      separator-fits = omega (arith, D-high (meaning (c .args .code)) (c .pre), c .pre .n-high);
+      separator-fits = omega (arith, D-high (meaning (c .args .code)) (c .pre));
     }
 
 pub layout-of-spec : {M : Type 1} → statement M

@@ -31,11 +31,11 @@ passed : (c : tie.In-loop Inv-loop μ-loop)
 unfolding Passes
 passed c =
     let ready = c .before .before .pre in
-    c .before .loop .inv .2 (ready .code) (ready .block) (ready .words) (ready .passed) (omega (arith, ready .room))
+    c .before .loop .inv .2 (ready .code) (ready .block) (ready .words) (ready .passed) (omega arith)
 
 below-320 : (c : tie.In-loop Inv-loop μ-loop) → c .before .loop .q < 320
 below-320 c =
-    let ready = c .before .before .pre in omega (arith, ready .room, word-bits-bound (ready .code) (ready .words .sound))
+    let ready = c .before .before .pre in omega (arith, word-bits-bound (ready .code) (ready .words .sound))
 
 bit-at-requires : tie.Need-bit-at-requires Inv-loop μ-loop
 bit-at-requires c κs = below-320 c
@@ -57,15 +57,11 @@ next-residual-requires c κs =
     let old = bits .before .bit-at in
     let new = bits .bit-at2 in
     let differ = rw (old .ensures .0, new .ensures .0) at (c .before .if1 .taken) in (
-      omega (
-        arith,
-        here .scanned .here,
-        residual-bound (ready .code) (ready .words .sound) (place (first .args .x .now)) (loop .state .position),
-      ),
+      omega (arith, residual-bound (ready .code) (ready .words .sound) (place (first .args .x .now)) (loop .state .position)),
       new .ensures .1,
       c .bit-at3 .ensures .1,
       λ e.
-          residual-positive (ready .code) (ready .block) _ _ _ (ready .words) (loop .q) (loop .state) here (omega (arith, ready .room))
+          residual-positive (ready .code) (ready .block) _ _ _ (ready .words) (loop .q) (loop .state) here (omega arith)
           differ (rw (c .bit-at3 .ensures .0, new .ensures .0) at e),
     )
 
@@ -75,7 +71,7 @@ advance-requires c κs =
     let ready = in-loop .before .before .pre in
     let here = passed in-loop in
     let words = ready .words in
-    omega (arith, here .position-is, passed-bound (ready .code) (words .sound) (ready .block) (words .inside) (in-loop .before .loop .q) (here .within))
+    omega (arith, passed-bound (ready .code) (words .sound) (ready .block) (words .inside) (in-loop .before .loop .q) (here .within))
 
 add-q : tie.Need-add-q Inv-loop μ-loop
 add-q c = search needs

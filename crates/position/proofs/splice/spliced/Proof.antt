@@ -37,7 +37,7 @@ loop-less c = search needs
 loop-again : tie.Need-loop-again Inv-loop μ-loop
 loop-again c =
     let loop = c .before .loop in
-    (omega arith, simp length-set (loop .inv .1), spliced-whole _ _ _ (loop .j) (omega (arith, loop .inv .1)) (loop .inv .2))
+    (omega arith, simp length-set (loop .inv .1), spliced-whole _ _ _ (loop .j) (omega arith) (loop .inv .2))
 
 array-read-mixed : tie.Need-array-read-mixed Inv-loop μ-loop
 array-read-mixed c = search needs
@@ -58,7 +58,7 @@ returns c =
     let all : loop .j ≡ at / 8 = omega arith in
     let here : 8 * (at / 8) + at % 8 ≡ at = omega arith in
     rw here at
-    (spliced-more _ _ (loop .word) (at / 8) (at % 8) (c .mixed .result) (omega (arith, loop .inv .1)) (omega arith)
+    (spliced-more _ _ (loop .word) (at / 8) (at % 8) (c .mixed .result) (omega arith) (omega arith)
     (rw all at (loop .inv .2)) (c .mixed .ensures))
 
 returns-2 : tie.Need-returns-2 Inv-loop μ-loop

@@ -57,7 +57,7 @@ loop-again : tie.Need-loop-again Inv-loop μ-loop
 loop-again c =
     let loop = c .before .before .loop in
     let args = c .before .before .before .args in
-    let inside : (args .at + loop .p) / 8 < length (loop .word) = omega (arith, loop .inv .1) in (
+    let inside : (args .at + loop .p) / 8 < length (loop .word) = omega arith in (
       omega arith,
       simp length-set (loop .inv .1),
       chunk-filled (args .at) (args .value) (loop .p) (place (args .before)) (loop .word) _ inside (rw (c .moved-up .ensures)) (loop .inv .2),

@@ -34,7 +34,7 @@ loop-again : tie.Need-loop-again Inv-loop μ-loop
 loop-again c =
     let loop = c .before .before .loop in
     let word = c .before .before .before .args .word .now in
-    (omega arith, simp length-set (loop .inv .1), one-copied word (loop .held) (loop .j) (omega (arith, loop .inv .1)) (loop .inv .2))
+    (omega arith, simp length-set (loop .inv .1), one-copied word (loop .held) (loop .j) (omega arith) (loop .inv .2))
 
 returns : tie.Need-returns Inv-loop μ-loop
 returns c =

@@ -18,7 +18,7 @@ low-bits-requires c κs = search needs
 returns-2 : tie.Need-returns-2
 returns-2 c =
     let args = c .before .before .args in
-    let odd : args .i % 2 ≡ 1 = omega (arith, c .before .if1 .left) in
+    let odd : args .i % 2 ≡ 1 = omega arith in
     rw (c .low-bits .ensures) (omega (arith, pow-pos (args .distance)), λ p h. bit-all-ones (args .distance) p h ∙ sym odd)
 
 pub separator-spec : {M : Type 1} → statement M

@@ -19,7 +19,7 @@ word-of-requires : tie.Need-word-of-requires
 word-of-requires c κs = search needs
 
 add-word-of : tie.Need-add-word-of
-add-word-of c = omega (arith, last-codeword-bound _ (c .before .pre .0 .0), c .before .pre .0 .1)
+add-word-of c = omega (arith, last-codeword-bound _ (c .before .pre .0 .0))
 
 word-of-requires-2 : tie.Need-word-of-requires-2
 word-of-requires-2 c κs = search needs
@@ -35,7 +35,7 @@ place-after-requires c κs =
     let v = word C (first .args .i + 1) in
     let longer = distance-longer (cut d u) (cut d v) {a = d} {d = 320} (word-bits-bound C (first .pre .0 .0)) in
     rw (fun-ext (words .before .word-of .ensures), fun-ext (words .word-of2 .ensures))
-    (omega (arith, first .pre .1, distance-cut d d u v (omega arith)))
+    (omega (arith, distance-cut d d u v (omega arith)))
 
 spliced-requires : tie.Need-spliced-requires
 spliced-requires c κs = search needs

@@ -1,6 +1,6 @@
 -- `position::words::word_of` meets its contract: each chunk is put down on the zeros behind the ones before it, and after each the word
 -- is w(i) as far as it goes, by one law each; a word has 320 bits at most, so each chunk fits. Assumes nothing.
-use Prim.Native.Nat.{ℕ, _%_, _^_, _≤_, _<_}
+use Prim.Native.Nat.{ℕ, _%_, _<_}
 use mathlib.Core.Path.{_≡_}
 use mathlib.Core.List.{List}
 use borrow.Author.Needs.{needs}
@@ -33,17 +33,8 @@ module _ (c : tie.After-codeword) where
   abbrev Holds : ℕ → List ℕ → Type 0
   Holds at held = UpTo C (first .args .i) at (place held)
 
-  code-fits : C .n ≤ 64
-  code-fits = first .pre .n-high
-
   parity-bits : (p : ℕ) → p < C .D → bit (c .before .separator .result) p ≡ first .args .i % 2
   parity-bits p b = c .before .separator .ensures .1 p b
-
-  parity-narrow : c .before .separator .result < 2 ^ C .D
-  parity-narrow = c .before .separator .ensures .0
-
-  codeword-narrow : c .codeword .result < 2 ^ C .n
-  codeword-narrow = c .codeword .ensures .1
 
 separator₁-put : (c : tie.After-put-chunk) → let known = c .before in Holds known (layout known .chunk1) (c .put-chunk .result)
 separator₁-put c =
@@ -77,44 +68,25 @@ codeword-requires : tie.Need-codeword-requires
 codeword-requires c κs = search needs
 
 put-chunk-requires : tie.Need-put-chunk-requires
-put-chunk-requires c κs =
-    (omega (arith, laid c .separator-fits), laid c .separator-fits, parity-narrow c, λ p _. zero-place 40 p)
+put-chunk-requires c κs = (omega arith, omega arith, c .before .separator .ensures .0, λ p _. zero-place 40 p)
 
 put-chunk-requires-2 : tie.Need-put-chunk-requires-2
 put-chunk-requires-2 c κs =
-    let known = c .before in (
-      omega (arith, laid known .chunk₁-at, laid known .fits),
-      code-fits known,
-      codeword-narrow known,
-      zeros-behind _ _ _ (separator₁-put c),
-    )
+    let known = c .before in (omega arith, omega arith, known .codeword .ensures .1, zeros-behind _ _ _ (separator₁-put c))
 
 put-chunk-requires-3 : tie.Need-put-chunk-requires-3
 put-chunk-requires-3 c κs =
-    let known = c .before .before in (
-      omega (arith, laid known .separator₂-at, laid known .fits),
-      laid known .separator-fits,
-      parity-narrow known,
-      zeros-behind _ _ _ (chunk₁-put c),
-    )
+    let known = c .before .before in (omega arith, omega arith, known .before .separator .ensures .0, zeros-behind _ _ _ (chunk₁-put c))
 
 put-chunk-requires-4 : tie.Need-put-chunk-requires-4
 put-chunk-requires-4 c κs =
-    let known = c .before .before .before in (
-      omega (arith, laid known .chunk₂-at, laid known .fits),
-      code-fits known,
-      codeword-narrow known,
-      zeros-behind _ _ _ (separator₂-put c),
-    )
+    let known = c .before .before .before in
+    (omega arith, omega arith, known .codeword .ensures .1, zeros-behind _ _ _ (separator₂-put c))
 
 put-chunk-requires-5 : tie.Need-put-chunk-requires-5
 put-chunk-requires-5 c κs =
-    let known = c .before .before .before .before in (
-      omega (arith, laid known .separator₃-at, laid known .fits),
-      laid known .separator-fits,
-      parity-narrow known,
-      zeros-behind _ _ _ (chunk₂-put c),
-    )
+    let known = c .before .before .before .before in
+    (omega arith, omega arith, known .before .separator .ensures .0, zeros-behind _ _ _ (chunk₂-put c))
 
 returns : tie.Need-returns
 returns c =

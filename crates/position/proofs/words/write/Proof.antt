@@ -30,7 +30,7 @@ loop-holds c = search needs
 array-read-lent : tie.Need-array-read-lent Inv-loop μ-loop
 array-read-lent c =
     let first = c .before .before .before .before in
-    omega (arith, c .before .loop .inv .0, first .pre .1, word-bits-bound (meaning (first .args .code)) (first .pre .0 .0))
+    omega (arith, word-bits-bound (meaning (first .args .code)) (first .pre .0 .0))
 
 slice-write-lent : tie.Need-slice-write-lent Inv-loop μ-loop
 slice-write-lent c = search needs
