@@ -1,4 +1,5 @@
 pub mod StartSum
+pub mod BlockBetween
 pub mod GatheredBits
 pub mod Scanning
 pub mod Passing

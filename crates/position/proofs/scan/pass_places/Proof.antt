@@ -79,6 +79,7 @@ add-q c = search needs
 loop-less : tie.Need-loop-less Inv-loop μ-loop
 loop-less c = search needs
 
+-- the body goes one of two ways: the bits differ, with what each call gave in turn and the new state; or they are alike
 loop-again : tie.Need-loop-again Inv-loop μ-loop
 loop-again c =
     let bits = c .before in
