@@ -11,7 +11,7 @@ use lib.ListN.{length, getD, set}
 use lib.Seq.{getD-set-same, getD-set-other}
 use Rattle.bits.specs.Sums.{joinAt}
 use Rattle.bits.specs.Places.{bit, place, cut}
-use Rattle.bits.proofs.Binary.{bit-bit, bit-xor}
+use Rattle.bits.proofs.Binary.{bit-xor}
 use Rattle.bits.proofs.Numbers.{eq-or-ne}
 use Rattle.bits.proofs.Shifts.{moved-below, moved-above, moved-down, cut-kept}
 use Rattle.position.proofs.ChunkByChunk.{chunk-more, chunk-free}
@@ -38,7 +38,7 @@ module _ (w : List ℕ) (q value byte : ℕ) (inside : q / 8 < length w)
       let up : (q + k) % 8 ≡ q % 8 + k = omega arith in
       let none : bit (getD w (q / 8) 0) (q % 8 + k) ≡ 0 = rw (rest-of-byte w q k h) at free in
       this-byte (q + k) same
-      ∙ rw (up, byte-bit (q % 8 + k) h, none, moved-above (q % 8) value k) (omega (arith, bit-bit value k))
+      ∙ rw (up, byte-bit (q % 8 + k) h, moved-above (q % 8) value k) (omega arith)
 
   -- the places before q are as they were, and so are those of later bytes
   filled-before : (p : ℕ) → p < q → place (set w (q / 8) byte) p ≡ place w p
@@ -48,8 +48,7 @@ module _ (w : List ℕ) (q value byte : ℕ) (inside : q / 8 < length w)
       (λ (e : p / 8 ≡ q / 8).
       let low : p % 8 < q % 8 = omega arith in
       this-byte p e
-      ∙ rw (byte-bit (p % 8) (omega arith), moved-below (q % 8) value (p % 8) low, e)
-      (omega (arith, bit-bit (getD w (q / 8) 0) (p % 8))))
+      ∙ rw (byte-bit (p % 8) (omega arith), moved-below (q % 8) value (p % 8) low, e) (omega arith))
       (λ (ne : p / 8 ≡ q / 8 → ⊥). other-byte p ne)
       (eq-or-ne (p / 8) (q / 8))
 

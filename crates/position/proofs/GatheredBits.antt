@@ -9,7 +9,7 @@ use lib.Bits.{bitAnd, bitXor, and-mask, mask-lt}
 use lib.ListN.{getD}
 use Rattle.bits.specs.Sums.{from}
 use Rattle.bits.specs.Places.{bit, place, cut}
-use Rattle.bits.proofs.Binary.{bit-bit, bit-high, bit-xor, bit-zero}
+use Rattle.bits.proofs.Binary.{bit-high, bit-xor, bit-zero}
 use Rattle.bits.proofs.Numbers.{lt-or-le}
 use Rattle.bits.proofs.Places.{cut-below, cut-above, places-of-byte}
 use Rattle.bits.proofs.Shifts.{moved-below, moved-above, moved-down, cut-kept}
@@ -35,13 +35,8 @@ byte-gathered x p value byte q eight narrow so-far next k h =
     ∙ rw (cut-kept 64 (byte / 2 ^ q * 2 ^ p) k h, so-far k h)
     (⊎-elim
     (λ (l : k < p).
-    rw (
-      moved-below p (byte / 2 ^ q) k l,
-      cut-below (p + (8 - q)) x k (omega arith),
-      cut-below p x k l,
-      ← (cut-below p x k l),
-      ← (so-far k h),
-    ) (omega (arith, bit-bit value k)))
+    rw (moved-below p (byte / 2 ^ q) k l, cut-below (p + (8 - q)) x k (omega arith), ← (cut-below p x k l), ← (so-far k h))
+    (omega arith))
     (λ (l : p ≤ k).
     let s = le-dest l in
     rw (cut-above p x k l, ← (s .1), moved-above p (byte / 2 ^ q) (s .0), moved-down q byte (s .0)) (behind (s .0)))
@@ -51,7 +46,7 @@ byte-gathered x p value byte q eight narrow so-far next k h =
     behind s =
         ⊎-elim
         (λ (l : q + s < 8).
-        rw (cut-below (p + (8 - q)) x (p + s) (omega arith), ← (next s l)) (omega (arith, bit-bit byte (q + s))))
+        rw (cut-below (p + (8 - q)) x (p + s) (omega arith), ← (next s l)) (omega arith))
         (λ (l : 8 ≤ q + s).
         rw (cut-above (p + (8 - q)) x (p + s) (omega arith), bit-high byte 8 (q + s) narrow l))
         (lt-or-le (q + s) 8)

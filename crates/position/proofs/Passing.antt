@@ -20,7 +20,7 @@ use Rattle.position.specs.SearchReady.{BlockWords, PassedPlaces, Passes}
 
 -- bits that are not the same differ by 1
 differs : (u v : List ℕ) (q : ℕ) → (place u q ≡ place v q → ⊥) → unlike (place u q) (place v q) ≡ 1
-differs u v q differ = omega (arith, place-bit u q, place-bit v q, differ)
+differs u v q differ = omega (arith, place-bit u q, place-bit v q)
 
 module _ (C : Code) (i : ℕ) (u v x : List ℕ) (words : BlockWords C i u v) (q : ℕ) (s : Scan)
     (passed : PassedPlaces C i x q s) (room : q < wordBits C) where
@@ -55,7 +55,7 @@ module _ (C : Code) (i : ℕ) (u v x : List ℕ) (words : BlockWords C i u v) (q
     pass-differing : (r : Scan) → r .position ≡ s .position + 1 → Scanned (residual C (place x)) r
         → PassedPlaces C i x (q + 1) r
     pass-differing r e scanned =
-        record { within = omega arith; position-is = e ∙ omega (arith, passed .position-is, one-more, differs u v q differ); scanned = scanned }
+        record { within = omega arith; position-is = e ∙ omega (arith, one-more, differs u v q differ); scanned = scanned }
 
 -- a search t that has passed the places below q, in whichever code and block u and v are words of, passes place q
 module _ (u v x : List ℕ) (at q : ℕ) (s t : Scan) (so-far : Passes u v x at q s t) where

@@ -38,7 +38,7 @@ module _ (C : Code) (i : ℕ) where
   up-to-none = omega arith
 
   pub up-to-more : (z : ℕ) → startUpTo C i (z + 1) ≡ startUpTo C i z + 2 * rowPart C i z
-  unfolding startUpTo sumBelow
+  unfolding startUpTo
   up-to-more z = omega (arith, sum-more (rowPart C i) z)
 
   pub up-to-all : startUpTo C i (C .k) ≡ start C i

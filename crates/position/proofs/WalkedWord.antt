@@ -61,5 +61,5 @@ pub steps-in-block : (C : Code) → Sound C → (position : ℕ) → position �
     → position - start C (blockOf C position) ≤ distance (wordBits C) (word C (blockOf C position)) (word C (blockOf C position + 1))
 steps-in-block C S position h =
     ⊎-elim (λ e. omega arith)
-    (λ inside. omega (arith, inside .1, apart C (promise C S) (blockOf C position) (inside .0)))
+    (λ inside. omega (arith, apart C (promise C S) (blockOf C position) (inside .0)))
     (in-its-block C (promise C S) position h)

@@ -35,28 +35,28 @@ module _ (C : Code) (l : Layout) (laid : LayoutOf C l) (i parity c : ℕ)
 
   pub put-separator₁ : {w r : ℕ → ℕ} → ((p : ℕ) → w p ≡ 0) → Put 0 (C .D) parity w r → UpTo C i (l .chunk1) r
   put-separator₁ zeros put =
-      put-next C i 0 (C .D) (l .chunk1) parity (omega (arith, laid .chunk₁-at))
+      put-next C i 0 (C .D) (l .chunk1) parity (omega arith)
       (λ p b. rw zero-add (separator p b ∙ sym (word-separator₁ C i p b)))
       (λ p. zeros p ∙ sym (cut-above 0 (word C i) p (omega arith))) put
 
   pub put-chunk₁ : {w r : ℕ → ℕ} → UpTo C i (l .chunk1) w → Put (l .chunk1) (C .n) c w r → UpTo C i (l .separator2) r
   put-chunk₁ =
-      put-next C i (l .chunk1) (C .n) (l .separator2) c (omega (arith, laid .chunk₁-at, laid .separator₂-at))
+      put-next C i (l .chunk1) (C .n) (l .separator2) c (omega arith)
       (λ p b. rw (laid .chunk₁-at) (code-bit p ∙ sym (word-chunk₁ C i p b)))
 
   pub put-separator₂ : {w r : ℕ → ℕ} → UpTo C i (l .separator2) w → Put (l .separator2) (C .D) parity w r → UpTo C i (l .chunk2) r
   put-separator₂ =
-      put-next C i (l .separator2) (C .D) (l .chunk2) parity (omega (arith, laid .separator₂-at, laid .chunk₂-at))
+      put-next C i (l .separator2) (C .D) (l .chunk2) parity (omega arith)
       (λ p b. rw (laid .separator₂-at) (separator p b ∙ sym (word-separator₂ C i p b)))
 
   pub put-chunk₂ : {w r : ℕ → ℕ} → UpTo C i (l .chunk2) w → Put (l .chunk2) (C .n) c w r → UpTo C i (l .separator3) r
   put-chunk₂ =
-      put-next C i (l .chunk2) (C .n) (l .separator3) c (omega (arith, laid .chunk₂-at, laid .separator₃-at))
+      put-next C i (l .chunk2) (C .n) (l .separator3) c (omega arith)
       (λ p b. rw (laid .chunk₂-at) (code-bit p ∙ sym (word-chunk₂ C i p b)))
 
   pub put-separator₃ : {w r : ℕ → ℕ} → UpTo C i (l .separator3) w → Put (l .separator3) (C .D) parity w r → UpTo C i (wordBits C) r
   put-separator₃ =
-      put-next C i (l .separator3) (C .D) (wordBits C) parity (omega (arith, laid .separator₃-at))
+      put-next C i (l .separator3) (C .D) (wordBits C) parity (omega arith)
       (λ p b. rw (laid .separator₃-at) (separator p b ∙ sym (word-separator₃ C i p)))
 
 -- past the chunks so far there are zeros
