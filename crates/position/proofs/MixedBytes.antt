@@ -10,13 +10,13 @@ use native.Mathlib.Omega.{arith}
 use lib.Bits.{bitXor, xor-shifted}
 use lib.Dec.{ltb}
 use lib.ListN.{length, getD, set}
-use lib.Pow.{pow-pos, pow-add, shr-lt, shr-shr, high}
+use lib.Pow.{pow-pos, pow-add, shr-lt, high}
 use lib.Seq.{getD-set-same, getD-set-other}
 use borrow.Author.Tests.{lt-ltb, le-ltb}
 use Rattle.bits.specs.Places.{bit, place}
 use Rattle.bits.proofs.Numbers.{lt-or-le, eq-or-ne}
-use Rattle.bits.proofs.Binary.{bit-bit, bit-xor}
-use Rattle.bits.proofs.Shifts.{moved-below, moved-above, cut-kept, cut-off}
+use Rattle.bits.proofs.Binary.{bit-xor}
+use Rattle.bits.proofs.Shifts.{moved-below, moved-above, moved-down, cut-kept, cut-off}
 
 module _ (q : ℕ) where
   mixed-is : (x y : ℕ) → y / 2 ^ q * 2 ^ q + x % 2 ^ q ≡ bitXor (y / 2 ^ q * 2 ^ q) (x % 2 ^ q)
@@ -27,7 +27,7 @@ module _ (q : ℕ) where
       ⊎-elim
       (λ (b : p < q).
       rw (mixed-is x y, bit-xor (y / 2 ^ q * 2 ^ q) (x % 2 ^ q) p, moved-below q (y / 2 ^ q) p b, cut-kept q x p b, lt-ltb p q b)
-      (omega (arith, bit-bit x p)))
+      (omega arith))
       (λ (b : q ≤ p).
       let rest = le-dest b in
       rw (
@@ -37,8 +37,8 @@ module _ (q : ℕ) where
         le-ltb p q b,
         ← (rest .1),
         moved-above q (y / 2 ^ q) (rest .0),
-        shr-shr y q (rest .0),
-      ) (omega (arith, bit-bit y (q + rest .0))))
+        moved-down q y (rest .0),
+      ) (omega arith))
       (lt-or-le p q)
 
   pub mixed-fits : (x y : ℕ) → q ≤ 8 → y < 256 → y / 2 ^ q * 2 ^ q + x % 2 ^ q < 256

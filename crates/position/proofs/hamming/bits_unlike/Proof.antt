@@ -47,8 +47,7 @@ loop-again : tie.Need-loop-again Inv-loop μ-loop
 loop-again c =
     let loop = c .before .before .loop in
     let args = c .before .before .before .args in
-    let more = distance-byte (args .t1) (args .t2) (loop .j) in
-    (omega arith, omega arith)
+    (omega arith, omega (arith, distance-byte (args .t1) (args .t2) (loop .j)))
 
 returns : tie.Need-returns Inv-loop μ-loop
 returns c =

@@ -61,8 +61,7 @@ bytes-again : tie.Need-bytes-again Inv-bytes μ-bytes Inv-loop μ-loop
 bytes-again c =
     let here = c .before .before .before .before .before in
     let args = here .before .args in
-    let more = distance-byte (args .u .now) (args .v .now) (here .bytes .j) in
-    (omega arith, omega arith, omega arith)
+    (omega arith, omega (arith, distance-byte (args .u .now) (args .v .now) (here .bytes .j)), omega arith)
 
 cast-q : tie.Need-cast-q Inv-bytes μ-bytes Inv-loop μ-loop
 cast-q c = search needs

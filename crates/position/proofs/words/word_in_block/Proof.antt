@@ -35,7 +35,7 @@ place-after-requires c κs =
     let v = word C (first .args .i + 1) in
     let longer = distance-longer (cut d u) (cut d v) {a = d} {d = 320} (word-bits-bound C (first .pre .0 .0)) in
     rw (fun-ext (words .before .word-of .ensures), fun-ext (words .word-of2 .ensures))
-    (omega (arith, distance-cut d d u v (omega arith)))
+    (omega (arith, longer, distance-cut d d u v (omega arith)))
 
 spliced-requires : tie.Need-spliced-requires
 spliced-requires c κs = search needs
