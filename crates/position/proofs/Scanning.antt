@@ -17,7 +17,7 @@ module _ (f : ℕ → ℕ) (s : Scan) (scanned : Scanned f s) (residual : ℕ) (
       → Scanned f (record { low = s .low; position = s .position + 1; residual = residual; best = s .position + 1; least = residual })
   scanned-nearer h =
       record {
-        begun = omega (arith, scanned .begun);
+        begun = omega arith;
         here = next;
         nearest = rw (leastAt-next f (s .low) (s .position) (scanned .begun), ← next, ← least-so-far, lt-ltb residual (s .least) h);
         least = next;
@@ -27,7 +27,7 @@ module _ (f : ℕ → ℕ) (s : Scan) (scanned : Scanned f s) (residual : ℕ) (
       → Scanned f (record { low = s .low; position = s .position + 1; residual = residual; best = s .best; least = s .least })
   scanned-no-nearer h =
       record {
-        begun = omega (arith, scanned .begun);
+        begun = omega arith;
         here = next;
         nearest =
             rw (leastAt-next f (s .low) (s .position) (scanned .begun), ← next, ← least-so-far, le-ltb residual (s .least) h)

@@ -40,7 +40,6 @@ module _ (C : Code) (received x : List ℕ) (same : (p : ℕ) → place x p ≡ 
       omega (arith, same (wordBits C + q), place-bit received (wordBits C + q), not-one)
 
   spare-some : (sumBelow (from (wordBits C) (place x)) (8 * wordLength C - wordBits C) ≡ 0 → ⊥) → spareSet C received ≡ true
-  unfolding spareSet
   spare-some ne = by-test (spareSet C received) refl
     where
       by-test : (t : Bool) → spareSet C received ≡ t → spareSet C received ≡ true
