@@ -1,5 +1,5 @@
 -- The search through a part of a block begins with the word that is w(i+1) below a place and w(i) from there on: the word of
--- the position at which the places below have been passed. Its distance from w(i) counts the steps to it.
+-- the position at which the places below have been passed. Its distance from w(i) counts the steps to it, and the position fits.
 -- Assumes nothing.
 use mathlib.Core.Path.{_≡_, refl, sym, _∙_, ap}
 use mathlib.Core.Bool.{cond}

@@ -1,5 +1,5 @@
 -- The rest of a byte filled: of a byte list whose places from q on are 0, those of the byte that holds place q take a value's lowest
--- bits, and no other place changes. Assumes nothing.
+-- bits, and no other place changes. So a chunk is put down byte by byte. Assumes nothing.
 use mathlib.Core.Path.{_≡_, ap, _∙_}
 use mathlib.Core.List.{List}
 use mathlib.Core.Logic.{⊎-elim}

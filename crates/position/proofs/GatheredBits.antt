@@ -1,4 +1,5 @@
--- A number gathered from bytes: the bits of each byte from some bit on are put behind those gathered so far. Assumes nothing.
+-- A number gathered from the places of a byte list: the rest of each byte, from some bit on, is put behind the bits gathered so far.
+-- Assumes nothing.
 use mathlib.Core.Path.{_≡_, sym, ap, _∙_}
 use mathlib.Core.List.{List}
 use mathlib.Core.Logic.{⊎-elim}
