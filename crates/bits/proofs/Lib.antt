@@ -9,3 +9,4 @@ pub mod Places
 pub mod PackedDistance
 pub mod LowestOne
 pub mod Shifts
+pub mod FilledList

@@ -4,12 +4,11 @@ use mathlib.Core.Path.{_≡_, sym, _∙_}
 use mathlib.Core.List.{List}
 use Prim.Native.Nat.{ℕ, _+_, _-_, _^_, _≤_, _<_}
 use native.Mathlib.Omega.{arith}
-use borrow.Author.Count.{below-more}
 use lib.Bits.{bitXor}
 use lib.Count.{trailingZeros}
 use lib.ListN.{length, getD, set, length-set}
 use lib.Pow.{pow-pos, pow-mono}
-use lib.Seq.{getD-set-same, getD-set-other}
+use Rattle.bits.proofs.FilledList.{one-entry-more}
 use Rattle.model.specs.Card.{sumOfRows}
 use Rattle.model.specs.Order.{gray}
 use Rattle.code_theory.proofs.Codewords.{rows-start}
@@ -57,9 +56,7 @@ module _ {low : ℕ} {row : ℕ → ℕ} where
         within = omega arith;
         whole = simp length-set (at .whole);
         current = current;
-        entries =
-            below-more _ _ (λ j l. getD-set-other sums (i + 1) j next 0 (omega arith) ∙ at .entries j l)
-            (getD-set-same sums (i + 1) next 0 room ∙ current);
+        entries = one-entry-more (λ j. sumOfRows row low (gray j)) sums (i + 1) next room (at .entries) current;
       }
 
   -- at the end the table is full

@@ -15,7 +15,7 @@ use Rattle.model.specs.Answers.{wordLength}
 use Rattle.model.specs.Card.{Code}
 use Rattle.model.specs.Words.{wordBits, wordAt, wordBytes}
 use Rattle.position_theory.proofs.WordBytes.{word-at-bit}
-use Rattle.position.proofs.FilledList.{one-entry-more}
+use Rattle.bits.proofs.FilledList.{one-entry-more}
 use Rattle.position.proofs.ZeroBytes.{zero-byte}
 
 -- ---- to zeros

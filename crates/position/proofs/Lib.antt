@@ -6,7 +6,6 @@ pub mod Passing
 pub mod NearestSearch
 pub mod ChunkByChunk
 pub mod FilledByte
-pub mod FilledList
 pub mod ByteDistance
 pub mod ZeroBytes
 pub mod WordChunks

@@ -16,9 +16,10 @@ pub struct Scan {
     pub least: u32,
 }
 
-// The residual after a bit was turned to `new`: one less if that is what was received, one more if not.
+// The residual after a bit was turned to `new`: one less if that is what was received, one more if not. A word has at most 320
+// bits, so a residual is at most that.
 fn next_residual(residual: u32, new: u32, received: u32) -> u32
-    requires { ⌜ (residual < 1000) × (new < 2) × (received < 2) × (received ≡ new → 1 ≤ residual) ⌝ }
+    requires { ⌜ (residual ≤ 320) × (new < 2) × (received < 2) × (received ≡ new → 1 ≤ residual) ⌝ }
     ensures { λ r. ⌜ ((old : ℕ) → old < 2 → unlike old new ≡ 1 → r + unlike old received ≡ residual + unlike new received) ⌝ }
 {
     if received == new {
@@ -28,9 +29,9 @@ fn next_residual(residual: u32, new: u32, received: u32) -> u32
     }
 }
 
-// One position on, with its residual.
+// One position on, with its residual. No track is longer than 1,310,400 steps.
 fn advance(s: Scan, residual: u32) -> Scan
-    requires { ⌜ s .position < 2000000 ⌝ }
+    requires { ⌜ s .position ≤ 1310400 ⌝ }
     ensures { λ r. ⌜ (r .low ≡ s .low) × (r .position ≡ s .position + 1) ⌝ }
     ensures { λ r. ⌜ ((f : ℕ → ℕ) → Scanned f s → residual ≡ f (s .position + 1) → Scanned f r) ⌝ }
 {

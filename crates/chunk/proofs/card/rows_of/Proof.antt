@@ -2,11 +2,10 @@
 -- card both give zero, so that the two agree at every number. The measure is the rows that are left. Assumes nothing.
 use Prim.Native.Nat.{ℕ, _-_, _≤_, _<_}
 use mathlib.Core.Path.{_≡_, sym, _∙_}
-use borrow.Author.Count.{below-more}
 use borrow.Author.Needs.{needs}
 use native.Mathlib.Omega.{arith}
-use lib.ListN.{length, getD, set, length-set}
-use lib.Seq.{getD-set-same, getD-set-other}
+use lib.ListN.{length, getD, length-set}
+use Rattle.bits.proofs.FilledList.{one-entry-more}
 use Rattle.model.specs.Card.{rowOf}
 use Rattle.chunk.proofs.Rows.{row-of-bytes, rows-alike}
 use Rattle.chunk.proofs.card.rows_of.Statement.{statement}
@@ -50,10 +49,7 @@ loop-again c =
     let loop = c .before .before .loop in
     let row = c .high-first .result in
     let is-row = c .high-first .ensures .0 ∙ sym (row-of-bytes card (loop .z) (omega arith)) in
-    let here = getD-set-same (loop .rows) (loop .z) row 0 (omega arith) ∙ is-row in
-    let below : (j : ℕ) → j < loop .z → getD (set (loop .rows) (loop .z) row) j 0 ≡ rowOf card j =
-    λ j h. getD-set-other (loop .rows) (loop .z) j row 0 (omega arith) ∙ loop .inv .2 j h in
-    (omega arith, simp length-set (loop .inv .1), below-more _ _ below here)
+    (omega arith, simp length-set (loop .inv .1), one-entry-more (rowOf card) (loop .rows) (loop .z) row (omega arith) (loop .inv .2) is-row)
 
 returns : tie.Need-returns Inv-loop μ-loop
 returns c = let loop = c .before .loop in rows-alike _ (loop .rows) (loop .inv .1) (λ z h. loop .inv .2 z (omega arith))

@@ -9,14 +9,12 @@ use Rattle.model.specs.Card.{Code}
 use Rattle.model.specs.Decoded.{meaning}
 use Rattle.model.specs.Order.{start}
 use Rattle.model.specs.Words.{wordBits, word}
-use Rattle.code_theory.proofs.Promise.{promise}
-use Rattle.position_theory.proofs.Bounds.{position-bound, word-bits-bound}
-use Rattle.position_theory.proofs.Stepping.{steps-room}
+use Rattle.position_theory.proofs.Bounds.{word-bits-bound}
 use Rattle.code_theory.proofs.Starts.{last-codeword-bound}
 use Rattle.position.specs.Received.{Begun}
 use Rattle.position.specs.SearchReady.{BlockWords, PassedPlaces, Passes}
 use Rattle.position.proofs.NearestSearch.{block-words}
-use Rattle.position.proofs.BlockSearch.{steps-counted, splice-holds}
+use Rattle.position.proofs.BlockSearch.{passed-bound, steps-counted, splice-holds}
 use Rattle.position.proofs.nearest.search_block.Statement.{statement}
 use Rattle.position.proofs.nearest.search_block.Tie as tie
 
@@ -72,13 +70,8 @@ module _ (c : tie.After-bits-unlike) where
 
 add-begin : tie.Need-add-begin
 add-begin c =
-    let sound = first c .pre .0 in
-    omega (
-      arith,
-      low c,
-      position-bound (C c) sound (i c) _ (first c .pre .2)
-          (steps-room (C c) (promise (C c) sound) (i c) (first c .pre .2) (first c .args .at) (within c)),
-    )
+    let first = first c in
+    omega (arith, low c, passed-bound (C c) (first .pre .0) (i c) (first .pre .2) (first .args .at) (within c))
 
 begin-requires : tie.Need-begin-requires
 begin-requires c κs = search needs

@@ -11,7 +11,7 @@ use mir.Val.{Fits}
 use Rattle.model.specs.Decoded.{meaning}
 use Rattle.position_theory.proofs.Bounds.{word-bits-bound}
 use Rattle.position.proofs.CopiedWord.{copied-word}
-use Rattle.position.proofs.FilledList.{one-entry-more}
+use Rattle.bits.proofs.FilledList.{one-entry-more}
 use Rattle.position.proofs.words.write.Statement.{statement}
 use Rattle.position.proofs.words.write.Tie as tie
 
