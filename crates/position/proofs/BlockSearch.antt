@@ -2,13 +2,11 @@
 -- the position at which the places below have been passed. Its distance from w(i) counts the steps to it, and the position fits.
 -- Assumes nothing.
 use mathlib.Core.Path.{_≡_, refl, sym, _∙_, ap}
-use mathlib.Core.Bool.{cond}
 use mathlib.Core.List.{List}
 use mathlib.Core.Logic.{⊎-elim}
 use Prim.Native.Nat.{ℕ, _+_, _≤_, _<_}
 use native.Mathlib.Nat.{le-dest}
 use native.Mathlib.Omega.{arith}
-use lib.Dec.{ltb}
 use borrow.Author.Tests.{lt-ltb, le-ltb}
 use Rattle.bits.specs.Sums.{distance, from}
 use Rattle.bits.specs.Places.{place, cut}
@@ -23,6 +21,7 @@ use Rattle.code_theory.proofs.Promise.{promise}
 use Rattle.position_theory.proofs.Bounds.{word-bits-bound, position-bound}
 use Rattle.position_theory.proofs.Stepping.{steps-room, word-passed}
 use Rattle.position.specs.SearchReady.{BlockWords}
+use Rattle.position.specs.Spliced.{Spliced}
 
 -- where the places below q have been passed, the position fits
 pub passed-bound : (C : Code) → Sound C → (i : ℕ) → i < lastCodeword C → (q : ℕ) → q ≤ wordBits C
@@ -31,7 +30,7 @@ passed-bound C sound i inside q room = position-bound C sound i _ inside (steps-
 
 module _ (C : Code) (i : ℕ) (u v w : List ℕ) (at : ℕ) (words : BlockWords C i u v)
     (spare : (p : ℕ) → place u p ≡ cut (wordBits C) (word C i) p) (room : at ≤ wordBits C)
-    (splice : (p : ℕ) → place w p ≡ cond (ltb p at) (place v p) (place u p)) where
+    (splice : Spliced u v w at) where
   below : (p : ℕ) → p < at → place w p ≡ word C (i + 1) p
   below p b =
       rw (splice p, lt-ltb p at b) (words .new p (omega arith))

@@ -17,6 +17,9 @@ use Rattle.bits.specs.Places.{bit, place}
 use Rattle.bits.proofs.Numbers.{lt-or-le, eq-or-ne}
 use Rattle.bits.proofs.Binary.{bit-xor}
 use Rattle.bits.proofs.Shifts.{moved-below, moved-above, moved-down, cut-kept, cut-off}
+use Rattle.position.specs.Spliced.{Spliced}
+
+-- ---- bytes
 
 module _ (q : ℕ) where
   mixed-is : (x y : ℕ) → y / 2 ^ q * 2 ^ q + x % 2 ^ q ≡ bitXor (y / 2 ^ q * 2 ^ q) (x % 2 ^ q)
@@ -51,9 +54,7 @@ module _ (q : ℕ) where
       in
       rw (← (pow-add 2 (rest .0) q), ← eight) at whole
 
--- a word that is v below place `at`, and u from there on
-abbrev pub Spliced : (u v word : List ℕ) (at : ℕ) → Type 0
-Spliced u v word at = (p : ℕ) → place word p ≡ cond (ltb p at) (place v p) (place u p)
+-- ---- words
 
 pub spliced-none : (u v : List ℕ) → Spliced u v u 0
 spliced-none u v p = rw (le-ltb p 0 (omega arith))

@@ -1,5 +1,6 @@
 pub mod RowWeights
 pub mod LayoutOf
+pub mod Spliced
 pub mod Received
 pub mod Scanned
 pub mod SearchReady

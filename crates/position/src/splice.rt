@@ -3,7 +3,8 @@ ghost use mathlib.Core.Path.{_≡_};
 ghost use mathlib.Core.Bool.{cond};
 ghost use Prim.Native.Nat.{ℕ, _≤_, _<_};
 ghost use lib.Dec.{ltb};
-ghost use Rattle.bits.specs.Places.{bit, place};
+ghost use Rattle.bits.specs.Places.{bit};
+ghost use Rattle.position.specs.Spliced.{Spliced};
 use chunk::order;
 
 // The bits of `low` below place q, and those of `high` from there on.
@@ -18,7 +19,7 @@ fn mixed(low: u8, high: u8, q: u32) -> u8
 // The word v below place `at`, and u from there on: whole bytes, and the byte that holds the place.
 pub fn spliced(u: [u8; 40], v: [u8; 40], at: u32) -> [u8; 40]
     requires { ⌜ at ≤ 320 ⌝ }
-    ensures { λ r. ⌜ ((p : ℕ) → place r p ≡ cond (ltb p at) (place v p) (place u p)) ⌝ }
+    ensures { λ r. ⌜ Spliced u v r at ⌝ }
 {
     let whole = (at / 8) as usize;
     let mut word = u;
