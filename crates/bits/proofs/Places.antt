@@ -7,9 +7,9 @@ use Prim.Native.Nat.{ℕ, zero, suc, _+_, _*_, _/_, _%_, _^_, _≤_, _<_}
 use native.Mathlib.Nat.{eq-or-lt-of-le, le-of-suc-le-suc, le-dest, zero-add, mul-le-mul-right, pow-succ', zero-div, div-eq-of-lt}
 use native.Mathlib.Nat.{add-mul-div-right, mod-eq-of-lt, add-mul-mod-self-right}
 use native.Mathlib.Omega.{arith}
-use lib.ListN.{length, getD, length-append, List·getD-append, List·getD-eq-default}
+use lib.ListN.{length, getD, set, length-append, List·getD-append, List·getD-eq-default}
 use lib.Pow.{pow-pos, pow-add}
-use lib.Seq.{ext-getD, getD-at}
+use lib.Seq.{ext-getD, getD-at, getD-set-same, getD-set-other}
 use borrow.Author.Tests.{lt-ltb, le-ltb}
 use Rattle.bits.specs.Sums.{sumBelow}
 use Rattle.bits.specs.Places.{bit, place, cut, bytesFor, byteOf, listOf, pack}
@@ -133,6 +133,15 @@ pub places-of-byte : (l : List ℕ) (i q : ℕ) → q < 8 → place l (8 * i + q
 unfolding place
 places-of-byte l i q h =
     let which : (8 * i + q) / 8 ≡ i = omega arith in let at : (8 * i + q) % 8 ≡ q = omega arith in rw (which, at)
+
+-- a list with byte j set: its places there are the bits of that byte, and elsewhere what they were
+pub place-set-here : (l : List ℕ) (j b p : ℕ) → j < length l → p / 8 ≡ j → place (set l j b) p ≡ bit b (p % 8)
+unfolding place
+place-set-here l j b p inside e = rw (e, getD-set-same l j b 0 inside)
+
+pub place-set-elsewhere : (l : List ℕ) (j b p : ℕ) → (p / 8 ≡ j → ⊥) → place (set l j b) p ≡ place l p
+unfolding place
+place-set-elsewhere l j b p ne = rw (getD-set-other l j (p / 8) b 0 ne)
 
 -- bytes with the same places are the same
 pub same-places : (l m : List ℕ) → length l ≡ length m → ((i : ℕ) → getD l i 0 < 256) → ((i : ℕ) → getD m i 0 < 256)

@@ -8,11 +8,11 @@ use native.Mathlib.Nat.{le-dest}
 use native.Mathlib.Omega.{arith}
 use lib.Bits.{bitXor}
 use lib.ListN.{length, getD, set}
-use lib.Seq.{getD-set-same, getD-set-other}
 use Rattle.bits.specs.Sums.{joinAt}
 use Rattle.bits.specs.Places.{bit, place, cut}
 use Rattle.bits.proofs.Binary.{bit-xor}
 use Rattle.bits.proofs.Numbers.{eq-or-ne}
+use Rattle.bits.proofs.Places.{place-set-here, place-set-elsewhere}
 use Rattle.bits.proofs.Shifts.{moved-below, moved-above, moved-down, cut-kept}
 use Rattle.position.proofs.ChunkByChunk.{chunk-more, chunk-free}
 use Rattle.position.proofs.GatheredBits.{rest-of-byte}
@@ -23,21 +23,13 @@ module _ (w : List ℕ) (q value byte : ℕ) (inside : q / 8 < length w)
   byte-bit : (r : ℕ) → r < 8 → bit byte r ≡ (bit (getD w (q / 8) 0) r + bit (value * 2 ^ (q % 8)) r) % 2
   byte-bit r h = rw (is, bit-xor (getD w (q / 8) 0) (value * 2 ^ (q % 8) % 2 ^ 8) r, cut-kept 8 (value * 2 ^ (q % 8)) r h)
 
-  other-byte : (p : ℕ) → (p / 8 ≡ q / 8 → ⊥) → place (set w (q / 8) byte) p ≡ place w p
-  unfolding place
-  other-byte p ne = rw (getD-set-other w (q / 8) (p / 8) byte 0 ne)
-
-  this-byte : (p : ℕ) → p / 8 ≡ q / 8 → place (set w (q / 8) byte) p ≡ bit byte (p % 8)
-  unfolding place
-  this-byte p e = rw (e, getD-set-same w (q / 8) byte 0 inside)
-
   -- the places of the byte from q on are the value's bits
   filled-here : (k : ℕ) → q % 8 + k < 8 → place w (q + k) ≡ 0 → place (set w (q / 8) byte) (q + k) ≡ bit value k
   filled-here k h free =
       let same : (q + k) / 8 ≡ q / 8 = omega arith in
       let up : (q + k) % 8 ≡ q % 8 + k = omega arith in
       let none : bit (getD w (q / 8) 0) (q % 8 + k) ≡ 0 = rw (rest-of-byte w q k h) at free in
-      this-byte (q + k) same
+      place-set-here w (q / 8) byte (q + k) inside same
       ∙ rw (up, byte-bit (q % 8 + k) h, moved-above (q % 8) value k) (omega arith)
 
   -- the places before q are as they were, and so are those of later bytes
@@ -47,13 +39,13 @@ module _ (w : List ℕ) (q value byte : ℕ) (inside : q / 8 < length w)
       ⊎-elim
       (λ (e : p / 8 ≡ q / 8).
       let low : p % 8 < q % 8 = omega arith in
-      this-byte p e
+      place-set-here w (q / 8) byte p inside e
       ∙ rw (byte-bit (p % 8) (omega arith), moved-below (q % 8) value (p % 8) low, e) (omega arith))
-      (λ (ne : p / 8 ≡ q / 8 → ⊥). other-byte p ne)
+      (λ (ne : p / 8 ≡ q / 8 → ⊥). place-set-elsewhere w (q / 8) byte p ne)
       (eq-or-ne (p / 8) (q / 8))
 
   filled-behind : (p : ℕ) → q + (8 - q % 8) ≤ p → place (set w (q / 8) byte) p ≡ place w p
-  filled-behind p h = other-byte p (λ e. omega arith)
+  filled-behind p h = place-set-elsewhere w (q / 8) byte p (λ e. omega arith)
 
 -- of a value's bits the first p are put down behind place `at`; those that the rest of the next place's byte has room for follow
 pub chunk-filled : (at value p : ℕ) (u : ℕ → ℕ) (w : List ℕ) (byte : ℕ) → (at + p) / 8 < length w

@@ -1,6 +1,6 @@
 -- A byte with the low bits of one byte and the high bits of another, and a word put together of such bytes.
 -- Assumes nothing.
-use mathlib.Core.Path.{_≡_, refl, sym}
+use mathlib.Core.Path.{_≡_, sym, _∙_}
 use mathlib.Core.Bool.{cond}
 use mathlib.Core.List.{List}
 use mathlib.Core.Logic.{⊎-elim}
@@ -11,11 +11,11 @@ use lib.Bits.{bitXor, xor-shifted}
 use lib.Dec.{ltb}
 use lib.ListN.{length, getD, set}
 use lib.Pow.{pow-pos, pow-add, shr-lt, high}
-use lib.Seq.{getD-set-same, getD-set-other}
 use borrow.Author.Tests.{lt-ltb, le-ltb}
 use Rattle.bits.specs.Places.{bit, place}
 use Rattle.bits.proofs.Numbers.{lt-or-le, eq-or-ne}
 use Rattle.bits.proofs.Binary.{bit-xor}
+use Rattle.bits.proofs.Places.{place-set-here, place-set-elsewhere}
 use Rattle.bits.proofs.Shifts.{moved-below, moved-above, moved-down, cut-kept, cut-off}
 use Rattle.position.specs.Spliced.{Spliced}
 
@@ -65,9 +65,8 @@ pub spliced-more : (u v word : List ℕ) (j q b : ℕ) → j < length word → q
 unfolding place
 spliced-more u v word j q b h eight old new p =
     ⊎-elim
-    (λ (e : p / 8 ≡ j).
-    rw (e, getD-set-same word j b 0 h, new (p % 8) (omega arith), same-side e) refl)
-    (λ (ne : p / 8 ≡ j → ⊥). rw (getD-set-other word j (p / 8) b 0 ne, other-side ne) (old p))
+    (λ (e : p / 8 ≡ j). place-set-here word j b p h e ∙ rw (e, new (p % 8) (omega arith), same-side e))
+    (λ (ne : p / 8 ≡ j → ⊥). place-set-elsewhere word j b p ne ∙ rw (other-side ne) (old p))
     (eq-or-ne (p / 8) j)
   where
     same-side : p / 8 ≡ j → ltb (p % 8) q ≡ ltb p (8 * j + q)
