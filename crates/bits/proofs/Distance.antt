@@ -1,8 +1,9 @@
 -- The Hamming distance is a metric that adds up over parts of a word, and along a third word that agrees at each place
 -- with one of the two. Assumes nothing.
-use mathlib.Core.Path.{_≡_, refl}
+use mathlib.Core.Path.{_≡_, refl, _∙_}
 use mathlib.Core.Logic.{_⊎_, ⊎-elim}
 use Prim.Native.Nat.{ℕ, zero, suc, _+_, _≤_, _<_}
+use native.Mathlib.Nat.{le-dest}
 use native.Mathlib.Omega.{arith}
 use Rattle.bits.specs.Sums.{sumBelow, distance, unlike, from}
 use Rattle.bits.proofs.Sums.{sum-ext, sum-mono, sum-add, sum-split, sum-zero, sum-longer, sum-of-bits, sum-one-place}
@@ -42,6 +43,14 @@ distance-longer u v h = sum-longer (λ p. unlike (u p) (v p)) h
 pub distance-split : (a b : ℕ) (u v : ℕ → ℕ) → distance (a + b) u v ≡ distance a u v + distance b (from a u) (from a v)
 unfolding distance
 distance-split a b u v = sum-split (λ p. unlike (u p) (v p)) a b
+
+-- where u and v are alike from place a on, it is that of the places before a
+pub distance-alike-after : (a d : ℕ) (u v : ℕ → ℕ) → a ≤ d → ((p : ℕ) → a ≤ p → p < d → u p ≡ v p) → distance d u v ≡ distance a u v
+distance-alike-after a d u v h alike =
+    let rest = le-dest h in
+    let none : distance (rest .0) (from a u) (from a v) ≡ 0 =
+    distance-ext-left (rest .0) (from a v) (λ p l. alike (a + p) (omega arith) (omega arith)) ∙ distance-self (rest .0) (from a v) in
+    rw (← (rest .1)) (distance-split a (rest .0) u v ∙ omega arith)
 
 -- words that differ in each of d places are d apart
 pub distance-everywhere : (u v : ℕ → ℕ) (d : ℕ) → ((p : ℕ) → p < d → unlike (u p) (v p) ≡ 1) → distance d u v ≡ d

@@ -2,24 +2,19 @@
 -- packed into bytes are as far apart as they were, since the spare bits are zero in both. Assumes nothing.
 use mathlib.Core.Path.{_≡_, sym, _∙_}
 use mathlib.Core.List.{List}
-use Prim.Native.Nat.{ℕ, _+_, _*_, _≤_, _<_}
-use native.Mathlib.Nat.{le-dest}
+use Prim.Native.Nat.{ℕ, _*_, _≤_, _<_}
 use native.Mathlib.Omega.{arith}
 use lib.ListN.{length}
-use Rattle.bits.specs.Sums.{distance, from}
+use Rattle.bits.specs.Sums.{distance}
 use Rattle.bits.specs.Places.{bytesFor, place, pack, differingBits}
-use Rattle.bits.proofs.Distance.{distance-ext, distance-ext-left, distance-self, distance-split}
+use Rattle.bits.proofs.Distance.{distance-ext, distance-alike-after}
 use Rattle.bits.proofs.Places.{length-pack, place-packed, place-spare}
 
 pub differing-below : (d : ℕ) (a b : List ℕ) → length a ≡ bytesFor d
     → ((p : ℕ) → d ≤ p → p < 8 * bytesFor d → place a p ≡ place b p) → differingBits a b ≡ distance d (place a) (place b)
 unfolding differingBits
 differing-below d a b len alike =
-    let spare : (m : ℕ) × (d + m ≡ 8 * bytesFor d) = le-dest (omega arith) in
-    let none : distance (spare .0) (from d (place a)) (from d (place b)) ≡ 0 =
-    distance-ext-left (spare .0) (from d (place b)) (λ p l. alike (d + p) (omega arith) (omega arith))
-    ∙ distance-self (spare .0) (from d (place b)) in
-    rw (len, ← (spare .1), distance-split d (spare .0) (place a) (place b), none) (omega arith)
+    rw len (distance-alike-after d (8 * bytesFor d) (place a) (place b) (omega arith) alike)
 
 pub packed-distance : (d : ℕ) {u v : ℕ → ℕ} → ((p : ℕ) → u p < 2) → ((p : ℕ) → v p < 2)
     → differingBits (pack d u) (pack d v) ≡ distance d u v

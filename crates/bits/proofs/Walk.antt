@@ -1,51 +1,61 @@
 -- The walk of m steps from u to v. It has passed place p if u and v differ in fewer than m places before p; so it is v up to some
 -- place and u from there on, and walks of m and m′ steps are |m - m′| bits apart: one step turns one bit. Assumes nothing.
-use mathlib.Core.Path.{_≡_, refl}
+use mathlib.Core.Path.{_≡_, refl, sym}
 use mathlib.Core.Bool.{Bool, true, false, cond, _&&_}
 use mathlib.Core.Logic.{⊎-elim}
 use Prim.Native.Nat.{ℕ, zero, suc, _+_, _≤_, _<_, min}
 use native.Mathlib.Omega.{arith}
-use lib.Dec.{eqb}
+use lib.Dec.{eqb, ltb}
 use borrow.Author.Tests.{lt-ltb, le-ltb, eqb-false}
 use Rattle.bits.specs.Sums.{sumBelow, distance, unlike}
 use Rattle.bits.specs.Walk.{walk}
 use Rattle.bits.proofs.Numbers.{lt-or-le}
 use Rattle.bits.proofs.Distance.{distance-suc, distance-longer, distance-one-place}
 
-module _ {u v : ℕ → ℕ} (hu : (p : ℕ) → u p < 2) (hv : (p : ℕ) → v p < 2) where
-  -- at a place with fewer than m differing places before it, the walk is v
-  walk-passed : (m p : ℕ) → distance p u v < m → walk u v m p ≡ v p
-  unfolding walk
-  walk-passed m p h = rw (lt-ltb (distance p u v) m h) (by-test (eqb (unlike (u p) (v p)) 1) refl)
-    where
-      by-test : (t : Bool) → eqb (unlike (u p) (v p)) 1 ≡ t → cond (t && true) (v p) (u p) ≡ v p
-      by-test true e = refl
-      by-test false e = omega (arith, hu p, hv p, eqb-false (unlike (u p) (v p)) 1 e)
-
-  -- at one with m differing places or more before it, it is u
+module _ (u v : ℕ → ℕ) where
+  -- at a place with m differing places or more before it, the walk is u
   walk-ahead : (m p : ℕ) → m ≤ distance p u v → walk u v m p ≡ u p
   unfolding walk
-  walk-ahead m p h = rw (le-ltb (distance p u v) m h) (by-test (eqb (unlike (u p) (v p)) 1))
+  walk-ahead m p h = rw (le-ltb (distance p u v) m h) (either (eqb (unlike (u p) (v p)) 1))
     where
-      by-test : (t : Bool) → cond (t && false) (v p) (u p) ≡ u p
-      by-test true = refl
-      by-test false = refl
+      either : (t : Bool) → cond (t && false) (v p) (u p) ≡ u p
+      either true = refl
+      either false = refl
 
-  pub walk-bit : (m p : ℕ) → walk u v m p < 2
-  walk-bit m p = ⊎-elim (λ h. rw (walk-passed m p h) (hv p)) (λ h. rw (walk-ahead m p h) (hu p)) (lt-or-le (distance p u v) m)
-
-  -- below a place before which u and v differ in at most m places it is v, and from one before which they differ in m or more it is u
-  pub walk-before : (m : ℕ) {p a : ℕ} → p < a → distance a u v ≤ m → walk u v m p ≡ v p
-  walk-before m {p} {a} b h =
-      ⊎-elim (walk-passed m p)
-      (λ l. rw (walk-ahead m p l) (omega (arith, hu p, hv p, distance-suc p u v, distance-longer u v {a = suc p} {d = a} b)))
-      (lt-or-le (distance p u v) m)
-
+  -- and so it is from a place on before which they differ in m or more
   pub walk-after : (m : ℕ) {p a : ℕ} → a ≤ p → m ≤ distance a u v → walk u v m p ≡ u p
   walk-after m {p} {a} b h = walk-ahead m p (omega (arith, distance-longer u v b))
 
   pub walk-none : (p : ℕ) → walk u v 0 p ≡ u p
   walk-none p = walk-ahead 0 p (omega arith)
+
+module _ {u v : ℕ → ℕ} (hu : (p : ℕ) → u p < 2) (hv : (p : ℕ) → v p < 2) where
+  -- at a place with fewer than m differing places before it, the walk is v
+  walk-passed : (m p : ℕ) → distance p u v < m → walk u v m p ≡ v p
+  unfolding walk
+  walk-passed m p h = rw (lt-ltb (distance p u v) m h) (if-differs (eqb (unlike (u p) (v p)) 1) refl)
+    where
+      if-differs : (t : Bool) → eqb (unlike (u p) (v p)) 1 ≡ t → cond (t && true) (v p) (u p) ≡ v p
+      if-differs true e = refl
+      if-differs false e = omega (arith, hu p, hv p, eqb-false (unlike (u p) (v p)) 1 e)
+
+  pub walk-bit : (m p : ℕ) → walk u v m p < 2
+  walk-bit m p = ⊎-elim (λ h. rw (walk-passed m p h) (hv p)) (λ h. rw (walk-ahead u v m p h) (hu p)) (lt-or-le (distance p u v) m)
+
+  -- and so it is below a place before which they differ in at most m
+  pub walk-before : (m : ℕ) {p a : ℕ} → p < a → distance a u v ≤ m → walk u v m p ≡ v p
+  walk-before m {p} {a} b h =
+      ⊎-elim (walk-passed m p)
+      (λ l. rw (walk-ahead u v m p l) (omega (arith, hu p, hv p, distance-suc p u v, distance-longer u v {a = suc p} {d = a} b)))
+      (lt-or-le (distance p u v) m)
+
+  -- so v below a place with exactly m differing places before it, and u from there on, is the walk of m steps
+  pub walk-spliced : (m q : ℕ) → distance q u v ≡ m → (p : ℕ) → cond (ltb p q) (v p) (u p) ≡ walk u v m p
+  walk-spliced m q e p =
+      ⊎-elim
+      (λ (l : p < q). rw (lt-ltb p q l) (sym (walk-before m l (omega arith))))
+      (λ (l : q ≤ p). rw (le-ltb p q l) (sym (walk-after u v m l (omega arith))))
+      (lt-or-le p q)
 
   -- below place d, walks of m and m′ steps are as many bits apart as they are steps, as far as u and v differ below d
   walk-apart : (d m m′ : ℕ) → m ≤ m′
@@ -61,11 +71,11 @@ module _ {u v : ℕ → ℕ} (hu : (p : ℕ) → u p < 2) (hv : (p : ℕ) → v 
       (λ ahead. ⊎-elim
       (λ passed.
       let e : unlike (walk u v m d) (walk u v m′ d) ≡ unlike (u d) (v d) =
-      rw (walk-ahead m d ahead, walk-passed m′ d passed)
+      rw (walk-ahead u v m d ahead, walk-passed m′ d passed)
       in omega (arith, walk-apart d m m′ h))
       (λ ahead′.
       let e : unlike (walk u v m d) (walk u v m′ d) ≡ 0 =
-      rw (walk-ahead m d ahead, walk-ahead m′ d ahead′) (omega arith)
+      rw (walk-ahead u v m d ahead, walk-ahead u v m′ d ahead′) (omega arith)
       in omega (arith, walk-apart d m m′ h))
       (lt-or-le (distance d u v) m′))
       (lt-or-le (distance d u v) m)
@@ -78,7 +88,7 @@ module _ {u v : ℕ → ℕ} (hu : (p : ℕ) → u p < 2) (hv : (p : ℕ) → v 
   pub walk-step : (x : ℕ → ℕ) (d m q : ℕ) → q < d → distance q u v ≡ m → unlike (u q) (v q) ≡ 1
       → distance d (walk u v (m + 1)) x + unlike (u q) (x q) ≡ distance d (walk u v m) x + unlike (v q) (x q)
   walk-step x d m q h e differs =
-      rw (← (walk-ahead m q (omega arith)), ← (walk-passed (m + 1) q (omega arith)))
+      rw (← (walk-ahead u v m q (omega arith)), ← (walk-passed (m + 1) q (omega arith)))
       (distance-one-place (walk u v (m + 1)) (walk u v m) x d q h elsewhere)
     where
       elsewhere : (p : ℕ) → p < d → (p ≡ q → ⊥) → walk u v (m + 1) p ≡ walk u v m p
@@ -87,7 +97,7 @@ module _ {u v : ℕ → ℕ} (hu : (p : ℕ) → u p < 2) (hv : (p : ℕ) → v 
           (λ (l : p < q). rw (walk-before (m + 1) l (omega arith), walk-before m l (omega arith)))
           (λ (l : q ≤ p).
           rw (
-            walk-after (m + 1) {p = p} {a = suc q} (omega arith) (omega (arith, distance-suc q u v)),
-            walk-after m {p = p} {a = suc q} (omega arith) (omega (arith, distance-suc q u v)),
+            walk-after u v (m + 1) {p = p} {a = suc q} (omega arith) (omega (arith, distance-suc q u v)),
+            walk-after u v m {p = p} {a = suc q} (omega arith) (omega (arith, distance-suc q u v)),
           ))
           (lt-or-le p q)

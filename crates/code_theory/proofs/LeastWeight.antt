@@ -12,7 +12,7 @@ use Rattle.bits.proofs.Binary.{zero-of-weight}
 use Rattle.model.specs.Card.{leastWeight}
 
 module _ (n : ℕ) (word : ℕ → ℕ) where
-  -- one word more: a zero is least-passed over, any other is least-compared
+  -- one word more: a zero is passed over, any other is compared with the least so far
   pub least-passed : (g : ℕ) → word g ≡ 0 → leastWeight n word (suc g) ≡ leastWeight n word g
   unfolding leastWeight
   least-passed g e = rw (eq-eqb (word g) 0 e)

@@ -1,6 +1,6 @@
 -- The starts of the blocks follow one another: row z counts in r(i+1) - r(i) where (i + 1 + 2^z) / 2^(z+1) exceeds
--- (i + 2^z) / 2^(z+1), by one, and that is for just one z, the count of trailing zeros of i + 1. And a crude bound on
--- every start, for sums that must fit. Assumes nothing.
+-- (i + 2^z) / 2^(z+1), by one, and that is for just one z, the count of trailing zeros of i + 1. And an upper
+-- bound on every start, for sums that must fit: 4,095 blocks of at most 320 steps. Assumes nothing.
 use mathlib.Core.Path.{_≡_, refl, sym, ap, _∙_}
 use Prim.Native.Nat.{ℕ, zero, suc, _+_, _*_, _/_, _^_, _≤_, _<_}
 use native.Mathlib.Nat.{suc-add, zero-add, mul-zero, lt-suc-self, pow-succ', div-eq-of-lt, div-div-eq-div-mul}

@@ -2,18 +2,15 @@
 use mathlib.Core.Path.{_≡_, sym}
 use mathlib.Core.Logic.{⊎-elim}
 use Prim.Native.Nat.{ℕ, _-_, _≤_, _<_}
-use borrow.Author.Tests.{le-leb, lt-leb}
 use native.Mathlib.Nat.{eq-or-lt-of-le}
 use native.Mathlib.Omega.{arith}
-use lib.Dec.{leb}
-use Rattle.bits.proofs.Searches.{greatest-is}
 use Rattle.model.specs.Card.{Code}
 use Rattle.model.specs.Order.{lastCodeword, start}
 use Rattle.model.specs.Words.{blockOf}
 use Rattle.code_theory.specs.Promise.{Sound}
 use Rattle.code_theory.proofs.Promise.{promise}
 use Rattle.code_theory.proofs.Starts.{start-zero}
-use Rattle.position_theory.proofs.Blocks.{starts-rise}
+use Rattle.position_theory.proofs.Blocks.{block-is, starts-rise}
 
 -- block low starts at or before the position, and every block after high past it
 pub record BlockBetween (C : Code) (position low high : ℕ) : Type 0 where
@@ -52,9 +49,5 @@ module _ (C : Code) (position : ℕ) where
 
   -- where low and high meet, that is the last block that starts at or before the position
   pub block-found : (low high : ℕ) → high ≤ low → BlockBetween C position low high → low ≡ blockOf C position
-  unfolding blockOf
   block-found low high met between =
-      sym
-      (greatest-is (λ j. leb (start C j) position) (lastCodeword C) low (omega arith)
-      (λ _. le-leb _ _ (between .started))
-      (λ j l b. lt-leb _ _ (between .past j (omega arith) b)))
+      sym (block-is C low position (omega arith) (between .started) (λ j l b. between .past j (omega arith) b))

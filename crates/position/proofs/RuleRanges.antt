@@ -28,7 +28,7 @@ module _ (C : Code) (sound : Sound C) (i : ℕ) (inside : i < lastCodeword C) (x
 
   -- one that has passed separator 1 has made D steps
   pub past-separator₁ : PassedPlaces C i x (C .D) s → s .position ≡ start C i + C .D
-  past-separator₁ passed = passed .position-is ∙ omega (arith, apart-separator₁ C (promise C sound) i inside)
+  past-separator₁ passed = passed .position-is ∙ omega (arith, apart-separator₁ C i)
 
   pub rule₁-answer : (at to : ℕ) → at ≡ C .D + C .n → to ≡ wordBits C → s .low ≡ start C i + distance at (word C i) (word C (i + 1))
       → PassedPlaces C i x to s → (p : ℕ) → p ≡ i + 1 → At (s .best) (s .least) 1 ≡ nearest C (place x) (range₁ C p)

@@ -11,5 +11,6 @@ pub record LayoutOf (C : Code) (l : Layout) : Type 0 where
   pub chunk₂-at : l .chunk2 ≡ C .D + C .n + C .D
   pub separator₃-at : l .separator3 ≡ C .D + C .n + C .D + C .n
   pub bits-are : l .bits ≡ wordBits C
+  -- bounds of the code, for sums that must fit
   pub fits : wordBits C ≤ 320
   pub separator-fits : C .D ≤ 64

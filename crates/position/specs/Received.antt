@@ -14,7 +14,7 @@ use Rattle.position.specs.Scanned.{Scanned}
 unfoldable pub NothingSpare : Code → List ℕ → Type 0
 NothingSpare C x = (p : ℕ) → wordBits C ≤ p → place x p ≡ 0
 
--- a search s that stands at the position low, whose word the array w holds, in whichever sound code it is that position's
+-- for every sound code of which the array w holds the word of position `low`, s is a search that stands there
 unfoldable pub Begun : (w x : List ℕ) (low : ℕ) (s : Scan) → Type 0
 Begun w x low s =
     (C : Code) → Sound C → ((p : ℕ) → p < 320 → place w p ≡ cut (wordBits C) (wordAt C low) p) → NothingSpare C x

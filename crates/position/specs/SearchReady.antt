@@ -34,8 +34,7 @@ pub record SearchReady (u v x : List ℕ) (at to : ℕ) (s : Scan) : Type 0 wher
   pub forward : at ≤ to
   pub room : to ≤ wordBits code
 
--- of whichever code and block u and v are words, a search s that has passed the places below at is one, r, that has passed
--- those below to
+-- for every code and block whose words u and v hold: if s has passed the places below `at`, r has passed those below `to`
 unfoldable pub Passes : (u v x : List ℕ) (at to : ℕ) (s r : Scan) → Type 0
 Passes u v x at to s r =
     (C : Code) (i : ℕ) → BlockWords C i u v → PassedPlaces C i x at s → to ≤ wordBits C → PassedPlaces C i x to r

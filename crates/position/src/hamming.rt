@@ -1,4 +1,5 @@
-// The Hamming distance of two words, and the place up to which they differ in a given number of places.
+// The Hamming distance of two words, and the place up to which they differ in a given number of places. A word is held as [u8; 40]:
+// 320 places.
 ghost use mathlib.Core.Path.{_≡_};
 ghost use Prim.Native.Nat.{_≤_};
 ghost use Rattle.bits.specs.Sums.{distance};

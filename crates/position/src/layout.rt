@@ -7,7 +7,7 @@ ghost use Rattle.code_theory.specs.Promise.{Sound};
 ghost use Rattle.position.specs.LayoutOf.{LayoutOf};
 use model::DecodedCode;
 
-// Separator 1 starts at place 0.
+// At which place each chunk of a word starts, separator 1 at place 0, and how many bits the word has.
 pub struct Layout {
     pub chunk1: u32,
     pub separator2: u32,
@@ -16,6 +16,7 @@ pub struct Layout {
     pub bits: u32,
 }
 
+// The layout of a code's words.
 pub fn layout_of(code: DecodedCode) -> Layout
     requires { ⌜ Sound (meaning code) ⌝ }
     ensures { λ r. ⌜ LayoutOf (meaning code) r ⌝ }

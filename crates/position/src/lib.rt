@@ -1,4 +1,5 @@
-// The position code: words of positions, and positions of words. It knows the chunk code through its contracts alone.
+// The position code: words of positions, and positions of words. It knows the chunk code through its contracts
+// and laws alone.
 pub mod blocks;
 pub mod hamming;
 pub mod layout;

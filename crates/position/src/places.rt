@@ -1,4 +1,5 @@
-// Places of a word that is held as [u8; 40]: one bit, a count of ones, the reading of a separator, a code chunk as a number.
+// Places of a word that is held as [u8; 40], which has 320: one bit, a count of ones, the reading of a separator, a code chunk as a
+// number.
 ghost use mathlib.Core.Path.{_≡_};
 ghost use Prim.Native.Nat.{ℕ, _+_, _-_, _*_, _/_, _%_, _^_, _≤_, _<_};
 ghost use Rattle.bits.specs.Sums.{sumBelow, from};

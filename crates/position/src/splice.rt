@@ -1,4 +1,4 @@
-// A word put together of two at a place.
+// A word put together of two at a place. Words are held as [u8; 40]: 320 places.
 ghost use mathlib.Core.Path.{_≡_};
 ghost use mathlib.Core.Bool.{cond};
 ghost use Prim.Native.Nat.{ℕ, _≤_, _<_};

@@ -13,8 +13,8 @@ use model::CardAnswer;
 use model::CardSummary;
 use model::Decoded;
 
-// The answer to a check of whichever card was decoded so. The card is not looked at again: a caller that goes on to use the code
-// decodes it once.
+// The answer to a check of every card that decodes to `decoded`. The card is not looked at again: a caller that goes on to use the
+// code decodes it once.
 pub fn card_answer(decoded: Decoded) -> CardAnswer
     requires { ⌜ (decoded .refusal ≡ 0 → Sound (meaning (decoded .code))) ⌝ }
     ensures { λ r. ⌜ ((card : List ℕ) → DecodedFrom card decoded → r ≡ cardAnswer card) ⌝ }

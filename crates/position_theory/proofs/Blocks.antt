@@ -25,6 +25,23 @@ pub record InBlock (C : Code) (position i : ℕ) : Type 0 where
   pub before-end : i < lastCodeword C → position < start C i + blockLength C i
   pub at-last : i ≡ lastCodeword C → position ≡ start C i
 
+module _ (C : Code) where
+  -- the block of a position is the last that starts at or before it
+  pub block-is : (i position : ℕ) → i ≤ lastCodeword C → start C i ≤ position
+      → ((j : ℕ) → i < j → j ≤ lastCodeword C → position < start C j) → blockOf C position ≡ i
+  unfolding blockOf
+  block-is i position h low high =
+      greatest-is (λ j. leb (start C j) position) (lastCodeword C) i h (λ _. le-leb _ _ low) (λ j l b. lt-leb _ _ (high j l b))
+
+  -- so it is one of the track's, and no later one starts at or before the position
+  pub block-le : (position : ℕ) → blockOf C position ≤ lastCodeword C
+  unfolding blockOf
+  block-le position = greatest-le (λ i. leb (start C i) position) (lastCodeword C)
+
+  pub block-high : (position j : ℕ) → blockOf C position < j → j ≤ lastCodeword C → position < start C j
+  unfolding blockOf
+  block-high position j l b = leb-false _ _ (greatest-above (λ i. leb (start C i) position) (lastCodeword C) j l b)
+
 module _ (C : Code) (promise : ChunkPromise C) where
   -- a later block starts no earlier than where an earlier one ends
   pub starts-rise : (i j : ℕ) → i < j → j ≤ lastCodeword C → start C i + blockLength C i ≤ start C j
@@ -36,26 +53,14 @@ module _ (C : Code) (promise : ChunkPromise C) where
       (eq-or-lt-of-le {n = i} {m = j} (omega arith))
   starts-rise i zero h b = absurd (omega arith)
 
-  -- the block of a position is the last that starts at or before it
-  block-is : (i position : ℕ) → i ≤ lastCodeword C → start C i ≤ position
-      → ((j : ℕ) → i < j → j ≤ lastCodeword C → position < start C j) → blockOf C position ≡ i
-  unfolding blockOf
-  block-is i position h low high =
-      greatest-is (λ j. leb (start C j) position) (lastCodeword C) i h (λ _. le-leb _ _ low) (λ j l b. lt-leb _ _ (high j l b))
-
   -- the positions of block i
   block-inside : (i m : ℕ) → i < lastCodeword C → m < blockLength C i → blockOf C (start C i + m) ≡ i
   block-inside i m inside h =
-      block-is i _ (omega arith) (omega arith) (λ j l b. omega (arith, starts-rise i j l b))
+      block-is C i _ (omega arith) (omega arith) (λ j l b. omega (arith, starts-rise i j l b))
 
   -- the block of r(i) is block i, of the last position too
   pub block-start : (i : ℕ) → i ≤ lastCodeword C → blockOf C (start C i) ≡ i
-  block-start i h = block-is i _ h (omega arith) (λ j l b. omega (arith, starts-rise i j l b, promise .D-pos))
-
-  -- so it is one of the track's, starts at or before the position, and no later one does
-  pub block-le : (position : ℕ) → blockOf C position ≤ lastCodeword C
-  unfolding blockOf
-  block-le position = greatest-le (λ i. leb (start C i) position) (lastCodeword C)
+  block-start i h = block-is C i _ h (omega arith) (λ j l b. omega (arith, starts-rise i j l b, promise .D-pos))
 
   pub block-low : (position : ℕ) → start C (blockOf C position) ≤ position
   unfolding blockOf
@@ -65,25 +70,21 @@ module _ (C : Code) (promise : ChunkPromise C) where
       (λ (h : 0 < blockOf C position). leb-true _ _ (greatest-holds (λ i. leb (start C i) position) (lastCodeword C) h))
       (eq-zero-or-pos (blockOf C position))
 
-  pub block-high : (position j : ℕ) → blockOf C position < j → j ≤ lastCodeword C → position < start C j
-  unfolding blockOf
-  block-high position j l b = leb-false _ _ (greatest-above (λ i. leb (start C i) position) (lastCodeword C) j l b)
-
   -- each position up to the last lies in exactly one block
   pub lies-in-its-block : (position : ℕ) → position ≤ lastPosition C → InBlock C position (blockOf C position)
   unfolding lastPosition
   lies-in-its-block position h =
       record {
-        on-track = block-le position;
+        on-track = block-le C position;
         from-start = block-low position;
         before-end = λ l. rw (← (promise .start-next (blockOf C position) l))
-            (block-high position (blockOf C position + 1) (omega arith) (omega arith));
+            (block-high C position (blockOf C position + 1) (omega arith) (omega arith));
         at-last = λ e. let top : position ≤ start C (blockOf C position) = rw e h in omega (arith, block-low position);
       }
 
   pub lies-in-no-other : (position i : ℕ) → InBlock C position i → i ≡ blockOf C position
   lies-in-no-other position i b =
-      sym (block-is i position (b .on-track) (b .from-start) (λ j l h.
+      sym (block-is C i position (b .on-track) (b .from-start) (λ j l h.
       omega (arith, starts-rise i j l h, b .before-end (omega arith))))
 
   -- a position stands at the start of its block, or inside a block that is not the last
@@ -93,13 +94,13 @@ module _ (C : Code) (promise : ChunkPromise C) where
       × (position < start C (blockOf C position) + blockLength C (blockOf C position)))
   in-its-block position h =
       let lies = lies-in-its-block position h in
-      ⊎-elim (λ e. inl (lies .at-last e)) (λ l. inr (l, lies .before-end l)) (eq-or-lt-of-le (block-le position))
+      ⊎-elim (λ e. inl (lies .at-last e)) (λ l. inr (l, lies .before-end l)) (eq-or-lt-of-le (block-le C position))
 
   -- the word of a start r(i) is w(i)
   pub word-at-start : (i : ℕ) → i ≤ lastCodeword C → (p : ℕ) → wordAt C (start C i) p ≡ word C i p
   unfolding wordAt
   word-at-start i h p =
-      rw (block-start i h, sub-self (start C i)) (walk-none (word-bit C i) (word-bit C (i + 1)) p)
+      rw (block-start i h, sub-self (start C i)) (walk-none (word C i) (word C (i + 1)) p)
 
   -- the word m steps into block i, its end included, is the walk of m steps from w(i) to w(i+1)
   pub word-in-block : (i m : ℕ) → i < lastCodeword C → m ≤ blockLength C i

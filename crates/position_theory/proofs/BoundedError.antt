@@ -68,8 +68,8 @@ module _ (C : Code) (promise : ChunkPromise C) where
   true-allowed position x h hx d =
       ⊎-elim
       (λ (at-start : position ≡ start C (blockOf C position)).
-      rw at-start (start-allowed C promise x (blockOf C position) (block-le C promise position)
-      (whole-at-start C promise (blockOf C position) x (block-le C promise position) hx (rw at-start at d))))
+      rw at-start (start-allowed C promise x (blockOf C position) (block-le C position)
+      (whole-at-start C promise (blockOf C position) x (block-le C position) hx (rw at-start at d))))
       (λ (inside : (blockOf C position < lastCodeword C) × (position < start C (blockOf C position) + blockLength C (blockOf C position))).
       let offset = le-dest (block-low C promise position) in
       rw (← (offset .1))

@@ -30,7 +30,7 @@ module _ (C : Code) (promise : ChunkPromise C) where
       ⊎-elim
       (λ (e : blockOf C position ≡ lastCodeword C). absurd (omega (arith, rw e at (block-low C promise position))))
       (λ (l : blockOf C position < lastCodeword C). l)
-      (eq-or-lt-of-le (block-le C promise position))
+      (eq-or-lt-of-le (block-le C position))
 
   -- one step turns one bit
   step-turns-one-bit : (position : ℕ) → position < lastPosition C
@@ -41,7 +41,7 @@ module _ (C : Code) (promise : ChunkPromise C) where
       omega (
         arith,
         isometric-block C promise (blockOf C position) inside position (position + 1) (block-low C promise position) (omega arith)
-            (omega (arith, block-high C promise position (blockOf C position + 1) (omega arith) (omega arith))),
+            (omega (arith, block-high C position (blockOf C position + 1) (omega arith) (omega arith))),
       )
 
   pub neighbours-differ : (position : ℕ) → position < lastPosition C

@@ -63,7 +63,7 @@ module _ (C : Code) (promise : ChunkPromise C) where
   after-start i q inside h h′ p b b′ =
       let offset = le-dest h in
       rw (← (offset .1), word-in-block C promise i (offset .0) inside (omega arith) p b′)
-      (walk-after (word-bit C i) (word-bit C (i + 1)) (offset .0) b (rw (apart-separator₁ C promise i inside) (omega arith)))
+      (walk-after (word C i) (word C (i + 1)) (offset .0) b (rw (apart-separator₁ C i) (omega arith)))
 
   -- up to D steps before a start, and after it
   isometric-before : (i : ℕ) → i < lastCodeword C → Isometric C (start C (i + 1) - C .D) (start C (i + 1))

@@ -21,9 +21,9 @@ use Rattle.position_theory.proofs.Isometry.{Isometric}
 use Rattle.position_theory.proofs.Allowed.{IsometricOnTrack, Allows, allowed-isometric}
 
 module _ (C : Code) (promise : ChunkPromise C) (x : ℕ → ℕ) where
-  -- of whatever range is allowed, what is known of every one
-  range : (rule low high : ℕ) → allowed C x ≡ fromTo rule low high → IsometricOnTrack C (fromTo rule low high)
-  range rule low high is = rw is at (allowed-isometric C promise x)
+  -- a range that is allowed is not empty, lies on the track and is isometric
+  allowed-range : (rule low high : ℕ) → allowed C x ≡ fromTo rule low high → IsometricOnTrack C (fromTo rule low high)
+  allowed-range rule low high is = rw is at (allowed-isometric C promise x)
 
   -- what the search for the least residual finds is the nearest allowed position
   nearest-is : (rule low high : ℕ) → allowed C x ≡ fromTo rule low high → low ≤ high → high ≤ lastPosition C
@@ -44,7 +44,7 @@ module _ (C : Code) (promise : ChunkPromise C) (x : ℕ → ℕ) where
 
   reading-of : (a : Allowed) → allowed C x ≡ a → IsReading C x (nearest C x a)
   unfolding nearest IsReading IsometricOnTrack
-  reading-of (fromTo rule low high) is = nearest-is rule low high is (range rule low high is .0) (range rule low high is .1)
+  reading-of (fromTo rule low high) is = nearest-is rule low high is (allowed-range rule low high is .0) (allowed-range rule low high is .1)
   reading-of (refusedBy refusal) is = is
 
   -- demand 2, reading: for every word
@@ -73,7 +73,7 @@ module _ (C : Code) (promise : ChunkPromise C) (x : ℕ → ℕ) where
       → Near (reading C x) position (residual C x position + residualOf (reading C x)) × (residualOf (reading C x) ≤ residual C x position)
   unfolding reading nearest Near residualOf IsometricOnTrack nearest-is
   answer-near position a =
-      let facts = range (a .rule) (a .low) (a .high) (a .is) in
+      let facts = allowed-range (a .rule) (a .low) (a .high) (a .is) in
       let q : ℕ = leastAt (residual C x) (a .low) (a .high - a .low) in
       let n = nearest-is (a .rule) (a .low) (a .high) (a .is) (facts .0) (facts .1) in
       rw (a .is) (

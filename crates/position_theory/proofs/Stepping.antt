@@ -1,18 +1,15 @@
 -- Stepping through a block place by place: each place in which w(i) and w(i+1) differ is one step, and a step changes the
 -- residual by that place alone. So a search need not make a new word for each position. Assumes nothing.
-use mathlib.Core.Path.{_≡_}
+use mathlib.Core.Path.{_≡_, refl, sym}
 use mathlib.Core.Bool.{cond}
-use mathlib.Core.Logic.{⊎-elim}
 use Prim.Native.Nat.{ℕ, suc, _+_, _≤_, _<_}
 use native.Mathlib.Nat.{add-assoc}
 use native.Mathlib.Omega.{arith}
 use lib.Dec.{ltb}
-use borrow.Author.Tests.{lt-ltb, le-ltb}
 use Rattle.bits.specs.Sums.{distance, unlike}
 use Rattle.bits.specs.Walk.{walk}
-use Rattle.bits.proofs.Numbers.{lt-or-le}
 use Rattle.bits.proofs.Distance.{distance-ext-left, distance-suc, distance-longer}
-use Rattle.bits.proofs.Walk.{walk-step, walk-before, walk-after}
+use Rattle.bits.proofs.Walk.{walk-step, walk-spliced}
 use Rattle.model.specs.Card.{Code}
 use Rattle.model.specs.Order.{lastCodeword, blockLength, start}
 use Rattle.model.specs.Words.{wordBits, word, wordAt}
@@ -47,7 +44,4 @@ module _ (C : Code) (promise : ChunkPromise C) (i : ℕ) (inside : i < lastCodew
       → wordAt C (start C i + distance a (word C i) (word C (i + 1))) p ≡ cond (ltb p a) (word C (i + 1) p) (word C i p)
   word-passed a p h b =
       rw (word-in-block C promise i (distance a (word C i) (word C (i + 1))) inside (steps-room a h) p b)
-      (⊎-elim
-      (λ (l : p < a). rw (lt-ltb p a l) (walk-before (word-bit C i) (word-bit C (i + 1)) _ l (omega arith)))
-      (λ (l : a ≤ p). rw (le-ltb p a l) (walk-after (word-bit C i) (word-bit C (i + 1)) _ l (omega arith)))
-      (lt-or-le p a))
+      (sym (walk-spliced (word-bit C i) (word-bit C (i + 1)) _ a refl p))

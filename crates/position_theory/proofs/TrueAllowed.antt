@@ -56,6 +56,7 @@ module _ (C : Code) (x : ℕ → ℕ) (b c p position : ℕ) where
         to-high = high;
       }
 
+module _ (C : Code) (x : ℕ → ℕ) (b p position : ℕ) where
   by-rule₃ : Separators C x b b b → ReadsAs C (chunk₁ C x) p → ReadsAs C (chunk₂ C x) p
       → start C p ≤ position + C .D → position ≤ start C p + C .D → position ≤ lastPosition C → Allows C x position
   unfolding allowed ruleNamed ruleOf allowedBy rule₃ ReadsAs
@@ -73,7 +74,7 @@ module _ (C : Code) (x : ℕ → ℕ) (b c p position : ℕ) where
 pub start-allowed : (C : Code) (promise : ChunkPromise C) (x : ℕ → ℕ) (i : ℕ) → i ≤ lastCodeword C → WholeChunksRead C x i 0
     → Allows C x (start C i)
 start-allowed C promise x i h w =
-    by-rule₃ C x (i % 2) 0 i (start C i)
+    by-rule₃ C x (i % 2) i (start C i)
     (w .separator₁-old refl, w .separator₂-old (omega arith), w .separator₃-old (omega arith))
     (w .chunk₁-old (omega arith)) (w .chunk₂-old (omega arith)) (omega arith) (omega arith) (start-on-track C promise i h)
 
@@ -97,7 +98,7 @@ module _ (C : Code) (promise : ChunkPromise C) (x : ℕ → ℕ) (i m : ℕ) (in
   -- rule 3 around the start, rule 2, rule 1, and rule 3 around the end
   around-start : majority (C .D) x ≡ i % 2 → m < C .D → Allows C x (start C i + m)
   around-start s₁ h =
-      by-rule₃ C x (i % 2) 0 i _ (s₁, w .separator₂-old (omega arith), w .separator₃-old (omega arith))
+      by-rule₃ C x (i % 2) i _ (s₁, w .separator₂-old (omega arith), w .separator₃-old (omega arith))
       (w .chunk₁-old (omega arith)) (w .chunk₂-old (omega arith)) (omega arith) (omega arith) on-track
 
   first-part : majority (C .D) x ≡ (i + 1) % 2 → majority (C .D) (separator₂ C x) ≡ i % 2
@@ -114,7 +115,7 @@ module _ (C : Code) (promise : ChunkPromise C) (x : ℕ → ℕ) (i m : ℕ) (in
 
   around-end : majority (C .D) (separator₃ C x) ≡ (i + 1) % 2 → 2 * C .D + 2 * changedWeight C i ≤ m → Allows C x (start C i + m)
   around-end s₃ l =
-      by-rule₃ C x ((i + 1) % 2) 0 (i + 1) _ (w .separator₁-new (omega arith), w .separator₂-new (omega arith), s₃)
+      by-rule₃ C x ((i + 1) % 2) (i + 1) _ (w .separator₁-new (omega arith), w .separator₂-new (omega arith), s₃)
       (w .chunk₁-new (omega arith)) (w .chunk₂-new l)
       (omega (arith, promise .start-next i inside)) (omega (arith, promise .start-next i inside)) on-track
 

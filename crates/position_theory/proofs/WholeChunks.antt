@@ -152,7 +152,7 @@ whole-in-block C promise i m x inside room hx d =
     }
   where
     apart₁ : distance (C .D) (word C i) (word C (i + 1)) ≡ C .D
-    apart₁ = apart-separator₁ C promise i inside
+    apart₁ = apart-separator₁ C i
 
     apart₂ : distance (C .D + C .n) (word C i) (word C (i + 1)) ≡ C .D + changedWeight C i
     apart₂ = apart-chunk₁ C promise i inside
@@ -166,7 +166,7 @@ whole-in-block C promise i m x inside room hx d =
     -- from the place a on that the walk has not reached, and before the place a that it has passed
     old : (a q : ℕ) → a ≤ q → q < wordBits C → m ≤ distance a (word C i) (word C (i + 1)) → wordAt C (start C i + m) q ≡ word C i q
     old a q l b h =
-        rw (word-in-block C promise i m inside room q b) (walk-after (word-bit C i) (word-bit C (i + 1)) m l h)
+        rw (word-in-block C promise i m inside room q b) (walk-after (word C i) (word C (i + 1)) m l h)
 
     new : (a q : ℕ) → q < a → a ≤ wordBits C → distance a (word C i) (word C (i + 1)) ≤ m → wordAt C (start C i + m) q ≡ word C (i + 1) q
     new a q l b h =

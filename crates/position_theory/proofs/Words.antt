@@ -88,23 +88,24 @@ five-distance C x y =
 
 -- how far w(i) and w(i+1) are apart up to the end of each chunk: a separator's bits all change, and of a code chunk as many as the
 -- changed row's weight
-module _ (C : Code) (promise : ChunkPromise C) (i : ℕ) (inside : i < lastCodeword C) where
+module _ (C : Code) (i : ℕ) where
   separators-apart : (u v : ℕ → ℕ) → ((p : ℕ) → p < C .D → u p ≡ i % 2) → ((p : ℕ) → p < C .D → v p ≡ (i + 1) % 2)
       → distance (C .D) u v ≡ C .D
   separators-apart u v hu hv = distance-everywhere u v (C .D) (λ p b. rw (hu p b, hv p b) (omega arith))
 
+  pub apart-separator₁ : distance (C .D) (word C i) (word C (i + 1)) ≡ C .D
+  apart-separator₁ = separators-apart _ _ (word-separator₁ C i) (word-separator₁ C (i + 1))
+
+module _ (C : Code) (promise : ChunkPromise C) (i : ℕ) (inside : i < lastCodeword C) where
   chunks-apart : (u v : ℕ → ℕ) → ((p : ℕ) → p < C .n → u p ≡ bit (codeword C i) p)
       → ((p : ℕ) → p < C .n → v p ≡ bit (codeword C (i + 1)) p) → distance (C .n) u v ≡ changedWeight C i
   chunks-apart u v hu hv = rw (distance-ext (C .n) hu hv) (promise .step i inside)
-
-  pub apart-separator₁ : distance (C .D) (word C i) (word C (i + 1)) ≡ C .D
-  apart-separator₁ = separators-apart _ _ (word-separator₁ C i) (word-separator₁ C (i + 1))
 
   pub apart-chunk₁ : distance (C .D + C .n) (word C i) (word C (i + 1)) ≡ C .D + changedWeight C i
   apart-chunk₁ =
       rw (
         distance-split (C .D) (C .n) (word C i) (word C (i + 1)),
-        apart-separator₁,
+        apart-separator₁ C i,
         chunks-apart _ _ (word-chunk₁ C i) (word-chunk₁ C (i + 1)),
       )
 
@@ -113,7 +114,7 @@ module _ (C : Code) (promise : ChunkPromise C) (i : ℕ) (inside : i < lastCodew
       rw (
         distance-split (C .D + C .n) (C .D) (word C i) (word C (i + 1)),
         apart-chunk₁,
-        separators-apart _ _ (word-separator₂ C i) (word-separator₂ C (i + 1)),
+        separators-apart C i _ _ (word-separator₂ C i) (word-separator₂ C (i + 1)),
       ) (omega arith)
 
   pub apart-chunk₂ : distance (C .D + C .n + C .D + C .n) (word C i) (word C (i + 1)) ≡ 2 * C .D + 2 * changedWeight C i
@@ -130,5 +131,5 @@ module _ (C : Code) (promise : ChunkPromise C) (i : ℕ) (inside : i < lastCodew
         word-in-order C,
         distance-split (C .D + C .n + C .D + C .n) (C .D) (word C i) (word C (i + 1)),
         apart-chunk₂,
-        separators-apart _ _ (λ p _. word-separator₃ C i p) (λ p _. word-separator₃ C (i + 1) p),
+        separators-apart C i _ _ (λ p _. word-separator₃ C i p) (λ p _. word-separator₃ C (i + 1) p),
       ) (omega arith)

@@ -1,5 +1,5 @@
--- `position::scan::pass_places` meets its contract. The loop keeps that the search has passed the places below `q`, in whichever
--- code and block the words are those of: a place that is alike changes nothing, and one that differs is one position on. For the
+-- `position::scan::pass_places` meets its contract. The loop keeps that the search has passed the places below `q`, for every
+-- code and block whose words u and v hold: a place that is alike changes nothing, and one that differs is one position on. For the
 -- bounds one such block is enough, and the contract asks for it. The measure is the places that are left. Assumes nothing.
 use mathlib.Core.Path.{_≡_, refl, _∙_}
 use mathlib.Core.Logic.{⊎-elim}

@@ -20,7 +20,7 @@ block-of-requires c κs = search needs
 on-track : (c : tie.After-block-of)
     → let C = meaning (c .before .args .code) in Sound C × (c .block-of .result ≤ lastCodeword C)
 on-track c =
-    let sound = c .before .pre .0 in (sound, rw (c .block-of .ensures) (block-le _ (promise _ sound) (c .before .args .position)))
+    let sound = c .before .pre .0 in (sound, rw (c .block-of .ensures) (block-le _ (c .before .args .position)))
 
 block-start-requires : tie.Need-block-start-requires
 block-start-requires c κs = on-track c
