@@ -10,3 +10,4 @@ pub mod PackedDistance
 pub mod LowestOne
 pub mod Shifts
 pub mod FilledList
+pub mod CutWords

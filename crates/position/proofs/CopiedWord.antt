@@ -8,14 +8,15 @@ use borrow.Author.Count.{below-none}
 use native.Mathlib.Omega.{arith}
 use lib.ListN.{length, getD, set, replicate, List·getD-eq-default}
 use lib.Seq.{getD-set-other}
-use Rattle.bits.specs.Places.{place, cut}
+use Rattle.bits.specs.Places.{place}
+use Rattle.bits.proofs.FilledList.{one-entry-more}
 use Rattle.bits.proofs.Numbers.{lt-or-le}
 use Rattle.bits.proofs.Places.{length-pack, place-pack, byte-of-places, same-places}
 use Rattle.model.specs.Answers.{wordLength}
 use Rattle.model.specs.Card.{Code}
 use Rattle.model.specs.Words.{wordBits, wordAt, wordBytes}
 use Rattle.position_theory.proofs.WordBytes.{word-at-bit}
-use Rattle.bits.proofs.FilledList.{one-entry-more}
+use Rattle.position.specs.HoldsWord.{HoldsWord}
 use Rattle.position.proofs.ZeroBytes.{zero-byte}
 
 -- ---- to zeros
@@ -60,7 +61,7 @@ module _ (lent word : List ℕ) (copied : (i : ℕ) → i < length lent → getD
   copied-places p h = rw (copied (p / 8) (omega arith))
 
   pub copied-word : (C : Code) (position : ℕ) → length lent ≡ wordLength C → ((i : ℕ) → getD word i 0 < 256)
-      → ((p : ℕ) → place word p ≡ cut (wordBits C) (wordAt C position) p) → lent ≡ wordBytes C position
+      → HoldsWord C (wordAt C position) word → lent ≡ wordBytes C position
   unfolding wordBytes
   copied-word C position long bytes holds =
       let d = wordBits C in

@@ -9,7 +9,6 @@ pub mod FilledByte
 pub mod ByteDistance
 pub mod ZeroBytes
 pub mod WordChunks
-pub mod WalkedWord
 pub mod CopiedWord
 pub mod MixedBytes
 pub mod BlockSearch

@@ -1,15 +1,15 @@
 -- A search for the nearest position, from its first word to its answer: the count over an array's 320 places is the
 -- residual, the words of a block are those that the arrays hold, and where the search has come to the last allowed position
 -- its nearest is the answer. Assumes nothing.
-use mathlib.Core.Path.{_≡_, refl, sym, _∙_, ap}
+use mathlib.Core.Path.{_≡_, sym, _∙_, ap}
 use mathlib.Core.List.{List}
 use Prim.Native.Nat.{ℕ, _+_, _<_}
-use native.Mathlib.Nat.{le-dest, sub-self}
+use native.Mathlib.Nat.{sub-self}
 use native.Mathlib.Omega.{arith}
-use Rattle.bits.specs.Sums.{sumBelow, distance, from}
-use Rattle.bits.specs.Places.{place, cut}
+use Rattle.bits.specs.Sums.{sumBelow, distance}
+use Rattle.bits.specs.Places.{place}
 use Rattle.bits.specs.Searches.{leastAt}
-use Rattle.bits.proofs.Distance.{distance-ext, distance-self, distance-split}
+use Rattle.bits.proofs.Distance.{distance-ext-left, distance-alike-after}
 use Rattle.bits.proofs.Places.{cut-below, cut-above, cut-ext}
 use Rattle.model.specs.Card.{Code}
 use Rattle.model.specs.Order.{lastCodeword, start}
@@ -22,28 +22,20 @@ use Rattle.code_theory.proofs.Starts.{start-zero}
 use Rattle.position_theory.proofs.Blocks.{word-at-start}
 use Rattle.position_theory.proofs.Bounds.{word-bits-bound}
 use Rattle.position.specs.declared.scan.Scan.{Scan}
+use Rattle.position.specs.HoldsWord.{HoldsWord}
 use Rattle.position.specs.Received.{NothingSpare}
 use Rattle.position.specs.Scanned.{Scanned}
 use Rattle.position.specs.SearchReady.{BlockWords, PassedPlaces}
 
 -- the bits in which an array that holds a position's word differs from the received one are its residual
-pub count-is-residual : (C : Code) → Sound C → (w x : List ℕ) (position : ℕ)
-    → ((p : ℕ) → p < 320 → place w p ≡ cut (wordBits C) (wordAt C position) p) → NothingSpare C x
+pub count-is-residual : (C : Code) → Sound C → (w x : List ℕ) (position : ℕ) → HoldsWord C (wordAt C position) w → NothingSpare C x
     → distance 320 (place w) (place x) ≡ residual C (place x) position
 unfolding NothingSpare residual
 count-is-residual C sound w x position holds spare =
-    let rest = le-dest (word-bits-bound C sound) in
-    let none : distance (rest .0) (from (wordBits C) (place w)) (from (wordBits C) (place x)) ≡ 0 =
-    distance-ext (rest .0)
-    (λ p b. holds (wordBits C + p) (omega arith) ∙ cut-above (wordBits C) (wordAt C position) (wordBits C + p) (omega arith))
-    (λ p b. spare (wordBits C + p) (omega arith))
-    ∙ distance-self (rest .0) (λ p. 0)
-    in
-    let bits : distance (wordBits C) (place w) (place x) ≡ residual C (place x) position =
-    distance-ext (wordBits C) (λ p b. holds p (omega (arith, word-bits-bound C sound)) ∙ cut-below (wordBits C) (wordAt C position) p b) (λ p b. refl)
-    in
-    ap (λ (d : ℕ). distance d (place w) (place x)) (sym (rest .1))
-    ∙ distance-split (wordBits C) (rest .0) (place w) (place x) ∙ omega arith
+    let d = wordBits C in
+    distance-alike-after d 320 (place w) (place x) (word-bits-bound C sound)
+    (λ p past _. holds p ∙ cut-above d (wordAt C position) p past ∙ sym (spare p past))
+    ∙ distance-ext-left d (place x) (λ p b. holds p ∙ cut-below d (wordAt C position) p b)
 
 -- a search that stands at its first position
 pub scanned-first : (f : ℕ → ℕ) (low residual : ℕ) → residual ≡ f low
@@ -54,8 +46,7 @@ scanned-first f low residual e =
 
 -- arrays that hold the words of a block
 pub block-words : (C : Code) (i : ℕ) (u v : List ℕ) → Sound C → i < lastCodeword C
-    → ((p : ℕ) → place u p ≡ cut (wordBits C) (word C i) p) → ((p : ℕ) → place v p ≡ cut (wordBits C) (word C (i + 1)) p)
-    → BlockWords C i u v
+    → HoldsWord C (word C i) u → HoldsWord C (word C (i + 1)) v → BlockWords C i u v
 block-words C i u v sound inside hu hv =
     record {
       sound = sound;
@@ -77,9 +68,8 @@ unfolding nearest
 answer-of-search C x rule low high s scanned l h = rw (← l, ← h, ← (scanned .nearest), scanned .least)
 
 -- the array that holds w(0) holds the word of position 0
-pub first-word : (C : Code) → Sound C → (w : List ℕ) → ((p : ℕ) → place w p ≡ cut (wordBits C) (word C 0) p)
-    → (p : ℕ) → p < 320 → place w p ≡ cut (wordBits C) (wordAt C 0) p
-first-word C sound w holds p b =
+pub first-word : (C : Code) → Sound C → (w : List ℕ) → HoldsWord C (word C 0) w → HoldsWord C (wordAt C 0) w
+first-word C sound w holds p =
     holds p ∙ ap (λ (u : ℕ → ℕ). u p) (cut-ext (wordBits C) (word C 0) (wordAt C 0) (λ q l. sym (at-zero q)))
   where
     at-zero : (q : ℕ) → wordAt C 0 q ≡ word C 0 q

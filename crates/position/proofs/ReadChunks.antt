@@ -9,8 +9,8 @@ use Rattle.model.specs.declared.Chunk.{Chunk}
 use Rattle.model.specs.declared.Chunk.the-variants.{Codeword, Unreadable}
 use Rattle.model.specs.declared.ReadAnswer.the-variants.{Refused}
 
-pub read-from : (C : Code) (x : ℕ → ℕ) (at place : ℕ) → at ≡ place → chunkReading C (from at x) ≡ chunkReading C (from place x)
-read-from C x at place e = rw e
+pub read-from : (C : Code) (x : ℕ → ℕ) (at there : ℕ) → at ≡ there → chunkReading C (from at x) ≡ chunkReading C (from there x)
+read-from C x at there e = rw e
 
 pub unreadable-first : (C : Code) (x : ℕ → ℕ) (second : Chunk) → Refused 10 ≡ nearest C x (rule₃ C Unreadable second)
 unfolding nearest rule₃

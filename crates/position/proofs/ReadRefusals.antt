@@ -19,7 +19,7 @@ use Rattle.chunk.specs.FirstRefusal.{refusalIf, firstOf}
 use Rattle.chunk.proofs.FirstRefusal.{none-by-tests}
 use Rattle.position_theory.proofs.BoundedError.{read-word}
 
-module _ (C : Code) (received : List ℕ) (whole : length received ≡ wordLength C) where
+module _ (C : Code) (received : List ℕ) where
   -- the first of the two, by the tests on this word
   abbrev pub tested : ℕ
   tested = firstOf (refusalIf (spareSet C received) 8) (refusalIf (eqb (ruleNamed C (place received)) 0) 9)
@@ -31,7 +31,16 @@ module _ (C : Code) (received : List ℕ) (whole : length received ≡ wordLengt
   tested-by refusal spare unnamed ones rule is is-spare is-unnamed of-spare is-rule =
       is ∙ rw (is-spare, is-unnamed, of-spare, is-rule)
 
-  pub first-refused : (refusal : ℕ) → refusal ≡ tested → (refusal ≡ 0 → ⊥) → Refused refusal ≡ readWord C received
+  pub neither-holds : (refusal : ℕ) → refusal ≡ tested → refusal ≡ 0
+      → (spareSet C received ≡ false) × (ruleNamed C (place received) ≡ 0 → ⊥)
+  neither-holds refusal is none =
+      let (spare, named) =
+      none-by-tests (spareSet C received) (eqb (ruleNamed C (place received)) 0) 8 9 (omega arith) (omega arith) (sym is ∙ none) in
+      (spare, eqb-false (ruleNamed C (place received)) 0 named)
+
+-- a word of the right length
+module _ (C : Code) (received : List ℕ) (whole : length received ≡ wordLength C) where
+  pub first-refused : (refusal : ℕ) → refusal ≡ tested C received → (refusal ≡ 0 → ⊥) → Refused refusal ≡ readWord C received
   unfolding readWord reading allowed allowedBy nearest
   first-refused refusal is ne = rw (eq-eqb (length received) (wordLength C) whole) (by-spare (spareSet C received) is)
     where
@@ -44,13 +53,6 @@ module _ (C : Code) (received : List ℕ) (whole : length received ≡ wordLengt
           (λ (some : ruleNamed C (place received) ≡ 0 → ⊥).
           rw (ne-eqb (ruleNamed C (place received)) 0 some) (λ e. absurd (ne e)))
           (eq-or-ne (ruleNamed C (place received)) 0)
-
-  pub neither-holds : (refusal : ℕ) → refusal ≡ tested → refusal ≡ 0
-      → (spareSet C received ≡ false) × (ruleNamed C (place received) ≡ 0 → ⊥)
-  neither-holds refusal is none =
-      let (spare, named) =
-      none-by-tests (spareSet C received) (eqb (ruleNamed C (place received)) 0) 8 9 (omega arith) (omega arith) (sym is ∙ none) in
-      (spare, eqb-false (ruleNamed C (place received)) 0 named)
 
   pub read-by-rule : spareSet C received ≡ false
       → nearest C (place received) (allowedBy C (place received) (ruleNamed C (place received))) ≡ readWord C received

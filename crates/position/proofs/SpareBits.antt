@@ -4,20 +4,20 @@ use mathlib.Core.Bool.{Bool, true, false, not}
 use mathlib.Core.List.{List}
 use mathlib.Core.Logic.{⊎-elim}
 use Prim.Native.Nat.{ℕ, _+_, _-_, _*_, _/_, _≤_, _<_}
-use native.Mathlib.Nat.{le-dest, zero-div}
+use native.Mathlib.Nat.{zero-div}
 use native.Mathlib.Omega.{arith}
 use lib.Dec.{eqb}
 use lib.ListN.{length, List·getD-eq-default}
-use borrow.Author.Tests.{eqb-false, eq-eqb, ne-eqb}
+use borrow.Author.Tests.{eq-eqb, ne-eqb}
 use Rattle.bits.specs.Sums.{sumBelow, from}
 use Rattle.bits.specs.Places.{place}
 use Rattle.bits.proofs.Numbers.{lt-or-le, eq-or-ne}
 use Rattle.bits.proofs.Sums.{summand-le, sum-zero}
-use Rattle.bits.proofs.Searches.{any-none, none-of-any}
-use Rattle.bits.proofs.Places.{place-bit}
+use Rattle.bits.proofs.Searches.{any-none}
 use Rattle.model.specs.Card.{Code}
 use Rattle.model.specs.Words.{wordBits}
 use Rattle.model.specs.Answers.{wordLength, spareSet}
+use Rattle.position_theory.proofs.WordBytes.{spare-bits-zero}
 use Rattle.position.specs.Received.{NothingSpare}
 
 -- places past the end of a list are 0
@@ -33,18 +33,12 @@ module _ (C : Code) (received x : List ℕ) (same : (p : ℕ) → place x p ≡ 
       any-none _ _ (λ q b. ne-eqb (place received (wordBits C + q)) 1 (λ (one : place received (wordBits C + q) ≡ 1).
       omega (arith, summand-le (from (wordBits C) (place x)) (8 * wordLength C - wordBits C) q b, same (wordBits C + q))))
 
-  none-set : spareSet C received ≡ false → (q : ℕ) → q < 8 * wordLength C - wordBits C → place x (wordBits C + q) ≡ 0
-  unfolding spareSet
-  none-set f q b =
-      let not-one = eqb-false (place received (wordBits C + q)) 1 (none-of-any (λ q. eqb (place received (wordBits C + q)) 1) _ f q b) in
-      omega (arith, same (wordBits C + q), place-bit received (wordBits C + q), not-one)
-
   spare-some : (sumBelow (from (wordBits C) (place x)) (8 * wordLength C - wordBits C) ≡ 0 → ⊥) → spareSet C received ≡ true
   spare-some ne = by-test (spareSet C received) refl
     where
       by-test : (t : Bool) → spareSet C received ≡ t → spareSet C received ≡ true
       by-test true e = e
-      by-test false e = absurd (ne (sum-zero _ (none-set e)))
+      by-test false e = absurd (ne (sum-zero _ (λ q b. same (wordBits C + q) ∙ spare-bits-zero C received e (wordBits C + q) (omega arith) (omega arith))))
 
   -- the test of a count of ones
   pub spare-test : (ones : ℕ) → ones ≡ sumBelow (from (wordBits C) (place x)) (8 * wordLength C - wordBits C)
@@ -59,6 +53,6 @@ module _ (C : Code) (received x : List ℕ) (same : (p : ℕ) → place x p ≡ 
   unfolding NothingSpare
   nothing-spare h none p l =
       ⊎-elim
-      (λ (b : p < 8 * wordLength C). let rest = le-dest l in rw (← (rest .1)) (none-set none (rest .0) (omega arith)))
+      (λ (b : p < 8 * wordLength C). same p ∙ spare-bits-zero C received none p l b)
       (λ (b : 8 * wordLength C ≤ p). same p ∙ past-end received p (omega arith))
       (lt-or-le p (8 * wordLength C))

@@ -61,7 +61,7 @@ pub fn ones_between(w: &[u8; 40], at: u32, len: u32) -> u32
 // What the separator of `distance` bits from place `at` on reads: 1 if more than half its bits are 1, else 0.
 pub fn separator_at(w: &[u8; 40], at: u32, distance: u32) -> u32
     requires { ⌜ (at + distance ≤ 320) × (distance ≤ 64) ⌝ }
-    ensures { λ r. ⌜ (r ≡ majority distance (from at (place (now (w .entry))))) × (r < 2) ⌝ }
+    ensures { λ r. ⌜ r ≡ majority distance (from at (place (now (w .entry)))) ⌝ }
 {
     if distance < 2 * ones_between(w, at, distance) {
         1

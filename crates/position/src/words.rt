@@ -12,6 +12,7 @@ ghost use Rattle.model.specs.Decoded.{meaning};
 ghost use Rattle.model.specs.Order.{lastCodeword, lastPosition};
 ghost use Rattle.model.specs.Words.{wordBits, word, wordAt, wordBytes};
 ghost use Rattle.code_theory.specs.Promise.{Sound};
+ghost use Rattle.position.specs.HoldsWord.{HoldsWord};
 use super::blocks;
 use super::hamming;
 use super::layout;
@@ -58,7 +59,7 @@ fn separator(i: u32, distance: u32) -> u64
 // w(i), built chunk by chunk.
 pub fn word_of(code: DecodedCode, i: u32) -> [u8; 40]
     requires { ⌜ Sound (meaning code) ⌝ }
-    ensures { λ r. ⌜ ((p : ℕ) → place r p ≡ cut (wordBits (meaning code)) (word (meaning code) i) p) ⌝ }
+    ensures { λ r. ⌜ HoldsWord (meaning code) (word (meaning code) i) r ⌝ }
 {
     let n = code.n;
     let d = code.distance;
@@ -90,7 +91,7 @@ pub fn received(word: &[u8]) -> [u8; 40]
 pub fn word_in_block(code: DecodedCode, i: u32, m: u32) -> [u8; 40]
     requires { ⌜ Sound (meaning code) × (i ≤ lastCodeword (meaning code)) ⌝ }
     requires { ⌜ m ≤ distance (wordBits (meaning code)) (word (meaning code) i) (word (meaning code) (i + 1)) ⌝ }
-    ensures { λ r. ⌜ ((p : ℕ) → place r p ≡ cut (wordBits (meaning code)) (walk (word (meaning code) i) (word (meaning code) (i + 1)) m) p) ⌝ }
+    ensures { λ r. ⌜ HoldsWord (meaning code) (walk (word (meaning code) i) (word (meaning code) (i + 1)) m) r ⌝ }
 {
     let u = word_of(code, i);
     let v = word_of(code, i + 1);
@@ -100,7 +101,7 @@ pub fn word_in_block(code: DecodedCode, i: u32, m: u32) -> [u8; 40]
 // The word of a position.
 pub fn word_at(code: DecodedCode, position: u32) -> [u8; 40]
     requires { ⌜ Sound (meaning code) × (position ≤ lastPosition (meaning code)) ⌝ }
-    ensures { λ r. ⌜ ((p : ℕ) → place r p ≡ cut (wordBits (meaning code)) (wordAt (meaning code) position) p) ⌝ }
+    ensures { λ r. ⌜ HoldsWord (meaning code) (wordAt (meaning code) position) r ⌝ }
 {
     let i = blocks::block_of(code, position);
     word_in_block(code, i, position - blocks::block_start(code, i))

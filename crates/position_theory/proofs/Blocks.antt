@@ -3,12 +3,13 @@
 -- Assumes nothing.
 use mathlib.Core.Path.{_≡_, sym}
 use mathlib.Core.Logic.{_⊎_, inl, inr, ⊎-elim}
-use Prim.Native.Nat.{ℕ, zero, suc, _+_, _≤_, _<_}
+use Prim.Native.Nat.{ℕ, zero, suc, _+_, _-_, _≤_, _<_}
 use native.Mathlib.Nat.{eq-or-lt-of-le, eq-zero-or-pos, sub-self, add-sub-cancel-left}
 use native.Mathlib.Numerals.{add-one}
 use native.Mathlib.Omega.{arith}
 use lib.Dec.{leb}
 use borrow.Author.Tests.{le-leb, lt-leb, leb-true, leb-false}
+use Rattle.bits.specs.Sums.{distance}
 use Rattle.bits.specs.Walk.{walk}
 use Rattle.bits.proofs.Walk.{walk-none, walk-before}
 use Rattle.bits.proofs.Searches.{greatest-is, greatest-le, greatest-holds, greatest-above}
@@ -95,6 +96,14 @@ module _ (C : Code) (promise : ChunkPromise C) where
   in-its-block position h =
       let lies = lies-in-its-block position h in
       ⊎-elim (λ e. inl (lies .at-last e)) (λ l. inr (l, lies .before-end l)) (eq-or-lt-of-le (block-le C position))
+
+  -- the steps that it stands into its block are no more than its block's words are apart
+  pub steps-in-block : (position : ℕ) → position ≤ lastPosition C
+      → position - start C (blockOf C position) ≤ distance (wordBits C) (word C (blockOf C position)) (word C (blockOf C position + 1))
+  steps-in-block position h =
+      ⊎-elim (λ e. omega arith)
+      (λ inside. omega (arith, apart C promise (blockOf C position) (inside .0)))
+      (in-its-block position h)
 
   -- the word of a start r(i) is w(i)
   pub word-at-start : (i : ℕ) → i ≤ lastCodeword C → (p : ℕ) → wordAt C (start C i) p ≡ word C i p

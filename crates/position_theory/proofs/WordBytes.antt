@@ -50,7 +50,7 @@ differing-words C p q = packed-distance (wordBits C) (word-at-bit C p) (word-at-
 
 -- a received word with spare bits zero
 module _ (C : Code) (received : List ℕ) (spare : spareSet C received ≡ false) where
-  spare-bits-zero : (p : ℕ) → wordBits C ≤ p → p < 8 * wordLength C → place received p ≡ 0
+  pub spare-bits-zero : (p : ℕ) → wordBits C ≤ p → p < 8 * wordLength C → place received p ≡ 0
   unfolding spareSet
   spare-bits-zero p h b =
       let rest : (q : ℕ) × (wordBits C + q ≡ p) = le-dest h in

@@ -66,7 +66,7 @@ module _ (c : tie.After-bits-unlike) where
   low =
       ap₂ _+_ (c .before .block-start .ensures)
       (c .bits-unlike .ensures
-      ∙ steps-counted C i _ _ _ (first .args .at) words (old .word-of .ensures) within (c .before .before .spliced .ensures))
+      ∙ steps-counted C i _ _ _ (first .args .at) words within (c .before .before .spliced .ensures))
 
 add-begin : tie.Need-add-begin
 add-begin c =
@@ -84,7 +84,7 @@ begun c =
     let there = c .before in
     let args = first there .args in
     let held =
-    splice-holds (C there) (i there) _ _ _ (args .at) (words there) (old there .word-of .ensures) (within there) (there .before .before .spliced .ensures)
+    splice-holds (C there) (i there) _ _ _ (args .at) (words there) (within there) (there .before .before .spliced .ensures) (old there .word-of .ensures)
     in
     record {
       within = within there;

@@ -1,7 +1,6 @@
 -- `position::places::separator_at` meets its contract: the test of the count of ones is the definition of the majority. Assumes nothing.
 use borrow.Author.Tests.{lt-ltb, le-ltb}
 use Rattle.model.specs.Reading.{majority}
-use native.Mathlib.Omega.{arith}
 use borrow.Author.Needs.{needs}
 use Rattle.position.proofs.places.separator_at.Statement.{statement}
 use Rattle.position.proofs.places.separator_at.Tie as tie
@@ -14,11 +13,11 @@ mul-if1 c = search needs
 
 returns : tie.Need-returns
 unfolding majority
-returns c = (rw (← (c .before .ones-between .ensures .0), lt-ltb _ _ (c .if1 .taken)), omega arith)
+returns c = rw (← (c .before .ones-between .ensures .0), lt-ltb _ _ (c .if1 .taken))
 
 returns-2 : tie.Need-returns-2
 unfolding majority
-returns-2 c = (rw (← (c .before .ones-between .ensures .0), le-ltb _ _ (c .if1 .left)), omega arith)
+returns-2 c = rw (← (c .before .ones-between .ensures .0), le-ltb _ _ (c .if1 .left))
 
 pub separator-at-spec : {M : Type 1} → statement M
 separator-at-spec = tie.close (tie.spec ones-between-requires mul-if1 returns returns-2)

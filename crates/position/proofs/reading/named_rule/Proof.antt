@@ -21,9 +21,9 @@ separators c =
     let first = second .before .before in
     let at = first .before .before .layout-of .ensures in
     record {
-      first = first .separator-at .ensures .0 ∙ ap (majority _) (from-zero _);
-      second = rw (at .separator₂-at) at (second .separator-at2 .ensures .0);
-      third = rw (at .separator₃-at) at (c .separator-at3 .ensures .0);
+      first = first .separator-at .ensures ∙ ap (majority _) (from-zero _);
+      second = rw (at .separator₂-at) at (second .separator-at2 .ensures);
+      third = rw (at .separator₃-at) at (c .separator-at3 .ensures);
     }
 
 layout-of-requires : tie.Need-layout-of-requires

@@ -68,10 +68,10 @@ module _ (c : tie.After-first-of) where
   whole = right-length (got .before)
 
   -- the first of refusals 8 and 9 is that of the received word
-  refused-first : c .first-of .result ≡ tested C received whole
+  refused-first : c .first-of .result ≡ tested C received
   refused-first =
       let spare = spare-test C received (got .received .result) (got .received .ensures) _ (spare-ones counted) in
-      tested-by C received whole (c .first-of .result) (c .before .before .refusal-if .result) (c .before .refusal-if2 .result)
+      tested-by C received (c .first-of .result) (c .before .before .refusal-if .result) (c .before .refusal-if2 .result)
       (counted .ones-between .result) (named .named-rule .result) (c .first-of .ensures)
       (c .before .before .refusal-if .ensures) (c .before .refusal-if2 .ensures) spare (rule named)
 
@@ -116,33 +116,33 @@ first-of-requires c κs = search needs
 
 returns-2 : tie.Need-returns-2
 returns-2 c =
-    let tested = c .before in
-    first-refused _ _ (whole tested) _ (refused-first tested) (c .if2 .taken)
+    let chosen = c .before in
+    first-refused _ _ (whole chosen) _ (refused-first chosen) (c .if2 .taken)
 
 -- past both refusals
 neither : (c : tie.Else2)
-    → let tested = c .before in (spareSet (C tested) (received tested) ≡ false) × (ruleNamed (C tested) (place (received tested)) ≡ 0 → ⊥)
+    → let chosen = c .before in (spareSet (C chosen) (received chosen) ≡ false) × (ruleNamed (C chosen) (place (received chosen)) ≡ 0 → ⊥)
 neither c =
-    let tested = c .before in
-    neither-holds _ _ (whole tested) _ (refused-first tested) (c .if2 .left)
+    let chosen = c .before in
+    neither-holds _ _ _ (refused-first chosen) (c .if2 .left)
 
 by-rule-requires : tie.Need-by-rule-requires
 by-rule-requires c κs =
-    let tested = c .before in
-    let array = got tested .received in
-    let some : named tested .named-rule .result ≡ 0 → ⊥ = λ zero. neither c .1 (sym (rule (named tested)) ∙ zero) in (
-      first tested .pre,
-      nothing-spare (C tested) (received tested) (array .result) (array .ensures) (whole tested) (neither c .0),
+    let chosen = c .before in
+    let array = got chosen .received in
+    let some : named chosen .named-rule .result ≡ 0 → ⊥ = λ zero. neither c .1 (sym (rule (named chosen)) ∙ zero) in (
+      first chosen .pre,
+      nothing-spare (C chosen) (received chosen) (array .result) (array .ensures) (whole chosen) (neither c .0),
       omega arith,
-      named tested .named-rule .ensures .1,
+      named chosen .named-rule .ensures .1,
     )
 
 returns-3 : tie.Need-returns-3
 returns-3 c =
-    let tested = c .before .before in
-    let named = tested .before .before .before .before .before in
+    let chosen = c .before .before in
+    let named = chosen .before .before .before .before .before in
     rw (held (named .before .before), rule named) at (c .by-rule .ensures)
-    ∙ read-by-rule (C tested) (received tested) (whole tested) (neither (c .before) .0)
+    ∙ read-by-rule (C chosen) (received chosen) (whole chosen) (neither (c .before) .0)
 
 pub read-spec : {M : Type 1} → statement M
 read-spec =

@@ -8,8 +8,7 @@ use Rattle.model.specs.Order.{lastCodeword}
 use Rattle.model.specs.Words.{wordAt}
 use Rattle.code_theory.specs.Promise.{Sound}
 use Rattle.code_theory.proofs.Promise.{promise}
-use Rattle.position_theory.proofs.Blocks.{block-le, block-low}
-use Rattle.position.proofs.WalkedWord.{steps-in-block}
+use Rattle.position_theory.proofs.Blocks.{block-le, block-low, steps-in-block}
 use Rattle.position.proofs.words.word_at.Statement.{statement}
 use Rattle.position.proofs.words.word_at.Tie as tie
 
@@ -35,7 +34,7 @@ word-in-block-requires c κs =
     let first = c .before .before in (
       on-track (c .before),
       rw (c .block-start .ensures, c .before .block-of .ensures)
-          (steps-in-block (meaning (first .args .code)) (first .pre .0) (first .args .position) (first .pre .1)),
+          (steps-in-block _ (promise _ (first .pre .0)) (first .args .position) (first .pre .1)),
     )
 
 returns : tie.Need-returns

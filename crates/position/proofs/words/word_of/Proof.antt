@@ -39,24 +39,24 @@ module _ (c : tie.After-codeword) where
 separator₁-put : (c : tie.After-put-chunk) → let known = c .before in Holds known (layout known .chunk1) (c .put-chunk .result)
 separator₁-put c =
     let known = c .before in
-    put-separator₁ _ _ (laid known) _ _ _ (parity-bits known) (known .codeword .ensures .0) (zero-place 40) (c .put-chunk .ensures)
+    put-separator₁ _ _ (laid known) _ _ (parity-bits known) (zero-place 40) (c .put-chunk .ensures)
 
 chunk₁-put : (c : tie.After-put-chunk2) → let known = c .before .before in Holds known (layout known .separator2) (c .put-chunk2 .result)
 chunk₁-put c =
     let known = c .before .before in
-    put-chunk₁ _ _ (laid known) _ _ _ (parity-bits known) (known .codeword .ensures .0) (separator₁-put (c .before)) (c .put-chunk2 .ensures)
+    put-chunk₁ _ _ (laid known) _ _ (known .codeword .ensures .0) (separator₁-put (c .before)) (c .put-chunk2 .ensures)
 
 separator₂-put : (c : tie.After-put-chunk3)
     → let known = c .before .before .before in Holds known (layout known .chunk2) (c .put-chunk3 .result)
 separator₂-put c =
     let known = c .before .before .before in
-    put-separator₂ _ _ (laid known) _ _ _ (parity-bits known) (known .codeword .ensures .0) (chunk₁-put (c .before)) (c .put-chunk3 .ensures)
+    put-separator₂ _ _ (laid known) _ _ (parity-bits known) (chunk₁-put (c .before)) (c .put-chunk3 .ensures)
 
 chunk₂-put : (c : tie.After-put-chunk4)
     → let known = c .before .before .before .before in Holds known (layout known .separator3) (c .put-chunk4 .result)
 chunk₂-put c =
     let known = c .before .before .before .before in
-    put-chunk₂ _ _ (laid known) _ _ _ (parity-bits known) (known .codeword .ensures .0) (separator₂-put (c .before)) (c .put-chunk4 .ensures)
+    put-chunk₂ _ _ (laid known) _ _ (known .codeword .ensures .0) (separator₂-put (c .before)) (c .put-chunk4 .ensures)
 
 layout-of-requires : tie.Need-layout-of-requires
 layout-of-requires c κs = search needs
@@ -91,7 +91,7 @@ put-chunk-requires-5 c κs =
 returns : tie.Need-returns
 returns c =
     let known = c .before .before .before .before .before in
-    put-separator₃ _ _ (laid known) _ _ _ (parity-bits known) (known .codeword .ensures .0) (chunk₂-put (c .before)) (c .put-chunk5 .ensures)
+    put-separator₃ _ _ (laid known) _ _ (parity-bits known) (chunk₂-put (c .before)) (c .put-chunk5 .ensures)
 
 pub word-of-spec : {M : Type 1} → statement M
 word-of-spec =
