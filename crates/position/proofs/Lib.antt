@@ -3,15 +3,14 @@ pub mod BlockBetween
 pub mod GatheredBits
 pub mod Scanning
 pub mod Passing
-pub mod NearestSearch
 pub mod ChunkByChunk
 pub mod FilledByte
 pub mod ByteDistance
 pub mod ZeroBytes
 pub mod WordChunks
 pub mod CopiedWord
-pub mod MixedBytes
-pub mod BlockSearch
+pub mod Splicing
+pub mod FirstPosition
 pub mod RuleRanges
 pub mod ReadChunks
 pub mod SeparatorRules

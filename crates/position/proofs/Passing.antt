@@ -1,22 +1,49 @@
--- A search passes one place of a block: where w(i) and w(i+1) are alike there, nothing changes; where they differ, it comes
--- one position on, and the residual changes by that place. Assumes nothing.
+-- A search passes the places of a block, whose two words are held in arrays. At the block's start it has passed none. At a place
+-- where w(i) and w(i+1) are alike nothing changes; where they differ, it comes one position on, and the residual changes by that
+-- place. Assumes nothing.
 use mathlib.Core.Path.{_≡_, refl, _∙_}
 use mathlib.Core.List.{List}
 use Prim.Native.Nat.{ℕ, _+_, _≤_, _<_}
 use native.Mathlib.Numerals.{add-one}
 use native.Mathlib.Omega.{arith}
-use Rattle.bits.specs.Sums.{distance, unlike}
+use Rattle.bits.specs.Sums.{sumBelow, distance, unlike}
 use Rattle.bits.specs.Places.{place}
 use Rattle.bits.proofs.Distance.{distance-suc}
-use Rattle.bits.proofs.Places.{place-bit}
+use Rattle.bits.proofs.Places.{place-bit, cut-below}
 use Rattle.model.specs.Card.{Code}
+use Rattle.model.specs.Order.{lastCodeword, start}
 use Rattle.model.specs.Words.{wordBits, word}
 use Rattle.model.specs.Reading.{residual}
+use Rattle.code_theory.specs.Promise.{Sound}
 use Rattle.code_theory.proofs.Promise.{promise}
-use Rattle.position_theory.proofs.Stepping.{residual-step}
+use Rattle.position_theory.proofs.Bounds.{position-bound}
+use Rattle.position_theory.proofs.Stepping.{steps-room, residual-step}
 use Rattle.position.specs.declared.scan.Scan.{Scan}
+use Rattle.position.specs.HoldsWord.{HoldsWord}
 use Rattle.position.specs.Scanned.{Scanned}
 use Rattle.position.specs.SearchReady.{BlockWords, PassedPlaces, Passes}
+
+-- arrays that hold the words of a block
+pub block-words : (C : Code) (i : ℕ) (u v : List ℕ) → Sound C → i < lastCodeword C
+    → HoldsWord C (word C i) u → HoldsWord C (word C (i + 1)) v → BlockWords C i u v
+block-words C i u v sound inside hu hv =
+    record {
+      sound = sound;
+      inside = inside;
+      old = λ p b. hu p ∙ cut-below (wordBits C) (word C i) p b;
+      new = λ p b. hv p ∙ cut-below (wordBits C) (word C (i + 1)) p b;
+    }
+
+-- where the places below q have been passed, the position fits
+pub passed-bound : (C : Code) → Sound C → (i : ℕ) → i < lastCodeword C → (q : ℕ) → q ≤ wordBits C
+    → start C i + distance q (word C i) (word C (i + 1)) ≤ 1310400
+passed-bound C sound i inside q room = position-bound C sound i _ inside (steps-room C (promise C sound) i inside q room)
+
+-- a search that stands at the start of a block has passed none of its places
+pub passed-none : (C : Code) (i : ℕ) (x : List ℕ) (s : Scan) → s .position ≡ start C i → Scanned (residual C (place x)) s
+    → PassedPlaces C i x 0 s
+unfolding distance sumBelow
+passed-none C i x s e scanned = record { within = omega arith; position-is = e ∙ omega arith; scanned = scanned }
 
 -- bits that are not the same differ by 1
 differs : (u v : List ℕ) (q : ℕ) → (place u q ≡ place v q → ⊥) → unlike (place u q) (place v q) ≡ 1

@@ -18,7 +18,7 @@ use Rattle.position_theory.proofs.Words.{apart, apart-separator₁, apart-chunk
 use Rattle.position_theory.proofs.Allowed.{start-on-track}
 use Rattle.position.specs.declared.scan.Scan.{Scan}
 use Rattle.position.specs.SearchReady.{PassedPlaces}
-use Rattle.position.proofs.NearestSearch.{answer-of-search}
+use Rattle.position.proofs.Scanning.{answer-of-search}
 
 module _ (C : Code) (sound : Sound C) (i : ℕ) (inside : i < lastCodeword C) (x : List ℕ) (s : Scan) where
   -- a search that has passed all places of a block stands at the next start

@@ -5,7 +5,7 @@ use Prim.Native.Nat.{_+_, _-_, _<_}
 use Rattle.model.specs.Decoded.{meaning}
 use Rattle.model.specs.Order.{lastCodeword, start}
 use Rattle.code_theory.proofs.Starts.{start-zero}
-use Rattle.position.proofs.NearestSearch.{first-word}
+use Rattle.position.proofs.FirstPosition.{first-word}
 use Rattle.position.specs.Received.{Begun}
 use Rattle.position.proofs.RuleRanges.{at-next-start, before-next-start}
 use native.Mathlib.Omega.{arith}

@@ -2,7 +2,8 @@
 use mathlib.Core.Path.{refl, _∙_}
 use borrow.Author.Needs.{needs}
 use Rattle.position.specs.Received.{Begun}
-use Rattle.position.proofs.NearestSearch.{count-is-residual, scanned-first}
+use Rattle.position.proofs.FirstPosition.{count-is-residual}
+use Rattle.position.proofs.Scanning.{scanned-first}
 use Rattle.position.proofs.nearest.begin.Statement.{statement}
 use Rattle.position.proofs.nearest.begin.Tie as tie
 

@@ -2,7 +2,7 @@
 use Rattle.model.specs.Decoded.{meaning}
 use Rattle.code_theory.proofs.Starts.{last-codeword-bound}
 use Rattle.position.specs.SearchReady.{BlockWords, PassedPlaces, Passes}
-use Rattle.position.proofs.NearestSearch.{block-words, passed-none}
+use Rattle.position.proofs.Passing.{block-words, passed-none}
 use Rattle.position.proofs.RuleRanges.{past-separator₁}
 use native.Mathlib.Omega.{arith}
 use borrow.Author.Needs.{needs}

@@ -2,7 +2,7 @@
 -- Assumes nothing.
 use mathlib.Core.Path.{_∙_}
 use Rattle.model.specs.Decoded.{meaning}
-use Rattle.position.proofs.NearestSearch.{answer-of-search}
+use Rattle.position.proofs.Scanning.{answer-of-search}
 use Rattle.position.proofs.RuleRanges.{track-ends, track-goes-on}
 use native.Mathlib.Omega.{arith}
 use borrow.Author.Needs.{needs}

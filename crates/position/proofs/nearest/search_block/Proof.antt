@@ -13,8 +13,8 @@ use Rattle.position_theory.proofs.Bounds.{word-bits-bound}
 use Rattle.code_theory.proofs.Starts.{last-codeword-bound}
 use Rattle.position.specs.Received.{Begun}
 use Rattle.position.specs.SearchReady.{BlockWords, PassedPlaces, Passes}
-use Rattle.position.proofs.NearestSearch.{block-words}
-use Rattle.position.proofs.BlockSearch.{passed-bound, steps-counted, splice-holds}
+use Rattle.position.proofs.Passing.{block-words, passed-bound}
+use Rattle.position.proofs.FirstPosition.{steps-counted, splice-holds}
 use Rattle.position.proofs.nearest.search_block.Statement.{statement}
 use Rattle.position.proofs.nearest.search_block.Tie as tie
 

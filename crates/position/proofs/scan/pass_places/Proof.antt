@@ -9,8 +9,7 @@ use native.Mathlib.Omega.{arith}
 use Rattle.bits.specs.Places.{place}
 use Rattle.position_theory.proofs.Bounds.{word-bits-bound, residual-bound}
 use Rattle.position.specs.SearchReady.{PassedPlaces, Passes}
-use Rattle.position.proofs.BlockSearch.{passed-bound}
-use Rattle.position.proofs.Passing.{residual-positive, passes-alike, passes-differing}
+use Rattle.position.proofs.Passing.{passed-bound, residual-positive, passes-alike, passes-differing}
 use Rattle.position.proofs.scan.pass_places.Statement.{statement}
 use Rattle.position.proofs.scan.pass_places.Tie as tie
 

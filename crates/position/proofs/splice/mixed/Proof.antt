@@ -4,7 +4,7 @@ use Prim.Native.Nat.{_<_, _+_, _*_, _/_, _%_}
 use native.Mathlib.Omega.{arith}
 use borrow.Author.Needs.{needs}
 use lib.Pow.{pow-pos}
-use Rattle.position.proofs.MixedBytes.{mixed-bits, mixed-fits}
+use Rattle.position.proofs.Splicing.{mixed-bits, mixed-fits}
 use Rattle.position.proofs.splice.mixed.Statement.{statement}
 use Rattle.position.proofs.splice.mixed.Tie as tie
 

@@ -7,7 +7,7 @@ use lib.ListN.{length, length-set}
 use borrow.Author.Needs.{needs}
 use native.Mathlib.Omega.{arith}
 use Rattle.position.specs.Spliced.{Spliced}
-use Rattle.position.proofs.MixedBytes.{spliced-none, spliced-whole, spliced-more}
+use Rattle.position.proofs.Splicing.{spliced-none, spliced-whole, spliced-more}
 use Rattle.position.proofs.splice.spliced.Statement.{statement}
 use Rattle.position.proofs.splice.spliced.Tie as tie
 

@@ -1,7 +1,7 @@
--- The search through a part of a block begins with the word that is w(i+1) below a place and w(i) from there on: the word of
--- the position at which the places below have been passed. Its distance from w(i) counts the steps to it, and the position fits.
--- Assumes nothing.
-use mathlib.Core.Path.{_≡_, sym, _∙_}
+-- The first position of a search: position 0, or the one at which the places of a block below some place have been passed. Of the
+-- latter, the word is w(i+1) below the place and w(i) from there on, and its distance from w(i) counts the steps to it. The bits in
+-- which the array that holds the first word differs from the received one are its residual. Assumes nothing.
+use mathlib.Core.Path.{_≡_, sym, ap, _∙_}
 use mathlib.Core.List.{List}
 use mathlib.Core.Logic.{⊎-elim}
 use Prim.Native.Nat.{ℕ, _+_, _≤_, _<_}
@@ -10,23 +10,40 @@ use borrow.Author.Tests.{lt-ltb, le-ltb}
 use Rattle.bits.specs.Sums.{distance}
 use Rattle.bits.specs.Places.{place}
 use Rattle.bits.proofs.Numbers.{lt-or-le}
-use Rattle.bits.proofs.Distance.{distance-ext, distance-alike-after}
-use Rattle.bits.proofs.Places.{cut-below, cut-above}
+use Rattle.bits.proofs.Distance.{distance-ext, distance-ext-left, distance-alike-after}
+use Rattle.bits.proofs.Places.{cut-below, cut-above, cut-ext}
 use Rattle.model.specs.Card.{Code}
-use Rattle.model.specs.Order.{lastCodeword, start}
+use Rattle.model.specs.Order.{start}
 use Rattle.model.specs.Words.{wordBits, word, wordAt}
+use Rattle.model.specs.Reading.{residual}
 use Rattle.code_theory.specs.Promise.{Sound}
 use Rattle.code_theory.proofs.Promise.{promise}
-use Rattle.position_theory.proofs.Bounds.{word-bits-bound, position-bound}
-use Rattle.position_theory.proofs.Stepping.{steps-room, word-passed}
+use Rattle.code_theory.proofs.Starts.{start-zero}
+use Rattle.position_theory.proofs.Blocks.{word-at-start}
+use Rattle.position_theory.proofs.Bounds.{word-bits-bound}
+use Rattle.position_theory.proofs.Stepping.{word-passed}
 use Rattle.position.specs.HoldsWord.{HoldsWord}
+use Rattle.position.specs.Received.{NothingSpare}
 use Rattle.position.specs.SearchReady.{BlockWords}
 use Rattle.position.specs.Spliced.{Spliced}
 
--- where the places below q have been passed, the position fits
-pub passed-bound : (C : Code) → Sound C → (i : ℕ) → i < lastCodeword C → (q : ℕ) → q ≤ wordBits C
-    → start C i + distance q (word C i) (word C (i + 1)) ≤ 1310400
-passed-bound C sound i inside q room = position-bound C sound i _ inside (steps-room C (promise C sound) i inside q room)
+-- the bits in which an array that holds a position's word differs from the received one are its residual
+pub count-is-residual : (C : Code) → Sound C → (w x : List ℕ) (position : ℕ) → HoldsWord C (wordAt C position) w → NothingSpare C x
+    → distance 320 (place w) (place x) ≡ residual C (place x) position
+unfolding NothingSpare residual
+count-is-residual C sound w x position holds spare =
+    let d = wordBits C in
+    distance-alike-after d 320 (place w) (place x) (word-bits-bound C sound)
+    (λ p past _. holds p ∙ cut-above d (wordAt C position) p past ∙ sym (spare p past))
+    ∙ distance-ext-left d (place x) (λ p b. holds p ∙ cut-below d (wordAt C position) p b)
+
+-- the array that holds w(0) holds the word of position 0
+pub first-word : (C : Code) → Sound C → (w : List ℕ) → HoldsWord C (word C 0) w → HoldsWord C (wordAt C 0) w
+first-word C sound w holds p =
+    holds p ∙ ap (λ (u : ℕ → ℕ). u p) (cut-ext (wordBits C) (word C 0) (wordAt C 0) (λ q l. sym (at-zero q)))
+  where
+    at-zero : (q : ℕ) → wordAt C 0 q ≡ word C 0 q
+    at-zero q = rw (start-zero C) at (word-at-start C (promise C sound) 0 (omega arith) q)
 
 module _ (C : Code) (i : ℕ) (u v w : List ℕ) (at : ℕ) (words : BlockWords C i u v) (room : at ≤ wordBits C)
     (splice : Spliced u v w at) where
