@@ -1,12 +1,16 @@
 -- The laws of sums over places: a sum is fixed by its values, adds up over parts of its range, and is additive; two sums whose
 -- values differ at one place differ by the difference there. Assumes nothing.
-use mathlib.Core.Path.{_≡_, refl}
+use mathlib.Core.Path.{_≡_, refl, ap, fun-ext}
 use mathlib.Core.Logic.{⊎-elim}
 use Prim.Native.Nat.{ℕ, zero, suc, _+_, _≤_, _<_}
-use native.Mathlib.Nat.{add-zero, add-suc, le-dest, eq-or-lt-of-le}
+use native.Mathlib.Nat.{zero-add, add-zero, add-suc, le-dest, eq-or-lt-of-le}
 use native.Mathlib.Numerals.{add-one}
 use native.Mathlib.Omega.{arith}
 use Rattle.bits.specs.Sums.{sumBelow, from}
+
+-- what starts at place 0 is the whole
+pub from-zero : (x : ℕ → ℕ) → from 0 x ≡ x
+from-zero x = fun-ext (λ p. ap x (zero-add p))
 
 -- two functions that agree below d have the same sum
 pub sum-ext : {f g : ℕ → ℕ} (d : ℕ) → ((p : ℕ) → p < d → f p ≡ g p) → sumBelow f d ≡ sumBelow g d

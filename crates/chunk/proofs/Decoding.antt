@@ -74,7 +74,7 @@ pub code-of-least : (b : List ℕ) → SoundCard b → (n k distance : ℕ) (row
 unfolding codeOf
 code-of-least b sound n k distance rows is-n is-k is-rows is-least =
     let tests = card-tests b sound in
-    let fit = narrow-rows b (tests .limits) (tests .rows-narrow) in
+    let fit = narrow-rows b (tests .limits) (tests .rows-within) in
     rw (is-n, is-k, is-rows, is-least fit, least-if-independent (lengthOf b) (rowCountOf b) (rowOf b) (tests .rows-independent))
 
 -- a refusal handed back alone

@@ -20,7 +20,7 @@ use Rattle.code_theory.specs.LeastDistance.{LeastDistance, codewordDista
 use Rattle.code_theory.specs.Promise.{Sound}
 use Rattle.code_theory.proofs.Gray.{gray-below, gray-positive, gray-injective, gray-onto}
 use Rattle.code_theory.proofs.Codewords.{rows-linear, rows-below, codeword-zero}
-use Rattle.code_theory.proofs.LeastWeight.{least-high, least-le, least-some, least-positive}
+use Rattle.code_theory.proofs.LeastWeight.{Attained, least-high, least-le, least-some, least-positive}
 
 module _ (C : Code) (S : Sound C) where
   -- the sum of the rows that g names
@@ -70,9 +70,7 @@ module _ (C : Code) (S : Sound C) where
           (λ (pos : 0 < i). (i, pos, le-ones (C .k) l, ap (weight (C .n)) same ∙ light))
           (eq-zero-or-pos i)
 
-      by-least : (leastWeight (C .n) rows (2 ^ C .k) ≡ C .n)
-          ⊎ ((g : ℕ) × (g < 2 ^ C .k) × (rows g ≡ 0 → ⊥) × (leastWeight (C .n) rows (2 ^ C .k) ≡ weight (C .n) (rows g)))
-          → Lightest
+      by-least : (leastWeight (C .n) rows (2 ^ C .k) ≡ C .n) ⊎ Attained (C .n) rows (2 ^ C .k) → Lightest
       by-least (inl e) =
           let two : 2 ^ 1 ≤ 2 ^ C .k = pow-mono (S .k-low) in
           let one : 1 ≤ lastCodeword C = omega arith in

@@ -90,14 +90,14 @@ test-of-independent k row independent =
 
 -- ---- a sound card
 
--- what refusals 1 to 5 test, as facts of a card of which none holds
+-- what refusals 1 to 5 test, each as a fact of a card of which none holds
 pub record CardTests (b : List ℕ) : Type 0 where
   pub size : length b ≡ 512
   pub check : storedCheck b ≡ computedCheck b
   pub limits : withinLimits (lengthOf b) (rowCountOf b) ≡ true
-  pub rows-narrow : rowTooWide (lengthOf b) (rowOf b) ≡ false
-  pub rows-unused : unusedRowSet (rowCountOf b) (rowOf b) ≡ false
-  pub bytes-unused : unusedByteSet b ≡ false
+  pub rows-within : rowTooWide (lengthOf b) (rowOf b) ≡ false
+  pub unused-rows-zero : unusedRowSet (rowCountOf b) (rowOf b) ≡ false
+  pub unused-bytes-zero : unusedByteSet b ≡ false
   pub rows-independent : dependent (rowCountOf b) (rowOf b) ≡ false
 
 pub card-tests : (b : List ℕ) → SoundCard b → CardTests b
@@ -112,9 +112,9 @@ card-tests b e =
       size = eqb-true _ _ (not-false _ (none .0));
       check = eqb-true _ _ (not-false _ (none .1));
       limits = not-false _ (none .2);
-      rows-narrow = or-false-left wide unused (or-false-left (wide || unused) (unusedByteSet b) (none .3));
-      rows-unused = or-false-right wide unused (or-false-left (wide || unused) (unusedByteSet b) (none .3));
-      bytes-unused = or-false-right (wide || unused) (unusedByteSet b) (none .3);
+      rows-within = or-false-left wide unused (or-false-left (wide || unused) (unusedByteSet b) (none .3));
+      unused-rows-zero = or-false-right wide unused (or-false-left (wide || unused) (unusedByteSet b) (none .3));
+      unused-bytes-zero = or-false-right (wide || unused) (unusedByteSet b) (none .3);
       rows-independent = none .4;
     }
 
@@ -129,8 +129,8 @@ sound-card b e =
       k-low = within .2;
       k-high = within .3;
       k-n = within .4;
-      narrow = narrow-of-test (lengthOf b) (rowOf b) (tests .rows-narrow);
-      unused = unused-of-test (rowCountOf b) (rowOf b) (tests .rows-unused);
+      narrow = narrow-of-test (lengthOf b) (rowOf b) (tests .rows-within);
+      unused = unused-of-test (rowCountOf b) (rowOf b) (tests .unused-rows-zero);
       independent = independent-of-test (rowCountOf b) (rowOf b) (tests .rows-independent);
       least = refl;
     }

@@ -19,7 +19,7 @@ use Rattle.code_theory.proofs.Codewords.{changed-row, changed-row-below
 use Rattle.code_theory.proofs.LeastDistance.{D-high}
 
 -- how often row z has been added on the way to c(i)
-abbrev times : ℕ → ℕ → ℕ
+abbrev pub times : ℕ → ℕ → ℕ
 times z i = (i + 2 ^ z) / 2 ^ (z + 1)
 
 times-half : (z i : ℕ) → times (suc z) i ≡ times z (i / 2)

@@ -9,7 +9,8 @@ use Rattle.model.specs.declared.Chunk.{Chunk}
 use Rattle.model.specs.declared.Chunk.the-variants.{Codeword}
 use Rattle.code_theory.specs.LeastDistance.{codewordDistance}
 
--- a code that a sound card gives: within the card's limits, no row wider than n, unused rows zero, rows independent, D the least weight
+-- a code that a sound card gives, all that the card's refusals leave: within the limits, no row wider than n, unused rows zero, rows
+-- independent, and D the least weight
 pub record Sound (C : Code) : Type 0 where
   pub n-low : 1 ≤ C .n
   pub n-high : C .n ≤ 64

@@ -13,7 +13,6 @@ pub mod Splicing
 pub mod FirstPosition
 pub mod RuleRanges
 pub mod ReadChunks
-pub mod SeparatorRules
 pub mod SpareBits
 pub mod ReadRefusals
 pub mod DecodedCard

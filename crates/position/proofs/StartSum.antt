@@ -12,21 +12,21 @@ use Rattle.bits.proofs.Sums.{sum-longer, sum-more}
 use Rattle.model.specs.Card.{Code}
 use Rattle.model.specs.Order.{lastCodeword, start}
 use Rattle.code_theory.specs.Promise.{Sound}
-use Rattle.code_theory.proofs.Starts.{start-bound, last-codeword-bound}
+use Rattle.code_theory.proofs.Starts.{times, start-bound, last-codeword-bound}
 
 -- row z is added for the first time at codeword 2^z, and again each 2^(z+1) codewords
 module _ (i z : ℕ) where
-  pub not-added : i < 2 ^ z → 0 ≡ (i + 2 ^ z) / 2 ^ (z + 1)
+  pub not-added : i < 2 ^ z → 0 ≡ times z i
   not-added before = rw (add-one z) (sym (div-eq-of-lt (omega arith)))
 
-  pub added-again : 2 ^ z ≤ i → (i - 2 ^ z) / 2 ^ (z + 1) + 1 ≡ (i + 2 ^ z) / 2 ^ (z + 1)
+  pub added-again : 2 ^ z ≤ i → (i - 2 ^ z) / 2 ^ (z + 1) + 1 ≡ times z i
   added-again since =
       let once-more : i + 2 ^ z ≡ i - 2 ^ z + 1 * 2 ^ (z + 1) = rw (add-one z) (omega arith) in
       rw once-more (sym (add-mul-div-right (i - 2 ^ z) 1 (pow-pos (z + 1))))
 
 -- what row z adds to the start of block i, apart from the factor 2
 abbrev pub rowPart : Code → ℕ → ℕ → ℕ
-rowPart C i z = weight (C .n) (C .row z) * ((i + 2 ^ z) / 2 ^ (z + 1))
+rowPart C i z = weight (C .n) (C .row z) * times z i
 
 -- the start of block i as far as the rows below z go
 unfoldable pub startUpTo : Code → ℕ → ℕ → ℕ

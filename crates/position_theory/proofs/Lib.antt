@@ -4,6 +4,7 @@ pub mod Blocks
 pub mod Isometry
 pub mod Allowed
 pub mod WholeChunks
+pub mod Separators
 pub mod TrueAllowed
 pub mod Nearest
 pub mod BoundedError

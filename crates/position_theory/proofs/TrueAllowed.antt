@@ -13,9 +13,10 @@ use Rattle.bits.proofs.Numbers.{lt-or-le, eq-or-ne, by-test}
 use Rattle.model.specs.Card.{Code}
 use Rattle.model.specs.Order.{lastCodeword, changedWeight, blockLength, start, lastPosition}
 use Rattle.model.specs.Reading.{majority, chunk₁, separator₂, chunk₂, separator₃}
-use Rattle.model.specs.Reading.{ruleOf, rule₁, rule₂, rule₃, allowedBy, ruleNamed, allowed}
+use Rattle.model.specs.Reading.{rule₁, rule₂, rule₃, allowedBy, allowed}
 use Rattle.code_theory.specs.Promise.{ChunkPromise}
 use Rattle.position_theory.proofs.Allowed.{Allows, start-on-track}
+use Rattle.position_theory.proofs.Separators.{SeparatorsRead, names-rule₁, names-rule₂, names-rule₃}
 use Rattle.position_theory.proofs.WholeChunks.{ReadsAs, WholeChunksRead}
 
 -- a separator reads 0 or 1
@@ -23,49 +24,44 @@ majority-bit : (D : ℕ) (y : ℕ → ℕ) → majority D y < 2
 unfolding majority
 majority-bit D y = by-test (λ b. b < 2) (ltb D (2 * sumBelow y D)) (λ _. omega arith) (λ _. omega arith)
 
--- the three separators of the received word x read s₁, s₂ and s₃
-abbrev Separators : Code → (ℕ → ℕ) → (s₁ s₂ s₃ : ℕ) → Type 0
-Separators C x s₁ s₂ s₃ =
-    (majority (C .D) x ≡ s₁) × (majority (C .D) (separator₂ C x) ≡ s₂) × (majority (C .D) (separator₃ C x) ≡ s₃)
-
 -- what each rule allows
 module _ (C : Code) (x : ℕ → ℕ) (b c p position : ℕ) where
-  by-rule₁ : Separators C x b b c → (b ≡ c → ⊥) → ReadsAs C (chunk₁ C x) (p + 1)
+  by-rule₁ : SeparatorsRead C x b b c → (b ≡ c → ⊥) → ReadsAs C (chunk₁ C x) (p + 1)
       → start C p + C .D + changedWeight C p ≤ position → position ≤ start C (p + 1) → Allows C x position
-  unfolding allowed ruleNamed ruleOf allowedBy rule₁ ReadsAs
+  unfolding allowed allowedBy rule₁ ReadsAs
   by-rule₁ s ne r low high =
       record {
         rule = 1;
         low = start C p + C .D + changedWeight C p;
         high = start C (p + 1);
-        is = simp (s .0, s .1, s .2, eq-eqb b b refl, ne-eqb b c ne, r .1, ne-eqb (p + 1) 0 (omega arith), add-sub-cancel);
+        is = simp (names-rule₁ s refl ne, r .1, ne-eqb (p + 1) 0 (omega arith), add-sub-cancel);
         from-low = low;
         to-high = high;
       }
 
-  by-rule₂ : Separators C x b c c → (b ≡ c → ⊥) → ReadsAs C (chunk₂ C x) p → p < lastCodeword C
+  by-rule₂ : SeparatorsRead C x b c c → (b ≡ c → ⊥) → ReadsAs C (chunk₂ C x) p → p < lastCodeword C
       → start C p ≤ position → position ≤ start C p + 2 * C .D + changedWeight C p → Allows C x position
-  unfolding allowed ruleNamed ruleOf allowedBy rule₂ ReadsAs
+  unfolding allowed allowedBy rule₂ ReadsAs
   by-rule₂ s ne r inside low high =
       record {
         rule = 2;
         low = start C p;
         high = start C p + 2 * C .D + changedWeight C p;
-        is = simp (s .0, s .1, s .2, eq-eqb c c refl, ne-eqb b c ne, r .1, ne-eqb p (lastCodeword C) (omega arith));
+        is = simp (names-rule₂ s ne refl, r .1, ne-eqb p (lastCodeword C) (omega arith));
         from-low = low;
         to-high = high;
       }
 
 module _ (C : Code) (x : ℕ → ℕ) (b p position : ℕ) where
-  by-rule₃ : Separators C x b b b → ReadsAs C (chunk₁ C x) p → ReadsAs C (chunk₂ C x) p
+  by-rule₃ : SeparatorsRead C x b b b → ReadsAs C (chunk₁ C x) p → ReadsAs C (chunk₂ C x) p
       → start C p ≤ position + C .D → position ≤ start C p + C .D → position ≤ lastPosition C → Allows C x position
-  unfolding allowed ruleNamed ruleOf allowedBy rule₃ ReadsAs
+  unfolding allowed allowedBy rule₃ ReadsAs
   by-rule₃ s r r′ low high on-track =
       record {
         rule = 3;
         low = start C p - C .D;
         high = min (start C p + C .D) (lastPosition C);
-        is = simp (s .0, s .1, s .2, eq-eqb b b refl, r .1, r′ .1, eq-eqb p p refl);
+        is = simp (names-rule₃ s refl refl, r .1, r′ .1, eq-eqb p p refl);
         from-low = omega arith;
         to-high = omega arith;
       }
@@ -75,7 +71,7 @@ pub start-allowed : (C : Code) (promise : ChunkPromise C) (x : ℕ → ℕ) (i :
     → Allows C x (start C i)
 start-allowed C promise x i h w =
     by-rule₃ C x (i % 2) i (start C i)
-    (w .separator₁-old refl, w .separator₂-old (omega arith), w .separator₃-old (omega arith))
+    (record { first = w .separator₁-old refl; second = w .separator₂-old (omega arith); third = w .separator₃-old (omega arith) })
     (w .chunk₁-old (omega arith)) (w .chunk₂-old (omega arith)) (omega arith) (omega arith) (start-on-track C promise i h)
 
 -- m steps into a block that is not the last, by which chunk is divided there
@@ -98,24 +94,24 @@ module _ (C : Code) (promise : ChunkPromise C) (x : ℕ → ℕ) (i m : ℕ) (in
   -- rule 3 around the start, rule 2, rule 1, and rule 3 around the end
   around-start : majority (C .D) x ≡ i % 2 → m < C .D → Allows C x (start C i + m)
   around-start s₁ h =
-      by-rule₃ C x (i % 2) i _ (s₁, w .separator₂-old (omega arith), w .separator₃-old (omega arith))
+      by-rule₃ C x (i % 2) i _ (record { first = s₁; second = w .separator₂-old (omega arith); third = w .separator₃-old (omega arith) })
       (w .chunk₁-old (omega arith)) (w .chunk₂-old (omega arith)) (omega arith) (omega arith) on-track
 
   first-part : majority (C .D) x ≡ (i + 1) % 2 → majority (C .D) (separator₂ C x) ≡ i % 2
       → m < 2 * C .D + changedWeight C i → Allows C x (start C i + m)
   first-part s₁ s₂ h =
-      by-rule₂ C x _ _ i _ (s₁, s₂, w .separator₃-old (omega arith)) parities-differ (w .chunk₂-old (omega arith)) inside
+      by-rule₂ C x _ _ i _ (record { first = s₁; second = s₂; third = w .separator₃-old (omega arith) }) parities-differ (w .chunk₂-old (omega arith)) inside
       (omega arith) (omega arith)
 
   last-part : majority (C .D) (separator₂ C x) ≡ (i + 1) % 2 → majority (C .D) (separator₃ C x) ≡ i % 2
       → C .D + changedWeight C i ≤ m → Allows C x (start C i + m)
   last-part s₂ s₃ l =
-      by-rule₁ C x _ _ i _ (w .separator₁-new (omega arith), s₂, s₃) parities-differ (w .chunk₁-new l)
+      by-rule₁ C x _ _ i _ (record { first = w .separator₁-new (omega arith); second = s₂; third = s₃ }) parities-differ (w .chunk₁-new l)
       (omega arith) (omega (arith, promise .start-next i inside))
 
   around-end : majority (C .D) (separator₃ C x) ≡ (i + 1) % 2 → 2 * C .D + 2 * changedWeight C i ≤ m → Allows C x (start C i + m)
   around-end s₃ l =
-      by-rule₃ C x ((i + 1) % 2) (i + 1) _ (w .separator₁-new (omega arith), w .separator₂-new (omega arith), s₃)
+      by-rule₃ C x ((i + 1) % 2) (i + 1) _ (record { first = w .separator₁-new (omega arith); second = w .separator₂-new (omega arith); third = s₃ })
       (w .chunk₁-new (omega arith)) (w .chunk₂-new l)
       (omega (arith, promise .start-next i inside)) (omega (arith, promise .start-next i inside)) on-track
 
