@@ -82,7 +82,7 @@ pub fn nearest_after(code: DecodedCode, x: [u8; 40], p: u32) -> ReadAnswer
 }
 
 // The search from D steps before r(p), or from 0, to r(p): separator 3 of the block before changes.
-fn approach(code: DecodedCode, x: [u8; 40], p: u32) -> Scan
+fn search_before_start(code: DecodedCode, x: [u8; 40], p: u32) -> Scan
     requires { ⌜ Sound (meaning code) × NothingSpare (meaning code) x × (p ≤ lastCodeword (meaning code)) ⌝ }
     ensures { λ r. ⌜ (r .low ≡ start (meaning code) p - code .distance) × (r .position ≡ start (meaning code) p) × Scanned (residual (meaning code) (place x)) r ⌝ }
 {
@@ -94,7 +94,7 @@ fn approach(code: DecodedCode, x: [u8; 40], p: u32) -> Scan
 }
 
 // The search on from r(p), through D steps after it: separator 1 of block p changes.
-fn go_on(code: DecodedCode, x: [u8; 40], p: u32, s: Scan) -> Scan
+fn search_after_start(code: DecodedCode, x: [u8; 40], p: u32, s: Scan) -> Scan
     requires { ⌜ Sound (meaning code) × (p < lastCodeword (meaning code)) × (s .position ≡ start (meaning code) p) × Scanned (residual (meaning code) (place x)) s ⌝ }
     ensures { λ r. ⌜ (r .low ≡ s .low) × (r .position ≡ start (meaning code) p + code .distance) × Scanned (residual (meaning code) (place x)) r ⌝ }
 {
@@ -108,9 +108,9 @@ pub fn nearest_around(code: DecodedCode, x: [u8; 40], p: u32) -> ReadAnswer
     requires { ⌜ Sound (meaning code) × NothingSpare (meaning code) x × (p ≤ lastCodeword (meaning code)) ⌝ }
     ensures { λ r. ⌜ r ≡ nearest (meaning code) (place x) (range₃ (meaning code) p) ⌝ }
 {
-    let before = approach(code, x, p);
+    let before = search_before_start(code, x, p);
     if p == blocks::last_codeword(code) {
         return found(before, 3);
     }
-    found(go_on(code, x, p, before), 3)
+    found(search_after_start(code, x, p, before), 3)
 }

@@ -26,7 +26,8 @@ pub fn low_bits(n: u32) -> u64
     u64::MAX >> (64 - n)
 }
 
-// The bits of a byte from bit q on, moved up to bit `to` of a number.
+// The bits of a byte from bit q on, moved up to bit `to` of a number. The contract also says of the byte what its type does, for a
+// caller that has it from an array.
 fn moved_to(byte: u8, q: u32, to: u32) -> u64
     requires { ⌜ (q < 8) × (to < 64) ⌝ }
     ensures { λ r. ⌜ (r ≡ byte / 2 ^ q * 2 ^ to % 2 ^ 64) × (byte < 2 ^ 8) ⌝ }
@@ -34,8 +35,8 @@ fn moved_to(byte: u8, q: u32, to: u32) -> u64
     ((byte >> q) as u64) << to
 }
 
-// The n bits from place `at` on as a number: a code chunk, say. Each turn takes the rest of a byte.
-pub fn chunk_at(w: &[u8; 40], at: u32, n: u32) -> u64
+// The n bits from place `at` on as a number. Each turn takes the rest of a byte.
+pub fn bits_at(w: &[u8; 40], at: u32, n: u32) -> u64
     requires { ⌜ (at + n ≤ 320) × (n ≤ 64) ⌝ }
     ensures { λ r. ⌜ (r < 2 ^ n) × ((p : ℕ) → p < n → bit r p ≡ place (now (w .entry)) (at + p)) ⌝ }
 {
@@ -51,11 +52,11 @@ pub fn chunk_at(w: &[u8; 40], at: u32, n: u32) -> u64
 }
 
 // How many of the `len` bits from place `at` on are 1.
-pub fn ones_between(w: &[u8; 40], at: u32, len: u32) -> u32
+pub fn ones_from(w: &[u8; 40], at: u32, len: u32) -> u32
     requires { ⌜ (at + len ≤ 320) × (len ≤ 64) ⌝ }
     ensures { λ r. ⌜ (r ≡ sumBelow (from at (place (now (w .entry)))) len) × (r ≤ len) ⌝ }
 {
-    u64::count_ones(chunk_at(w, at, len))
+    u64::count_ones(bits_at(w, at, len))
 }
 
 // What the separator of `distance` bits from place `at` on reads: 1 if more than half its bits are 1, else 0.
@@ -63,7 +64,7 @@ pub fn separator_at(w: &[u8; 40], at: u32, distance: u32) -> u32
     requires { ⌜ (at + distance ≤ 320) × (distance ≤ 64) ⌝ }
     ensures { λ r. ⌜ r ≡ majority distance (from at (place (now (w .entry)))) ⌝ }
 {
-    if distance < 2 * ones_between(w, at, distance) {
+    if distance < 2 * ones_from(w, at, distance) {
         1
     } else {
         0

@@ -25,7 +25,7 @@ fn chunk_reading(code: DecodedCode, x: [u8; 40], at: u32) -> Chunk
     requires { ⌜ Sound (meaning code) × (at + code .n ≤ wordBits (meaning code)) ⌝ }
     ensures { λ r. ⌜ r ≡ chunkReading (meaning code) (from at (place x)) ⌝ }
 {
-    search::read_chunk(code, places::chunk_at(&x, at, code.n))
+    search::read_chunk(code, places::bits_at(&x, at, code.n))
 }
 
 // What rule 1 answers: it reads chunk 1.
@@ -135,10 +135,7 @@ pub fn read(code: DecodedCode, word: &[u8]) -> ReadAnswer
     let x = words::received(word);
     let bits = layout::layout_of(code).bits;
     let rule = named_rule(code, x);
-    let spare = refusal::refusal_if(
-        places::ones_between(&x, bits, 8 * len as u32 - bits) != 0,
-        8,
-    );
+    let spare = refusal::refusal_if(places::ones_from(&x, bits, 8 * len as u32 - bits) != 0, 8);
     let unnamed = refusal::refusal_if(rule == 0, 9);
     let refusal = refusal::first_of(spare, unnamed);
     if refusal != 0 {

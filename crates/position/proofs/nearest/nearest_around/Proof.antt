@@ -9,8 +9,8 @@ use borrow.Author.Needs.{needs}
 use Rattle.position.proofs.nearest.nearest_around.Statement.{statement}
 use Rattle.position.proofs.nearest.nearest_around.Tie as tie
 
-approach-requires : tie.Need-approach-requires
-approach-requires c κs = search needs
+search-before-start-requires : tie.Need-search-before-start-requires
+search-before-start-requires c κs = search needs
 
 last-codeword-requires : tie.Need-last-codeword-requires
 last-codeword-requires c κs = search needs
@@ -22,13 +22,13 @@ returns : tie.Need-returns
 returns c =
     let first = c .before .before .before .before in
     let C = meaning (first .args .code) in
-    let search = c .before .before .before .approach .ensures in
+    let search = c .before .before .before .search-before-start .ensures in
     c .found .ensures
     ∙ answer-of-search C _ 3 _ _ _ (search .2) (search .0)
     (search .1 ∙ track-ends C (first .args .p) (c .before .if1 .taken ∙ c .before .before .last-codeword .ensures))
 
-go-on-requires : tie.Need-go-on-requires
-go-on-requires c κs = search needs
+search-after-start-requires : tie.Need-search-after-start-requires
+search-after-start-requires c κs = search needs
 
 found-requires-2 : tie.Need-found-requires-2
 found-requires-2 c κs = search needs
@@ -37,8 +37,8 @@ returns-2 : tie.Need-returns-2
 returns-2 c =
     let first = c .before .before .before .before .before in
     let C = meaning (first .args .code) in
-    let before = c .before .before .before .before .approach .ensures in
-    let search = c .before .go-on .ensures in
+    let before = c .before .before .before .before .search-before-start .ensures in
+    let search = c .before .search-after-start .ensures in
     c .found2 .ensures
     ∙ answer-of-search C _ 3 _ _ _ (search .2) (search .0 ∙ before .0)
     (search .1 ∙ track-goes-on C (first .pre .0) (first .args .p) (omega arith))
@@ -47,10 +47,10 @@ pub nearest-around-spec : {M : Type 1} → statement M
 nearest-around-spec =
     tie.close
     (tie.spec
-    approach-requires
+    search-before-start-requires
     last-codeword-requires
     found-requires
     returns
-    go-on-requires
+    search-after-start-requires
     found-requires-2
     returns-2)

@@ -5,19 +5,19 @@ use borrow.Author.Needs.{needs}
 use Rattle.position.proofs.places.separator_at.Statement.{statement}
 use Rattle.position.proofs.places.separator_at.Tie as tie
 
-ones-between-requires : tie.Need-ones-between-requires
-ones-between-requires c κs = search needs
+ones-from-requires : tie.Need-ones-from-requires
+ones-from-requires c κs = search needs
 
 mul-if1 : tie.Need-mul-if1
 mul-if1 c = search needs
 
 returns : tie.Need-returns
 unfolding majority
-returns c = rw (← (c .before .ones-between .ensures .0), lt-ltb _ _ (c .if1 .taken))
+returns c = rw (← (c .before .ones-from .ensures .0), lt-ltb _ _ (c .if1 .taken))
 
 returns-2 : tie.Need-returns-2
 unfolding majority
-returns-2 c = rw (← (c .before .ones-between .ensures .0), le-ltb _ _ (c .if1 .left))
+returns-2 c = rw (← (c .before .ones-from .ensures .0), le-ltb _ _ (c .if1 .left))
 
 pub separator-at-spec : {M : Type 1} → statement M
-separator-at-spec = tie.close (tie.spec ones-between-requires mul-if1 returns returns-2)
+separator-at-spec = tie.close (tie.spec ones-from-requires mul-if1 returns returns-2)

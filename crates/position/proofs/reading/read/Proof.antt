@@ -35,18 +35,18 @@ rule : (c : tie.After-named-rule)
 rule c = c .named-rule .ensures .0 ∙ ap (ruleNamed _) (held (c .before .before))
 
 -- the count of ones is that of the spare bits
-spare-ones : (c : tie.After-ones-between)
+spare-ones : (c : tie.After-ones-from)
     → let got = c .before .before .before .before in
     let C = meaning (got .before .before .before .before .args .code) in
-    c .ones-between .result ≡ sumBelow (from (wordBits C) (place (got .received .result))) (8 * wordLength C - wordBits C)
+    c .ones-from .result ≡ sumBelow (from (wordBits C) (place (got .received .result))) (8 * wordLength C - wordBits C)
 spare-ones c =
     let laid = c .before .before .before in
     let sized = laid .before .before .before in
-    rw (laid .layout-of .ensures .bits-are, sized .word-length .ensures .0) at (c .ones-between .ensures .0)
+    rw (laid .layout-of .ensures .bits-are, sized .word-length .ensures .0) at (c .ones-from .ensures .0)
 
 -- the way back: from the first of refusals 8 and 9 to the count of ones, the rule, the array, and the call
 module _ (c : tie.After-first-of) where
-  abbrev counted : tie.After-ones-between
+  abbrev counted : tie.After-ones-from
   counted = c .before .before .before
 
   abbrev named : tie.After-named-rule
@@ -72,7 +72,7 @@ module _ (c : tie.After-first-of) where
   refused-first =
       let spare = spare-test C received (got .received .result) (got .received .ensures) _ (spare-ones counted) in
       tested-by C received (c .first-of .result) (c .before .before .refusal-if .result) (c .before .refusal-if2 .result)
-      (counted .ones-between .result) (named .named-rule .result) (c .first-of .ensures)
+      (counted .ones-from .result) (named .named-rule .result) (c .first-of .ensures)
       (c .before .before .refusal-if .ensures) (c .before .refusal-if2 .ensures) spare (rule named)
 
 layout-of-requires : tie.Need-layout-of-requires
@@ -81,8 +81,8 @@ layout-of-requires c κs = search needs
 word-length-requires : tie.Need-word-length-requires
 word-length-requires c κs = search needs
 
-cast-ones-between : tie.Need-cast-ones-between
-cast-ones-between c = search needs
+cast-ones-from : tie.Need-cast-ones-from
+cast-ones-from c = search needs
 
 returns : tie.Need-returns
 unfolding readWord
@@ -96,14 +96,14 @@ received-requires c κs = search needs
 named-rule-requires : tie.Need-named-rule-requires
 named-rule-requires c κs = search needs
 
-mul-ones-between : tie.Need-mul-ones-between
-mul-ones-between c = search needs
+mul-ones-from : tie.Need-mul-ones-from
+mul-ones-from c = search needs
 
-sub-ones-between : tie.Need-sub-ones-between
-sub-ones-between c = search needs
+sub-ones-from : tie.Need-sub-ones-from
+sub-ones-from c = search needs
 
-ones-between-requires : tie.Need-ones-between-requires
-ones-between-requires c κs = search needs
+ones-from-requires : tie.Need-ones-from-requires
+ones-from-requires c κs = search needs
 
 refusal-if-requires : tie.Need-refusal-if-requires
 refusal-if-requires c κs = search needs
@@ -153,10 +153,10 @@ read-spec =
     received-requires
     layout-of-requires
     named-rule-requires
-    cast-ones-between
-    mul-ones-between
-    sub-ones-between
-    ones-between-requires
+    cast-ones-from
+    mul-ones-from
+    sub-ones-from
+    ones-from-requires
     refusal-if-requires
     refusal-if-requires-2
     first-of-requires

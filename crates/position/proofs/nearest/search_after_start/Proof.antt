@@ -1,4 +1,4 @@
--- `position::nearest::go_on` meets its contract: separator 1 of block p. Assumes nothing.
+-- `position::nearest::search_after_start` meets its contract: separator 1 of block p. Assumes nothing.
 use Rattle.model.specs.Decoded.{meaning}
 use Rattle.code_theory.proofs.Starts.{last-codeword-bound}
 use Rattle.position.specs.SearchReady.{BlockWords, PassedPlaces, Passes}
@@ -6,8 +6,8 @@ use Rattle.position.proofs.Passing.{block-words, passed-none}
 use Rattle.position.proofs.RuleRanges.{past-separator₁}
 use native.Mathlib.Omega.{arith}
 use borrow.Author.Needs.{needs}
-use Rattle.position.proofs.nearest.go_on.Statement.{statement}
-use Rattle.position.proofs.nearest.go_on.Tie as tie
+use Rattle.position.proofs.nearest.search_after_start.Statement.{statement}
+use Rattle.position.proofs.nearest.search_after_start.Tie as tie
 
 word-of-requires : tie.Need-word-of-requires
 word-of-requires c κs = search needs
@@ -54,7 +54,7 @@ returns c =
     let end = past-separator₁ C (first .pre .0) (first .args .p) (first .pre .1) _ (c .pass-places .result) passed in
     (c .pass-places .ensures .0, end, passed .scanned)
 
-pub go-on-spec : {M : Type 1} → statement M
-go-on-spec =
+pub search-after-start-spec : {M : Type 1} → statement M
+search-after-start-spec =
     tie.close
     (tie.spec word-of-requires add-word-of word-of-requires-2 pass-places-requires returns)

@@ -1,4 +1,4 @@
--- `position::places::chunk_at` meets its contract. The loop keeps that the bits of `value` are the first `p` places from `at` on; a
+-- `position::places::bits_at` meets its contract. The loop keeps that the bits of `value` are the first `p` places from `at` on; a
 -- turn takes the rest of a byte, so `p` may come past n, and what is too much is cut off at the end. The measure is the bits that
 -- are left. Assumes nothing.
 use Prim.Native.Nat.{_+_, _-_, _≤_}
@@ -7,8 +7,8 @@ use borrow.Author.Needs.{needs}
 use Rattle.bits.specs.Sums.{from}
 use Rattle.bits.specs.Places.{place}
 use Rattle.position.proofs.GatheredBits.{Gathered, none-gathered, places-gathered, gathered-cut}
-use Rattle.position.proofs.places.chunk_at.Statement.{statement}
-use Rattle.position.proofs.places.chunk_at.Tie as tie
+use Rattle.position.proofs.places.bits_at.Statement.{statement}
+use Rattle.position.proofs.places.bits_at.Tie as tie
 
 abbrev Inv-loop : tie.InvT-loop
 Inv-loop w at n value₀ p₀ value p = (p ≤ n + 8) × Gathered (from at (place w)) p value
@@ -57,8 +57,8 @@ returns c =
     let loop = c .before .before .loop in
     rw (c .low-bits .ensures) (gathered-cut _ (loop .p) (loop .value) _ (omega arith) (omega arith) (loop .inv .1))
 
-pub chunk-at-spec : {M : Type 1} → statement M
-chunk-at-spec =
+pub bits-at-spec : {M : Type 1} → statement M
+bits-at-spec =
     tie.close
     (tie.spec
     Inv-loop

@@ -1,4 +1,4 @@
--- `position::nearest::approach` meets its contract: at the first start there is nothing before, and at any other one separator
+-- `position::nearest::search_before_start` meets its contract: at the first start there is nothing before, and at any other one separator
 -- 3 of the block before. Assumes nothing.
 use mathlib.Core.Path.{_≡_, _∙_, sym}
 use Prim.Native.Nat.{_+_, _-_, _<_}
@@ -10,8 +10,8 @@ use Rattle.position.specs.Received.{Begun}
 use Rattle.position.proofs.RuleRanges.{at-next-start, before-next-start}
 use native.Mathlib.Omega.{arith}
 use borrow.Author.Needs.{needs}
-use Rattle.position.proofs.nearest.approach.Statement.{statement}
-use Rattle.position.proofs.nearest.approach.Tie as tie
+use Rattle.position.proofs.nearest.search_before_start.Statement.{statement}
+use Rattle.position.proofs.nearest.search_before_start.Tie as tie
 
 word-of-requires : tie.Need-word-of-requires
 word-of-requires c κs = search needs
@@ -52,8 +52,8 @@ returns-2 c =
     let end = at-next-start C (first .pre .0) i inside (first .args .x) (c .search-block .result) (rw (at .bits-are) at (search .1)) in
     (rw (← here) at low, rw (← here) at end, search .1 .scanned)
 
-pub approach-spec : {M : Type 1} → statement M
-approach-spec =
+pub search-before-start-spec : {M : Type 1} → statement M
+search-before-start-spec =
     tie.close
     (tie.spec
     word-of-requires
