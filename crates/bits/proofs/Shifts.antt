@@ -30,14 +30,14 @@ module _ (q : ℕ) where
   moved-down x p = rw (shr-shr x q p)
 
   -- cut to its q lowest places: those are the number's, and from q on they are 0
-  pub cut-kept : (x p : ℕ) → p < q → bit (x % 2 ^ q) p ≡ bit x p
-  cut-kept x p b =
+  pub remainder-kept : (x p : ℕ) → p < q → bit (x % 2 ^ q) p ≡ bit x p
+  remainder-kept x p b =
       let rest = le-dest b in
       let apart : q ≡ rest .0 + 1 + p = omega arith in
       rw (apart, field x (rest .0 + 1) p) (mod-mod-pow (x / 2 ^ p) (rest .0) 1)
 
-  pub cut-off : (x p : ℕ) → q ≤ p → bit (x % 2 ^ q) p ≡ 0
-  cut-off x p b = bit-high (x % 2 ^ q) q p (mod-lt x (pow-pos q)) b
+  pub remainder-above : (x p : ℕ) → q ≤ p → bit (x % 2 ^ q) p ≡ 0
+  remainder-above x p b = bit-high (x % 2 ^ q) q p (mod-lt x (pow-pos q)) b
 
 -- each of the n bits of 2^n - 1 is 1
 pub bit-all-ones : (n p : ℕ) → p < n → bit (2 ^ n - 1) p ≡ 1

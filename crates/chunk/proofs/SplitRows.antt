@@ -7,7 +7,7 @@ use native.Mathlib.Omega.{arith}
 use lib.Bits.{bitXor, xor-zero-r}
 use Rattle.bits.specs.Places.{bit}
 use Rattle.bits.proofs.Binary.{xor-assoc}
-use Rattle.bits.proofs.Shifts.{moved-down, cut-kept}
+use Rattle.bits.proofs.Shifts.{moved-down, remainder-kept}
 use Rattle.model.specs.Card.{sumOfRows}
 
 -- sets that agree in the bits below k
@@ -26,7 +26,7 @@ pub rows-split : (row : ℕ → ℕ) (low high g : ℕ)
 unfolding sumOfRows
 rows-split row low zero g =
     rw (add-zero low, xor-zero-r (sumOfRows row low (g % 2 ^ low)))
-    (sums-alike row low g (g % 2 ^ low) (λ z l. sym (cut-kept low g z l)))
+    (sums-alike row low g (g % 2 ^ low) (λ z l. sym (remainder-kept low g z l)))
 rows-split row low (suc z) g =
     rw (add-suc low z, rows-split row low z g, moved-down low g z)
     (xor-assoc (sumOfRows row low (g % 2 ^ low)) (sumOfRows (behind low row) z (g / 2 ^ low)) (bit g (low + z) * row (low + z)))

@@ -13,7 +13,7 @@ use Rattle.bits.specs.Places.{bit, place, cut}
 use Rattle.bits.proofs.Binary.{bit-xor}
 use Rattle.bits.proofs.Numbers.{eq-or-ne}
 use Rattle.bits.proofs.Places.{place-set-here, place-set-elsewhere}
-use Rattle.bits.proofs.Shifts.{moved-below, moved-above, moved-down, cut-kept}
+use Rattle.bits.proofs.Shifts.{moved-below, moved-above, moved-down, remainder-kept}
 use Rattle.position.proofs.ChunkByChunk.{chunk-more, chunk-free}
 use Rattle.position.proofs.GatheredBits.{rest-of-byte}
 
@@ -21,7 +21,7 @@ use Rattle.position.proofs.GatheredBits.{rest-of-byte}
 module _ (w : List ℕ) (q value byte : ℕ) (inside : q / 8 < length w)
     (is : byte ≡ bitXor (getD w (q / 8) 0) (value * 2 ^ (q % 8) % 2 ^ 8)) where
   byte-bit : (r : ℕ) → r < 8 → bit byte r ≡ (bit (getD w (q / 8) 0) r + bit (value * 2 ^ (q % 8)) r) % 2
-  byte-bit r h = rw (is, bit-xor (getD w (q / 8) 0) (value * 2 ^ (q % 8) % 2 ^ 8) r, cut-kept 8 (value * 2 ^ (q % 8)) r h)
+  byte-bit r h = rw (is, bit-xor (getD w (q / 8) 0) (value * 2 ^ (q % 8) % 2 ^ 8) r, remainder-kept 8 (value * 2 ^ (q % 8)) r h)
 
   -- the places of the byte from q on are the value's bits
   filled-here : (k : ℕ) → q % 8 + k < 8 → place w (q + k) ≡ 0 → place (set w (q / 8) byte) (q + k) ≡ bit value k

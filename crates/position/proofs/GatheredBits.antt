@@ -13,7 +13,7 @@ use Rattle.bits.specs.Places.{bit, place, cut}
 use Rattle.bits.proofs.Binary.{bit-high, bit-xor, bit-zero}
 use Rattle.bits.proofs.Numbers.{lt-or-le}
 use Rattle.bits.proofs.Places.{cut-below, cut-above, places-of-byte}
-use Rattle.bits.proofs.Shifts.{moved-below, moved-above, moved-down, cut-kept}
+use Rattle.bits.proofs.Shifts.{moved-below, moved-above, moved-down, remainder-kept}
 
 -- the places from q on, as far as its byte goes, are the bits of the byte from bit q % 8 on
 pub rest-of-byte : (w : List ℕ) (q k : ℕ) → q % 8 + k < 8 → place w (q + k) ≡ bit (getD w (q / 8) 0) (q % 8 + k)
@@ -33,7 +33,7 @@ byte-gathered : (x : ℕ → ℕ) (p value byte q : ℕ) → q < 8 → byte < 2 
     → Gathered x (p + (8 - q)) (bitXor value (byte / 2 ^ q * 2 ^ p % 2 ^ 64))
 byte-gathered x p value byte q eight narrow so-far next k h =
     bit-xor value (byte / 2 ^ q * 2 ^ p % 2 ^ 64) k
-    ∙ rw (cut-kept 64 (byte / 2 ^ q * 2 ^ p) k h, so-far k h)
+    ∙ rw (remainder-kept 64 (byte / 2 ^ q * 2 ^ p) k h, so-far k h)
     (⊎-elim
     (λ (l : k < p).
     rw (moved-below p (byte / 2 ^ q) k l, cut-below (p + (8 - q)) x k (omega arith), ← (cut-below p x k l), ← (so-far k h))
@@ -65,5 +65,5 @@ pub gathered-cut : (x : ℕ → ℕ) (p value n : ℕ) → n ≤ 64 → n ≤ p 
     → (bitAnd value (2 ^ n - 1) < 2 ^ n) × ((k : ℕ) → k < n → bit (bitAnd value (2 ^ n - 1)) k ≡ x k)
 gathered-cut x p value n h done all = (
   mask-lt value n,
-  λ k l. rw (and-mask value n, cut-kept n value k l) (all k (omega arith) ∙ cut-below p x k (omega arith)),
+  λ k l. rw (and-mask value n, remainder-kept n value k l) (all k (omega arith) ∙ cut-below p x k (omega arith)),
 )

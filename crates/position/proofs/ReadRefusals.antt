@@ -17,7 +17,7 @@ use Rattle.model.specs.Reading.{ruleNamed, allowedBy, allowed, nearest, reading
 use Rattle.model.specs.declared.ReadAnswer.the-variants.{Refused}
 use Rattle.chunk.specs.FirstRefusal.{refusalIf, firstOf}
 use Rattle.chunk.proofs.FirstRefusal.{none-by-tests}
-use Rattle.position_theory.proofs.BoundedError.{read-word}
+use Rattle.position_theory.proofs.WordBytes.{read-if-whole}
 
 module _ (C : Code) (received : List ℕ) where
   -- the first of the two, by the tests on this word
@@ -57,4 +57,4 @@ module _ (C : Code) (received : List ℕ) (whole : length received ≡ wordLengt
   pub read-by-rule : spareSet C received ≡ false
       → nearest C (place received) (allowedBy C (place received) (ruleNamed C (place received))) ≡ readWord C received
   unfolding reading allowed
-  read-by-rule none = sym (read-word C received whole none)
+  read-by-rule none = sym (read-if-whole C received whole none)

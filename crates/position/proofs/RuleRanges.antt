@@ -15,7 +15,7 @@ use Rattle.model.specs.declared.ReadAnswer.the-variants.{At}
 use Rattle.code_theory.specs.Promise.{Sound}
 use Rattle.code_theory.proofs.Promise.{promise}
 use Rattle.position_theory.proofs.Words.{apart, apart-separator₁, apart-chunk₁, apart-separator₂, apart-chunk₂}
-use Rattle.position_theory.proofs.Allowed.{start-on-track}
+use Rattle.position_theory.proofs.Blocks.{start-on-track}
 use Rattle.position.specs.declared.scan.Scan.{Scan}
 use Rattle.position.specs.SearchReady.{PassedPlaces}
 use Rattle.position.proofs.Scanning.{answer-of-search}

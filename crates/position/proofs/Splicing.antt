@@ -16,7 +16,7 @@ use Rattle.bits.specs.Places.{bit, place}
 use Rattle.bits.proofs.Numbers.{lt-or-le, eq-or-ne}
 use Rattle.bits.proofs.Binary.{bit-xor}
 use Rattle.bits.proofs.Places.{place-set-here, place-set-elsewhere}
-use Rattle.bits.proofs.Shifts.{moved-below, moved-above, moved-down, cut-kept, cut-off}
+use Rattle.bits.proofs.Shifts.{moved-below, moved-above, moved-down, remainder-kept, remainder-above}
 use Rattle.position.specs.Spliced.{Spliced}
 
 -- ---- bytes
@@ -29,14 +29,14 @@ module _ (q : ℕ) where
   mixed-bits x y p =
       ⊎-elim
       (λ (b : p < q).
-      rw (mixed-is x y, bit-xor (y / 2 ^ q * 2 ^ q) (x % 2 ^ q) p, moved-below q (y / 2 ^ q) p b, cut-kept q x p b, lt-ltb p q b)
+      rw (mixed-is x y, bit-xor (y / 2 ^ q * 2 ^ q) (x % 2 ^ q) p, moved-below q (y / 2 ^ q) p b, remainder-kept q x p b, lt-ltb p q b)
       (omega arith))
       (λ (b : q ≤ p).
       let rest = le-dest b in
       rw (
         mixed-is x y,
         bit-xor (y / 2 ^ q * 2 ^ q) (x % 2 ^ q) p,
-        cut-off q x p b,
+        remainder-above q x p b,
         le-ltb p q b,
         ← (rest .1),
         moved-above q (y / 2 ^ q) (rest .0),

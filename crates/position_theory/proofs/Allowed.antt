@@ -1,9 +1,8 @@
 -- Whatever word is received, the positions that it allows are on the track, and their words differ in as many bits as they in
 -- steps: by rules 1 and 2 they lie in one block, by rule 3 within D steps of a start. Assumes nothing.
 use mathlib.Core.Path.{_≡_, refl}
-use mathlib.Core.Logic.{⊎-elim}
 use Prim.Native.Nat.{ℕ, _+_, _≤_, _<_}
-use native.Mathlib.Nat.{eq-or-lt-of-le, le-dest, add-sub-cancel}
+use native.Mathlib.Nat.{le-dest, add-sub-cancel}
 use native.Mathlib.Omega.{arith}
 use lib.Dec.{eqb}
 use borrow.Author.Tests.{eqb-false}
@@ -15,7 +14,7 @@ use Rattle.model.specs.Reading.{rule₁, rule₂, rule₃, allowedBy, ruleNamed
 use Rattle.model.specs.declared.Chunk.{Chunk}
 use Rattle.model.specs.declared.Chunk.the-variants.{Codeword, Unreadable}
 use Rattle.code_theory.specs.Promise.{ChunkPromise}
-use Rattle.position_theory.proofs.Blocks.{starts-rise}
+use Rattle.position_theory.proofs.Blocks.{start-on-track}
 use Rattle.position_theory.proofs.Isometry.{Isometric, isometric-part, isometric-block, isometric-around}
 
 -- a range that is not empty, on the track, and isometric; of a refusal nothing is said
@@ -33,22 +32,13 @@ pub record Allows (C : Code) (x : ℕ → ℕ) (position : ℕ) : Type 0 where
   pub to-high : position ≤ high
 
 module _ (C : Code) (promise : ChunkPromise C) where
-  -- the starts are on the track
-  pub start-on-track : (i : ℕ) → i ≤ lastCodeword C → start C i ≤ lastPosition C
-  unfolding lastPosition
-  start-on-track i h =
-      ⊎-elim
-      (λ (e : i ≡ lastCodeword C). rw e (omega arith))
-      (λ (l : i < lastCodeword C). omega (arith, starts-rise C promise i (lastCodeword C) l (omega arith)))
-      (eq-or-lt-of-le h)
-
   -- rule 1: the part of block i from offset D + A(i) on
   end-of-block : (i : ℕ) → i + 1 ≤ lastCodeword C
       → IsometricOnTrack C (fromTo 1 (start C i + C .D + changedWeight C i) (start C (i + 1)))
   unfolding IsometricOnTrack
   end-of-block i inside = (
     omega (arith, promise .start-next i (omega arith)),
-    start-on-track (i + 1) inside,
+    start-on-track C promise (i + 1) inside,
     isometric-part C (start C i) (start C (i + 1)) (isometric-block C promise i (omega arith)) (omega arith) (omega arith),
   )
 
@@ -71,7 +61,7 @@ module _ (C : Code) (promise : ChunkPromise C) where
       (λ f.
       let inside : p < lastCodeword C = omega (arith, eqb-false p (lastCodeword C) f, h p e refl) in (
         omega arith,
-        omega (arith, promise .start-next p inside, start-on-track (p + 1) (omega arith)),
+        omega (arith, promise .start-next p inside, start-on-track C promise (p + 1) (omega arith)),
         isometric-part C (start C p) (start C (p + 1)) (isometric-block C promise p inside) (omega arith)
             (omega (arith, promise .start-next p inside)),
       ))
@@ -82,7 +72,7 @@ module _ (C : Code) (promise : ChunkPromise C) where
   unfolding rule₃ IsometricOnTrack
   rule₃-isometric (Codeword p e) (Codeword q f) h =
       by-test (IsometricOnTrack C) (eqb p q)
-      (λ _. (omega (arith, start-on-track p (h p e refl)), omega arith, isometric-around C promise p (h p e refl)))
+      (λ _. (omega (arith, start-on-track C promise p (h p e refl)), omega arith, isometric-around C promise p (h p e refl)))
       (λ _. tt)
   rule₃-isometric (Codeword p e) Unreadable h = tt
   rule₃-isometric Unreadable (Codeword q f) h = tt

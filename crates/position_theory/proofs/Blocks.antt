@@ -54,6 +54,15 @@ module _ (C : Code) (promise : ChunkPromise C) where
       (eq-or-lt-of-le {n = i} {m = j} (omega arith))
   starts-rise i zero h b = absurd (omega arith)
 
+  -- every start is on the track
+  pub start-on-track : (i : ℕ) → i ≤ lastCodeword C → start C i ≤ lastPosition C
+  unfolding lastPosition
+  start-on-track i h =
+      ⊎-elim
+      (λ (e : i ≡ lastCodeword C). rw e (omega arith))
+      (λ (l : i < lastCodeword C). omega (arith, starts-rise i (lastCodeword C) l (omega arith)))
+      (eq-or-lt-of-le h)
+
   -- the positions of block i
   block-inside : (i m : ℕ) → i < lastCodeword C → m < blockLength C i → blockOf C (start C i + m) ≡ i
   block-inside i m inside h =

@@ -2,14 +2,11 @@
 -- the answer is off by at most the bits turned and the residual together, and the residual is at most the bits turned.
 -- Assumes nothing.
 use mathlib.Core.Path.{_≡_, sym, _∙_}
-use mathlib.Core.Bool.{false}
 use mathlib.Core.List.{List}
 use mathlib.Core.Logic.{⊎-elim}
 use Prim.Native.Nat.{ℕ, _+_, _≤_, _<_}
 use native.Mathlib.Nat.{le-dest}
 use native.Mathlib.Omega.{arith}
-use lib.ListN.{length}
-use borrow.Author.Tests.{eq-eqb}
 use Rattle.bits.specs.Sums.{distance, from}
 use Rattle.bits.specs.Places.{place}
 use Rattle.bits.proofs.Distance.{distance-ext-left}
@@ -17,14 +14,14 @@ use Rattle.bits.proofs.Places.{place-bit}
 use Rattle.model.specs.Card.{Code, radius}
 use Rattle.model.specs.Order.{lastCodeword, blockLength, start, lastPosition}
 use Rattle.model.specs.Words.{wordBits, blockOf, wordAt, wordBytes}
-use Rattle.model.specs.Reading.{reading, residual}
-use Rattle.model.specs.Answers.{wordLength, spareSet, readWord}
+use Rattle.model.specs.Reading.{residual}
+use Rattle.model.specs.Answers.{readWord}
 use Rattle.model.specs.declared.ReadAnswer.{ReadAnswer}
 use Rattle.model.specs.declared.ReadAnswer.the-variants.{At, Refused}
 use Rattle.code_theory.specs.Promise.{ChunkPromise}
 use Rattle.position_theory.specs.Damage.{ChunksWithin, WithinRadius, turnedInAll, turned, Near, residualOf}
 use Rattle.position_theory.proofs.Words.{five-distance}
-use Rattle.position_theory.proofs.WordBytes.{place-of-word}
+use Rattle.position_theory.proofs.WordBytes.{place-of-word, read-if-whole}
 use Rattle.position_theory.proofs.Blocks.{in-its-block, block-le, block-low}
 use Rattle.position_theory.proofs.Allowed.{Allows}
 use Rattle.position_theory.proofs.WholeChunks.{whole-at-start, whole-in-block}
@@ -55,12 +52,6 @@ module _ (C : Code) where
       sym (five-distance C (place (wordBytes C position)) (place received))
       ∙ distance-ext-left (wordBits C) (place received) (place-of-word C position)
 
-  -- a word of the right length with spare bits zero is read
-  pub read-word : (received : List ℕ) → length received ≡ wordLength C → spareSet C received ≡ false
-      → readWord C received ≡ reading C (place received)
-  unfolding readWord
-  read-word received h spare = simp (eq-eqb (length received) (wordLength C) h, spare)
-
 module _ (C : Code) (promise : ChunkPromise C) where
   -- a word within the radius in every chunk allows the true position
   true-allowed : (position : ℕ) (x : ℕ → ℕ) → position ≤ lastPosition C → ((p : ℕ) → x p < 2)
@@ -82,7 +73,7 @@ module _ (C : Code) (promise : ChunkPromise C) where
       → Near (readWord C received) position (turned C position received + residualOf (readWord C received))
       × (residualOf (readWord C received) ≤ turned C position received)
   error-bounded position received h d =
-      rw (read-word C received (d .right-length) (d .spare-zero), turned-is-residual C position received)
+      rw (read-if-whole C received (d .right-length) (d .spare-zero), turned-is-residual C position received)
       (answer-near C promise (place received) position
       (true-allowed position (place received) h (place-bit received) (within-of-bytes C (radius C) position (place received) (d .chunks))))
 

@@ -10,7 +10,7 @@ use Rattle.code_theory.specs.Promise.{Sound}
 use Rattle.code_theory.proofs.LeastDistance.{D-high}
 use Rattle.code_theory.proofs.Starts.{last-position-bound}
 use Rattle.code_theory.proofs.Promise.{promise}
-use Rattle.position_theory.proofs.Allowed.{start-on-track}
+use Rattle.position_theory.proofs.Blocks.{start-on-track}
 
 module _ (C : Code) (sound : Sound C) where
   -- the widest word has 320 bits

@@ -18,9 +18,9 @@ use Rattle.code_theory.proofs.Promise.{promise}
 use Rattle.position_theory.specs.Damage.{turned, residualOf}
 use Rattle.position_theory.specs.Demands.{NeighboursDifferInOneBit, NoOtherPositionsWord, NearestOfAllowed}
 use Rattle.position_theory.specs.Demands.{OffByAtMostTwiceTurned, OffByAtMostTurnedAndResidual}
-use Rattle.position_theory.proofs.WordBytes.{differing-words, residual-counts}
+use Rattle.position_theory.proofs.WordBytes.{differing-words, residual-counts, read-if-whole}
 use Rattle.position_theory.proofs.Nearest.{reading-is-nearest}
-use Rattle.position_theory.proofs.BoundedError.{read-word, error-bounded, near-loosen}
+use Rattle.position_theory.proofs.BoundedError.{error-bounded, near-loosen}
 use Rattle.position_theory.proofs.DistinctWords.{neighbours-differ, words-distinct}
 
 card-promise : (card : List ℕ) → SoundCard card → ChunkPromise (codeOf card)
@@ -57,7 +57,7 @@ read-sound card received sound = rw (eq-eqb (cardRefusal card) 0 sound)
 pub nearest-of-allowed : (card received : List ℕ) → NearestOfAllowed card received (readAnswer card received)
 unfolding NearestOfAllowed
 nearest-of-allowed card received sound h spare = (
-  rw (read-sound card received sound, read-word (codeOf card) received h spare)
+  rw (read-sound card received sound, read-if-whole (codeOf card) received h spare)
       (reading-is-nearest (codeOf card) (card-promise card sound) (place received)),
   residual-counts (codeOf card) received spare,
 )

@@ -15,7 +15,8 @@ use Rattle.model.specs.Order.{lastCodeword, changedWeight, blockLength, start, 
 use Rattle.model.specs.Reading.{majority, chunk₁, separator₂, chunk₂, separator₃}
 use Rattle.model.specs.Reading.{rule₁, rule₂, rule₃, allowedBy, allowed}
 use Rattle.code_theory.specs.Promise.{ChunkPromise}
-use Rattle.position_theory.proofs.Allowed.{Allows, start-on-track}
+use Rattle.position_theory.proofs.Allowed.{Allows}
+use Rattle.position_theory.proofs.Blocks.{start-on-track}
 use Rattle.position_theory.proofs.Separators.{SeparatorsRead, names-rule₁, names-rule₂, names-rule₃}
 use Rattle.position_theory.proofs.WholeChunks.{ReadsAs, WholeChunksRead}
 

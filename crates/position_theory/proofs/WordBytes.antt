@@ -8,7 +8,7 @@ use native.Mathlib.Nat.{le-dest}
 use native.Mathlib.Omega.{arith}
 use lib.Dec.{eqb}
 use lib.ListN.{length}
-use borrow.Author.Tests.{eqb-false}
+use borrow.Author.Tests.{eq-eqb, eqb-false}
 use Rattle.bits.specs.Sums.{distance}
 use Rattle.bits.specs.Places.{place, differingBits}
 use Rattle.bits.proofs.Distance.{distance-ext-left}
@@ -18,8 +18,8 @@ use Rattle.bits.proofs.Places.{place-bit, length-pack, place-packed, place-spar
 use Rattle.bits.proofs.PackedDistance.{differing-below, packed-distance}
 use Rattle.model.specs.Card.{Code}
 use Rattle.model.specs.Words.{wordBits, blockOf, wordAt, wordBytes}
-use Rattle.model.specs.Reading.{residual}
-use Rattle.model.specs.Answers.{wordLength, spareSet}
+use Rattle.model.specs.Reading.{residual, reading}
+use Rattle.model.specs.Answers.{wordLength, spareSet, readWord}
 use Rattle.position_theory.proofs.Words.{word-bit}
 
 pub word-at-bit : (C : Code) (position p : ℕ) → wordAt C position p < 2
@@ -47,6 +47,12 @@ pub differing-words : (C : Code) (p q : ℕ)
     → differingBits (wordBytes C p) (wordBytes C q) ≡ distance (wordBits C) (wordAt C p) (wordAt C q)
 unfolding wordBytes
 differing-words C p q = packed-distance (wordBits C) (word-at-bit C p) (word-at-bit C q)
+
+-- a word of the right length with spare bits zero is read
+pub read-if-whole : (C : Code) (received : List ℕ) → length received ≡ wordLength C → spareSet C received ≡ false
+    → readWord C received ≡ reading C (place received)
+unfolding readWord
+read-if-whole C received h spare = simp (eq-eqb (length received) (wordLength C) h, spare)
 
 -- a received word with spare bits zero
 module _ (C : Code) (received : List ℕ) (spare : spareSet C received ≡ false) where
