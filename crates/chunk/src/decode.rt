@@ -2,7 +2,7 @@
 ghost use mathlib.Core.Path.{_≡_};
 ghost use Rattle.chunk.specs.DecodedFrom.{DecodedFrom};
 use super::card;
-use super::order;
+use super::least_weight;
 use super::refusal;
 use model::Decoded;
 use model::DecodedCode;
@@ -42,7 +42,7 @@ pub fn decode(card: &[u8]) -> Decoded
         return refused(3);
     }
     let rows = card::rows_of(card);
-    let distance = order::least_weight(n, k, rows);
+    let distance = least_weight::least_weight(n, k, rows);
     let misplaced = refusal::refusal_if(card::has_misplaced(n, k, rows, unused), 4);
     let dependent = refusal::refusal_if(distance == 0, 5);
     let refusal = refusal::first_of(misplaced, dependent);

@@ -2,6 +2,7 @@
 pub mod card;
 pub mod codeword;
 pub mod decode;
-pub mod order;
+pub mod least_weight;
+pub mod powers;
 pub mod refusal;
 pub mod search;

@@ -6,7 +6,7 @@ ghost use Rattle.model.specs.Card.{radius};
 ghost use Rattle.model.specs.Decoded.{meaning};
 ghost use Rattle.model.specs.Reading.{chunkReading};
 ghost use Rattle.code_theory.specs.Promise.{Sound};
-use super::order;
+use super::powers;
 use model::Chunk;
 use model::DecodedCode;
 
@@ -29,7 +29,7 @@ pub fn read_chunk(code: DecodedCode, x: u64) -> Chunk
     let k = code.k;
     let rows = code.rows;
     let radius = radius_of(code);
-    let last = order::two_to(k) - 1;
+    let last = powers::two_to(k) - 1;
     let mut word: u64 = 0;
     let mut i: u32 = 0;
     let found = loop {

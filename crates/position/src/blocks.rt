@@ -7,7 +7,7 @@ ghost use Rattle.model.specs.Words.{blockOf};
 ghost use Rattle.code_theory.specs.Promise.{Sound};
 ghost use Rattle.position.specs.RowWeights.{RowWeights};
 use chunk::codeword;
-use chunk::order;
+use chunk::powers;
 use model::DecodedCode;
 
 // The number of the last codeword, 2^k - 1.
@@ -15,7 +15,7 @@ pub fn last_codeword(code: DecodedCode) -> u32
     requires { ⌜ Sound (meaning code) ⌝ }
     ensures { λ r. ⌜ r ≡ lastCodeword (meaning code) ⌝ }
 {
-    order::two_to(code.k) - 1
+    powers::two_to(code.k) - 1
 }
 
 // How often row z has been added on the way from codeword 0 to codeword i: at codeword 2^z, and again each 2^(z+1) codewords.
@@ -23,7 +23,7 @@ fn times_added(i: u32, z: u32) -> u32
     requires { ⌜ z < 12 ⌝ }
     ensures { λ r. ⌜ r ≡ (i + 2 ^ z) / 2 ^ (z + 1) ⌝ }
 {
-    let first = order::two_to(z);
+    let first = powers::two_to(z);
     if i < first {
         return 0;
     }

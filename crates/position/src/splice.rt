@@ -5,14 +5,14 @@ ghost use Prim.Native.Nat.{ℕ, _≤_, _<_};
 ghost use lib.Dec.{ltb};
 ghost use Rattle.bits.specs.Places.{bit};
 ghost use Rattle.position.specs.Spliced.{Spliced};
-use chunk::order;
+use chunk::powers;
 
 // The bits of `low` below place q, and those of `high` from there on.
 fn mixed(low: u8, high: u8, q: u32) -> u8
     requires { ⌜ q ≤ 8 ⌝ }
     ensures { λ r. ⌜ ((p : ℕ) → p < 8 → bit r p ≡ cond (ltb p q) (bit low p) (bit high p)) ⌝ }
 {
-    let unit = order::two_to(q);
+    let unit = powers::two_to(q);
     (high as u32 / unit * unit + low as u32 % unit) as u8
 }
 

@@ -1,5 +1,5 @@
--- `chunk::order::least_weight` meets its contract: the loop steps through the sums of the rows behind the low ones in Gray order, and
--- keeps what `AtBehind` says: `word` is the sum at `h`, and `least` the least of n and of the weights of all sets met, each a set of
+-- `chunk::least_weight::least_weight` meets its contract: the loop steps through the sums of the rows behind the low ones in Gray order, and
+-- keeps what `AtBehind` says: `word` is the sum at `set`, and `least` the least of n and of the weights of all sets met, each a set of
 -- low rows with one of the rows behind. At the end all nonempty sets are met. The measure is the sums that are left.
 -- Assumes nothing.
 use Prim.Native.Nat.{_+_, _-_, _≤_, _<_}
@@ -9,14 +9,14 @@ use lib.Count.{trailingZeros}
 use lib.ListN.{getD}
 use lib.Pow.{pow-pos, pow-mono}
 use Rattle.chunk.proofs.LeastWeightLoop.{AtBehind, row-behind, at-start, at-next, at-end}
-use Rattle.chunk.proofs.order.least_weight.Statement.{statement}
-use Rattle.chunk.proofs.order.least_weight.Tie as tie
+use Rattle.chunk.proofs.least_weight.least_weight.Statement.{statement}
+use Rattle.chunk.proofs.least_weight.least_weight.Tie as tie
 
 abbrev Inv-loop : tie.InvT-loop
-Inv-loop n k rows low size sums least₀ last word₀ h₀ least word h = AtBehind n low (k - low) (λ z. getD rows z 0) last word least h
+Inv-loop n k rows low size sums least₀ last word₀ set₀ least word set = AtBehind n low (k - low) (λ z. getD rows z 0) last word least set
 
 abbrev μ-loop : tie.MeasureT-loop
-μ-loop n k rows low size sums least₀ last word₀ h₀ least word h = last - h
+μ-loop n k rows low size sums least₀ last word₀ set₀ least word set = last - set
 
 -- the way back from before the loop: to where the table is filled, and to where the low rows are parted from those behind
 abbrev filled : tie.After-two-to2 Inv-loop μ-loop → tie.After-low-sums Inv-loop μ-loop
@@ -65,11 +65,11 @@ loop-holds c =
     at-start (table .low-sums .result) (table .low-sums .ensures) (c .two-to2 .ensures) (table .before .two-to .ensures)
     (found .0, found .1 .0, found .1 .1)
 
-add-h : tie.Need-add-h Inv-loop μ-loop
-add-h c = search needs
+add-set : tie.Need-add-set Inv-loop μ-loop
+add-set c = search needs
 
 -- the number of the row that is added
-row : (c : tie.In-loop Inv-loop μ-loop) → parted (c .before .before) .low-rows .result + trailingZeros 32 (c .before .loop .h + 1) < 12
+row : (c : tie.In-loop Inv-loop μ-loop) → parted (c .before .before) .low-rows .result + trailingZeros 32 (c .before .loop .set + 1) < 12
 row c = row-behind (omega arith) (c .before .loop .inv) (c .loop-test .taken)
 
 add-z : tie.Need-add-z Inv-loop μ-loop
@@ -122,7 +122,7 @@ least-weight-spec =
     two-to-requires-2
     sub-last
     loop-holds
-    add-h
+    add-set
     add-z
     cast-z
     mul-word

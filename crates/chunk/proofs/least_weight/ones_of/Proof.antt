@@ -1,9 +1,9 @@
--- `chunk::order::ones_of` meets its contract: of 64 bits at most 64 are 1, which fits a byte. Assumes nothing.
+-- `chunk::least_weight::ones_of` meets its contract: of 64 bits at most 64 are 1, which fits a byte. Assumes nothing.
 use native.Mathlib.Omega.{arith}
 use borrow.Author.Needs.{needs}
 use lib.Count.{ones-le}
-use Rattle.chunk.proofs.order.ones_of.Statement.{statement}
-use Rattle.chunk.proofs.order.ones_of.Tie as tie
+use Rattle.chunk.proofs.least_weight.ones_of.Statement.{statement}
+use Rattle.chunk.proofs.least_weight.ones_of.Tie as tie
 
 cast-result : tie.Need-cast-result
 cast-result c = omega (arith, ones-le 64 (c .args .word) (omega arith))

@@ -1,12 +1,12 @@
--- `chunk::order::two_to` meets its contract: 1 shifted by fewer than 32 places stays within 32 bits, so no bit is lost.
+-- `chunk::powers::two_to` meets its contract: 1 shifted by fewer than 32 places stays within 32 bits, so no bit is lost.
 -- Assumes nothing.
 use mathlib.Core.Path.{_∙_}
 use native.Mathlib.Nat.{one-mul}
 use native.Mathlib.Omega.{arith}
 use borrow.Author.Needs.{needs}
 use lib.Pow.{shl-exact}
-use Rattle.chunk.proofs.order.two_to.Statement.{statement}
-use Rattle.chunk.proofs.order.two_to.Tie as tie
+use Rattle.chunk.proofs.powers.two_to.Statement.{statement}
+use Rattle.chunk.proofs.powers.two_to.Tie as tie
 
 shl-result : tie.Need-shl-result
 shl-result c = search needs

@@ -1,4 +1,4 @@
-// The least weight of a code, by a walk through the sums of its rows.
+// The least weight of a code, by going through the sums of its rows.
 // A set of rows is a set of the first rows, the low ones, and a set of the rows behind them. The sums of the low rows stand in a
 // table. To each sum of the rows behind, the table's sums are added in one plain loop, which the compiler takes many at a time.
 ghost use mathlib.Core.Path.{_≡_};
@@ -9,14 +9,7 @@ ghost use lib.ListN.{getD};
 ghost use Rattle.model.specs.Card.{sumOfRows};
 ghost use Rattle.model.specs.Order.{gray};
 ghost use Rattle.code_theory.specs.LeastOfSets.{leastOfSets};
-
-// 2 to the power k.
-pub fn two_to(k: u32) -> u32
-    requires { ⌜ k < 32 ⌝ }
-    ensures { λ r. ⌜ r ≡ 2 ^ k ⌝ }
-{
-    1u32 << k
-}
+use super::powers;
 
 // How many of k rows are low ones: five at most, for the table has room for 32 sums. The compiler would clear a longer table by a
 // call of memset, and the archive for C is to need memcpy alone.
@@ -36,7 +29,7 @@ fn low_sums(low: u32, rows: [u64; 12]) -> [u64; 32]
     ensures { λ r. ⌜ ((j : ℕ) → j < 2 ^ low → getD r j 0 ≡ sumOfRows (λ z. getD rows z 0) low (gray j)) ⌝ }
 {
     let mut sums = [0u64; 32];
-    let last = two_to(low) - 1;
+    let last = powers::two_to(low) - 1;
     let mut sum: u64 = 0;
     let mut i: u32 = 0;
     while i < last {
@@ -82,15 +75,15 @@ pub fn least_weight(n: u32, k: u32, rows: [u64; 12]) -> u32
     ensures { λ r. ⌜ (((z : ℕ) → z < k → getD rows z 0 < 2 ^ n) → r ≡ leastOfSets n k (λ z. getD rows z 0) (2 ^ k - 1)) ⌝ }
 {
     let low = low_rows(k);
-    let size = two_to(low) as usize;
+    let size = powers::two_to(low) as usize;
     let sums = low_sums(low, rows);
     let mut least = least_of(&sums, 1, size, 0, n as u8);
-    let last = two_to(k - low) - 1;
+    let last = powers::two_to(k - low) - 1;
     let mut word: u64 = 0;
-    let mut h: u32 = 0;
-    while h < last {
-        h += 1;
-        let z = (low + u32::trailing_zeros(h)) as usize;
+    let mut set: u32 = 0;
+    while set < last {
+        set += 1;
+        let z = (low + u32::trailing_zeros(set)) as usize;
         word ^= rows[z];
         least = least_of(&sums, 0, size, word, least);
     }

@@ -1,4 +1,4 @@
--- `chunk::order::least_of` meets its contract. The loop's invariant: `least` is the least of `start` and the weights of the sums
+-- `chunk::least_weight::least_of` meets its contract. The loop's invariant: `least` is the least of `start` and the weights of the sums
 -- passed, in the contract's own three clauses. The measure is the sums that are left. Assumes nothing.
 use mathlib.Core.Path.{_≡_, ap, _∙_}
 use mathlib.Core.Logic.{⊎-elim}
@@ -9,8 +9,8 @@ use lib.Bits.{bitXor}
 use lib.Count.{ones}
 use lib.ListN.{getD}
 use Rattle.chunk.proofs.LeastOf.{LeastOf, least-of-none, least-of-more}
-use Rattle.chunk.proofs.order.least_of.Statement.{statement}
-use Rattle.chunk.proofs.order.least_of.Tie as tie
+use Rattle.chunk.proofs.least_weight.least_of.Statement.{statement}
+use Rattle.chunk.proofs.least_weight.least_of.Tie as tie
 
 abbrev Inv-loop : tie.InvT-loop
 Inv-loop sums from size word start least₀ j₀ least j =
