@@ -1,3 +1,3 @@
-pub mod Answers
+pub mod NumberAnswers
 pub mod Writing
 pub mod Reading

@@ -15,14 +15,14 @@ use Rattle.chunk.specs.DecodedFrom.{DecodedFrom}
 
 module _ (card received : List ℕ) where
   -- what the contract of the read says of its answer
-  abbrev Meets : ReadAnswer → Type 0
-  Meets answer =
+  abbrev ReadMeets : ReadAnswer → Type 0
+  ReadMeets answer =
       (answer ≡ readAnswer card received)
       × (OffByAtMostTwiceTurned card received answer
       × (OffByAtMostTurnedAndResidual card received answer × NearestOfAllowed card received answer))
 
-  meets : (answer : ReadAnswer) → answer ≡ readAnswer card received → Meets answer
-  meets answer e =
+  read-meets : (answer : ReadAnswer) → answer ≡ readAnswer card received → ReadMeets answer
+  read-meets answer e =
       (rw e (
         refl,
         (
@@ -32,11 +32,11 @@ module _ (card received : List ℕ) where
       ))
 
   module _ (decoded : Decoded) (from : DecodedFrom card decoded) where
-    pub card-refused : (decoded .refusal ≡ 0 → ⊥) → Meets (Refused (decoded .refusal))
+    pub read-card-refused : (decoded .refusal ≡ 0 → ⊥) → ReadMeets (Refused (decoded .refusal))
     unfolding readAnswer
-    card-refused ne = meets (Refused (decoded .refusal)) (rw (← (from .refusal), ne-eqb (decoded .refusal) 0 ne))
+    read-card-refused ne = read-meets (Refused (decoded .refusal)) (rw (← (from .refusal), ne-eqb (decoded .refusal) 0 ne))
 
-    pub word-read : decoded .refusal ≡ 0 → (answer : ReadAnswer) → answer ≡ readWord (meaning (decoded .code)) received → Meets answer
+    pub word-read : decoded .refusal ≡ 0 → (answer : ReadAnswer) → answer ≡ readWord (meaning (decoded .code)) received → ReadMeets answer
     unfolding readAnswer
     word-read sound answer e =
-        meets answer (rw (← (from .refusal), eq-eqb (decoded .refusal) 0 sound, ← (from .code sound)) e)
+        read-meets answer (rw (← (from .refusal), eq-eqb (decoded .refusal) 0 sound, ← (from .code sound)) e)

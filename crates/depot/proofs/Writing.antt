@@ -25,8 +25,8 @@ use Rattle.chunk.specs.DecodedFrom.{DecodedFrom}
 
 module _ (card : List ℕ) (position : ℕ) (lent : List ℕ) where
   -- what the contract of the write says of its answer and of the lent word as the write leaves it
-  abbrev Meets : WriteAnswer → List ℕ → Type 0
-  Meets answer left =
+  abbrev WriteMeets : WriteAnswer → List ℕ → Type 0
+  WriteMeets answer left =
       (answer ≡ writeAnswer card position lent)
       × ((left ≡ lentAfterWrite card position lent)
       × (WrittenIfServable card position lent answer
@@ -34,9 +34,9 @@ module _ (card : List ℕ) (position : ℕ) (lent : List ℕ) where
       × ((answer ≡ Written → NeighboursDifferInOneBit card position left)
       × (answer ≡ Written → NoOtherPositionsWord card position left)))))
 
-  meets : (answer : WriteAnswer) (left : List ℕ) → answer ≡ writeAnswer card position lent
-      → left ≡ lentAfterWrite card position lent → Meets answer left
-  meets answer left e f = (
+  write-meets : (answer : WriteAnswer) (left : List ℕ) → answer ≡ writeAnswer card position lent
+      → left ≡ lentAfterWrite card position lent → WriteMeets answer left
+  write-meets answer left e f = (
     e,
     (
       f,
@@ -55,14 +55,14 @@ module _ (card : List ℕ) (position : ℕ) (lent : List ℕ) where
     ),
   )
 
-  refused : (refusal : ℕ) → writeRefusal card position lent ≡ refusal → (refusal ≡ 0 → ⊥) → Meets (Refused refusal) lent
+  refused : (refusal : ℕ) → writeRefusal card position lent ≡ refusal → (refusal ≡ 0 → ⊥) → WriteMeets (Refused refusal) lent
   unfolding writeAnswer lentAfterWrite
-  refused refusal e ne = meets (Refused refusal) lent (rw (e, ne-eqb refusal 0 ne)) (rw (e, ne-eqb refusal 0 ne))
+  refused refusal e ne = write-meets (Refused refusal) lent (rw (e, ne-eqb refusal 0 ne)) (rw (e, ne-eqb refusal 0 ne))
 
   -- refusals 1 to 5
-  pub card-refused : (decoded : Decoded) → DecodedFrom card decoded → (decoded .refusal ≡ 0 → ⊥) → Meets (Refused (decoded .refusal)) lent
+  pub write-card-refused : (decoded : Decoded) → DecodedFrom card decoded → (decoded .refusal ≡ 0 → ⊥) → WriteMeets (Refused (decoded .refusal)) lent
   unfolding writeRefusal
-  card-refused decoded from ne = refused (decoded .refusal) (rw (← (from .refusal), ne-eqb (decoded .refusal) 0 ne)) ne
+  write-card-refused decoded from ne = refused (decoded .refusal) (rw (← (from .refusal), ne-eqb (decoded .refusal) 0 ne)) ne
 
 -- what is measured once the card has passed: the length of its words, its last position, and the first of refusals 6 and 7 by them
 pub record Measured (card : List ℕ) (position : ℕ) (lent : List ℕ) (decoded : Decoded) (size last refusal : ℕ) : Type 0 where
@@ -87,7 +87,7 @@ module _ {card : List ℕ} {position : ℕ} {lent : List ℕ} {decoded : Decoded
       (rw (← (measured .is-size), ← (measured .is-last), by-tests))
 
   -- refusals 6 and 7, the first of which is answered
-  pub word-refused : (refusal ≡ 0 → ⊥) → Meets card position lent (Refused refusal) lent
+  pub word-refused : (refusal ≡ 0 → ⊥) → WriteMeets card position lent (Refused refusal) lent
   word-refused ne = refused card position lent refusal word-refusal ne
 
   -- where neither holds, the lent word has the right length and the position is on the track
@@ -99,7 +99,7 @@ module _ {card : List ℕ} {position : ℕ} {lent : List ℕ} {decoded : Decoded
       rw (← (measured .is-size), ← (measured .is-last)) (ltb-false last position within, eqb-true (length lent) size (not-false _ whole))
 
   pub written : refusal ≡ 0 → (left : List ℕ) → left ≡ wordBytes (meaning (decoded .code)) position
-      → Meets card position lent Written left
+      → WriteMeets card position lent Written left
   unfolding writeAnswer lentAfterWrite
   written none left e =
-      meets card position lent Written left (rw (word-refusal ∙ none)) (rw (word-refusal ∙ none, ← is-code) e)
+      write-meets card position lent Written left (rw (word-refusal ∙ none)) (rw (word-refusal ∙ none, ← is-code) e)

@@ -5,7 +5,7 @@ use native.Mathlib.Omega.{arith}
 use Rattle.model.specs.Decoded.{meaning}
 use Rattle.code_theory.specs.Promise.{Sound}
 use Rattle.code_theory.proofs.Starts.{last-position-bound}
-use Rattle.depot.proofs.Answers.{millimetres-refused, millimetres-above, millimetres-within}
+use Rattle.depot.proofs.NumberAnswers.{millimetres-refused, millimetres-above, millimetres-within}
 use Rattle.depot.proofs.millimetres.Statement.{statement}
 use Rattle.depot.proofs.millimetres.Tie as tie
 

@@ -2,7 +2,7 @@
 -- sound, as the reader asks; either answer is the one that the definition gives, of which the demands are theorems.
 -- Assumes nothing.
 use borrow.Author.Needs.{needs}
-use Rattle.depot.proofs.Reading.{card-refused, word-read}
+use Rattle.depot.proofs.Reading.{read-card-refused, word-read}
 use Rattle.depot.proofs.read_word.Statement.{statement}
 use Rattle.depot.proofs.read_word.Tie as tie
 
@@ -12,7 +12,7 @@ decode-requires c κs = search needs
 returns : tie.Need-returns
 returns c =
     let first = c .before .before .before .before .before in
-    card-refused _ (first .args .word .now) _ (c .before .before .decode .ensures) (c .if1 .taken)
+    read-card-refused _ (first .args .word .now) _ (c .before .before .decode .ensures) (c .if1 .taken)
 
 read-requires : tie.Need-read-requires
 read-requires c κs = c .before .before .decode .ensures .sound (c .if1 .left)

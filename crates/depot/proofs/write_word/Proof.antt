@@ -4,7 +4,7 @@
 use borrow.Author.Needs.{needs}
 use Rattle.model.specs.Decoded.{meaning}
 use Rattle.code_theory.specs.Promise.{Sound}
-use Rattle.depot.proofs.Writing.{Measured, card-refused, word-refused, servable, written}
+use Rattle.depot.proofs.Writing.{Measured, write-card-refused, word-refused, servable, written}
 use Rattle.depot.proofs.write_word.Statement.{statement}
 use Rattle.depot.proofs.write_word.Tie as tie
 
@@ -42,7 +42,7 @@ decode-requires c κs = search needs
 returns : tie.Need-returns
 returns c =
     let first = c .before .before .before .before .before in
-    card-refused _ (first .args .position) (first .args .word .now) _ (c .before .before .decode .ensures) (c .if1 .taken)
+    write-card-refused _ (first .args .position) (first .args .word .now) _ (c .before .before .decode .ensures) (c .if1 .taken)
 
 word-length-requires : tie.Need-word-length-requires
 word-length-requires c κs = sound (c .before)

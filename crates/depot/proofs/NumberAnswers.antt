@@ -25,28 +25,28 @@ module _ (card : List ℕ) (decoded : Decoded) (from : DecodedFrom card decoded)
 
 -- a sound card
 module _ (card : List ℕ) (decoded : Decoded) (from : DecodedFrom card decoded) (sound : decoded .refusal ≡ 0) where
-  sound-card : SoundCard card
-  sound-card = sym (from .refusal) ∙ sound
+  is-sound : SoundCard card
+  is-sound = sym (from .refusal) ∙ sound
 
   pub start-above : (last block : ℕ) → last ≡ lastCodeword (meaning (decoded .code)) → last < block
       → Refused 7 ≡ startAnswer card block
   unfolding startAnswer
-  start-above last block is h = rw (eq-eqb (cardRefusal card) 0 sound-card, ← (from .code sound), ← is, lt-ltb last block h)
+  start-above last block is h = rw (eq-eqb (cardRefusal card) 0 is-sound, ← (from .code sound), ← is, lt-ltb last block h)
 
   pub start-within : (last block answer : ℕ) → last ≡ lastCodeword (meaning (decoded .code)) → block ≤ last
       → answer ≡ start (meaning (decoded .code)) block → Number answer ≡ startAnswer card block
   unfolding startAnswer
   start-within last block answer is h e =
-      rw (eq-eqb (cardRefusal card) 0 sound-card, ← (from .code sound), ← is, ← e, le-ltb last block h)
+      rw (eq-eqb (cardRefusal card) 0 is-sound, ← (from .code sound), ← is, ← e, le-ltb last block h)
 
   pub millimetres-above : (last position : ℕ) → last ≡ lastPosition (meaning (decoded .code)) → last < position
       → Refused 7 ≡ millimetresAnswer card position
   unfolding millimetresAnswer
   millimetres-above last position is h =
-      rw (eq-eqb (cardRefusal card) 0 sound-card, ← (from .code sound), ← is, lt-ltb last position h)
+      rw (eq-eqb (cardRefusal card) 0 is-sound, ← (from .code sound), ← is, lt-ltb last position h)
 
   pub millimetres-within : (last position : ℕ) → last ≡ lastPosition (meaning (decoded .code)) → position ≤ last
       → Number (millimetresOf position) ≡ millimetresAnswer card position
   unfolding millimetresAnswer
   millimetres-within last position is h =
-      rw (eq-eqb (cardRefusal card) 0 sound-card, ← (from .code sound), ← is, le-ltb last position h)
+      rw (eq-eqb (cardRefusal card) 0 is-sound, ← (from .code sound), ← is, le-ltb last position h)
