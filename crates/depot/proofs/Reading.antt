@@ -1,16 +1,16 @@
 -- What a read answers, one law for each way out of the code; the theorems of demands 2 and 3 hold of the answer that the
 -- definition gives. Assumes nothing.
-use mathlib.Core.Path.{_≡_, refl}
+use mathlib.Core.Path.{_≡_, refl, sym, _∙_}
 use mathlib.Core.List.{List}
 use Prim.Native.Nat.{ℕ}
-use borrow.Author.Tests.{eq-eqb, ne-eqb}
+use borrow.Author.Tests.{ne-eqb}
 use Rattle.model.specs.Decoded.{meaning}
 use Rattle.model.specs.Answers.{readWord, readAnswer}
 use Rattle.model.specs.declared.Decoded.{Decoded}
 use Rattle.model.specs.declared.ReadAnswer.{ReadAnswer}
 use Rattle.model.specs.declared.ReadAnswer.the-variants.{Refused}
 use Rattle.position_theory.specs.Demands.{NearestOfAllowed, OffByAtMostTwiceTurned, OffByAtMostTurnedAndResidual}
-use Rattle.position_theory.proofs.Demands.{nearest-of-allowed, off-by-at-most-twice-turned, off-by-at-most-turned-and-residual}
+use Rattle.position_theory.proofs.Demands.{read-sound, nearest-of-allowed, off-by-at-most-twice-turned, off-by-at-most-turned-and-residual}
 use Rattle.chunk.specs.DecodedFrom.{DecodedFrom}
 
 module _ (card received : List ℕ) where
@@ -37,6 +37,5 @@ module _ (card received : List ℕ) where
     read-card-refused ne = read-meets (Refused (decoded .refusal)) (rw (← (from .refusal), ne-eqb (decoded .refusal) 0 ne))
 
     pub word-read : decoded .refusal ≡ 0 → (answer : ReadAnswer) → answer ≡ readWord (meaning (decoded .code)) received → ReadMeets answer
-    unfolding readAnswer
     word-read sound answer e =
-        read-meets answer (rw (← (from .refusal), eq-eqb (decoded .refusal) 0 sound, ← (from .code sound)) e)
+        read-meets answer (rw (read-sound card received (sym (from .refusal) ∙ sound), ← (from .code sound)) e)
