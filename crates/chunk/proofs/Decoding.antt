@@ -32,7 +32,7 @@ pub least-of-card : (b : List ℕ) (n k distance : ℕ) (row : ℕ → ℕ) → 
     → (Narrow n k row → distance ≡ leastOfSets n k row (2 ^ k - 1)) → Narrow (lengthOf b) (rowCountOf b) (rowOf b) → distance ≡ least b
 least-of-card b n k distance row is-n is-k is-row is-least = rw (← is-n, ← is-k, ← is-row) is-least
 
--- where the limits hold and no row has a bit past n, the rows are narrow
+-- where the limits hold and no row has a bit at n or above, the rows are narrow
 narrow-rows : (b : List ℕ) → withinLimits (lengthOf b) (rowCountOf b) ≡ true → rowTooWide (lengthOf b) (rowOf b) ≡ false
     → Narrow (lengthOf b) (rowCountOf b) (rowOf b)
 narrow-rows b limits test z h =

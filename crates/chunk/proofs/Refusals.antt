@@ -1,4 +1,4 @@
--- The refusals of a card, one law each: what came before holds, and this one's condition does. Assumes nothing.
+-- Refusals 1 to 3, one law each; past them, what 4 and 5 test. Assumes nothing.
 use mathlib.Core.Path.{_≡_}
 use mathlib.Core.Bool.{Bool, true, false, cond, _||_}
 use mathlib.Core.List.{List}

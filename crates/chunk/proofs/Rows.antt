@@ -36,7 +36,7 @@ rows-alike b rows twelve same =
 
 -- ---- how wide they are
 
--- no row has a bit at n or above
+-- none of the first k rows has a bit at n or above
 abbrev pub Narrow : (n k : ℕ) → (ℕ → ℕ) → Type 0
 Narrow n k row = (z : ℕ) → z < k → row z < 2 ^ n
 

@@ -24,8 +24,8 @@ fn refused(refusal: u32) -> Decoded
 }
 
 // Refusals 1 to 5 of any bytes as a card, checked downwards, and the track and the code of a sound one. The rows are dependent
-// where a nonempty set of them has weight 0; their least weight counts for rows that lie within n bits, so it is looked at below
-// refusal 4.
+// where a nonempty set of them has weight 0, so where their least weight is 0; it is known only where every row lies within n bits,
+// which refusal 4, the upper one, has shown.
 pub fn decode(card: &[u8]) -> Decoded
     ensures { λ r. ⌜ DecodedFrom (now (card .entry)) r ⌝ }
 {
