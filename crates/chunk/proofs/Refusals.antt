@@ -24,10 +24,10 @@ module _ (b : List ℕ) where
       rw (eq-eqb (length b) 512 whole, eq-eqb (storedCheck b) (computedCheck b) checked, outside)
 
   -- what the fourth asks, of n, k, rows and a test of the unused bytes that are the card's
-  pub misplaced-of-card : (n k : ℕ) (row : ℕ → ℕ) (unused answer : Bool) → n ≡ lengthOf b → k ≡ rowCountOf b → row ≡ rowOf b
-      → unused ≡ unusedByteSet b → answer ≡ (rowTooWide n row || unusedRowSet k row || unused) → answer ≡ misplaced b
+  pub misplaced-of-card : (n k : ℕ) (row : ℕ → ℕ) (unused-set answer : Bool) → n ≡ lengthOf b → k ≡ rowCountOf b → row ≡ rowOf b
+      → unused-set ≡ unusedByteSet b → answer ≡ (rowTooWide n row || unusedRowSet k row || unused-set) → answer ≡ misplaced b
   unfolding misplaced
-  misplaced-of-card n k row unused answer is-n is-k is-row is-unused asked = rw (← is-n, ← is-k, ← is-row, ← is-unused) asked
+  misplaced-of-card n k row unused-set answer is-n is-k is-row is-unused asked = rw (← is-n, ← is-k, ← is-row, ← is-unused) asked
 
   -- past the third, a card is refused for what is misplaced, then for its rows
   pub refusal-4-5-or-0 : length b ≡ 512 → storedCheck b ≡ computedCheck b → withinLimits (lengthOf b) (rowCountOf b) ≡ true

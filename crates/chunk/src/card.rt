@@ -52,11 +52,11 @@ pub fn stored_check(card: &[u8]) -> u32
 }
 
 // The check that the card should carry. Where no unused byte is set, the bytes from 100 on add nothing.
-pub fn computed_check(card: &[u8], unused: bool) -> u32
-    requires { ⌜ (length (now card) ≡ 512) × (unused ≡ unusedByteSet (now card)) ⌝ }
+pub fn computed_check(card: &[u8], unused_set: bool) -> u32
+    requires { ⌜ (length (now card) ≡ 512) × («unused_set» ≡ unusedByteSet (now card)) ⌝ }
     ensures { λ r. ⌜ r ≡ computedCheck (now (card .entry)) ⌝ }
 {
-    let end: usize = if unused { 510 } else { 100 };
+    let end: usize = if unused_set { 510 } else { 100 };
     let mut total: u32 = 0;
     let mut p: usize = 0;
     while p < end {
@@ -152,8 +152,8 @@ pub fn unused_byte_set(card: &[u8]) -> bool
 }
 
 // Is something set that a card leaves zero: a bit at n or above in a row, an unused row, or an unused byte?
-pub fn has_misplaced(n: u32, k: u32, rows: [u64; 12], unused: bool) -> bool
-    ensures { λ r. ⌜ r ≡ (rowTooWide n (λ z. getD rows z 0) || unusedRowSet k (λ z. getD rows z 0) || unused) ⌝ }
+pub fn has_misplaced(n: u32, k: u32, rows: [u64; 12], unused_set: bool) -> bool
+    ensures { λ r. ⌜ r ≡ (rowTooWide n (λ z. getD rows z 0) || unusedRowSet k (λ z. getD rows z 0) || «unused_set») ⌝ }
 {
     if row_too_wide(n, rows) {
         return true;
@@ -161,5 +161,5 @@ pub fn has_misplaced(n: u32, k: u32, rows: [u64; 12], unused: bool) -> bool
     if unused_row_set(k, rows) {
         return true;
     }
-    unused
+    unused_set
 }

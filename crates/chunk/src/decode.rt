@@ -32,8 +32,8 @@ pub fn decode(card: &[u8]) -> Decoded
     if card.len() != 512 {
         return refused(1);
     }
-    let unused = card::unused_byte_set(card);
-    if card::stored_check(card) != card::computed_check(card, unused) {
+    let unused_set = card::unused_byte_set(card);
+    if card::stored_check(card) != card::computed_check(card, unused_set) {
         return refused(2);
     }
     let n = card::byte_at(card, 0);
@@ -43,7 +43,7 @@ pub fn decode(card: &[u8]) -> Decoded
     }
     let rows = card::rows_of(card);
     let distance = least_weight::least_weight(n, k, rows);
-    let misplaced = refusal::refusal_if(card::has_misplaced(n, k, rows, unused), 4);
+    let misplaced = refusal::refusal_if(card::has_misplaced(n, k, rows, unused_set), 4);
     let dependent = refusal::refusal_if(distance == 0, 5);
     let refusal = refusal::first_of(misplaced, dependent);
     let track = card::track_of(card);

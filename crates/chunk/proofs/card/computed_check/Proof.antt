@@ -14,10 +14,10 @@ use Rattle.chunk.proofs.card.computed_check.Statement.{statement}
 use Rattle.chunk.proofs.card.computed_check.Tie as tie
 
 abbrev Inv-loop : tie.InvT-loop
-Inv-loop card unused end total₀ p₀ total p = (p ≤ end) × EndsAt card end × (total ≡ sumBelow (summand card) p) × (total ≤ 130050 * p)
+Inv-loop card unused-set end total₀ p₀ total p = (p ≤ end) × EndsAt card end × (total ≡ sumBelow (summand card) p) × (total ≤ 130050 * p)
 
 abbrev μ-loop : tie.MeasureT-loop
-μ-loop card unused end total₀ p₀ total p = end - p
+μ-loop card unused-set end total₀ p₀ total p = end - p
 
 loop-holds : tie.Need-loop-holds Inv-loop μ-loop
 unfolding sumBelow
