@@ -17,7 +17,8 @@ use Rattle.model.specs.Order.{gray, codeword}
 use Rattle.model.specs.Reading.{chunkDistance, chunkReading}
 use Rattle.model.specs.declared.Chunk.the-variants.{Codeword, Unreadable}
 use Rattle.code_theory.specs.Promise.{Sound}
-use Rattle.code_theory.proofs.Codewords.{rows-start, rows-below}
+use Rattle.code_theory.proofs.Codewords.{rows-start}
+use Rattle.code_theory.proofs.LeastDistance.{codeword-narrow}
 use Rattle.code_theory.proofs.ChunkReading.{reading-first, reading-passed}
 use Rattle.chunk.proofs.GrayStep.{word-next}
 
@@ -78,9 +79,8 @@ module _ (C : Code) (sound : Sound C) (x : ℕ) (fits : x < 2 ^ C .n) (t : ℕ) 
   far-of-ones : (j : ℕ) → chunkDistance C (bit x) j ≡ ones (bitXor (sumOfRows (C .row) (C .k) (gray j)) x)
   unfolding chunkDistance codeword
   far-of-ones j =
-      let narrow : codeword C j < 2 ^ C .n =
-      rows-below (C .n) (C .row) (C .k) (gray j) (λ z l. sound .narrow z (omega (arith, sound .k-high))) in
-      sym (weight-xor (C .n) (codeword C j) x) ∙ weight-ones (C .n) (bitXor (codeword C j) x) (xor-lt (C .n) (codeword C j) x narrow fits)
+      sym (weight-xor (C .n) (codeword C j) x)
+      ∙ weight-ones (C .n) (bitXor (codeword C j) x) (xor-lt (C .n) (codeword C j) x (codeword-narrow C sound j) fits)
 
   here : chunkDistance C (bit x) i ≡ ones (bitXor word x)
   here = far-of-ones i ∙ ap (λ (w : ℕ). ones (bitXor w x)) (sym (at .current))
