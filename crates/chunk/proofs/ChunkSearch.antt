@@ -7,7 +7,6 @@ use Prim.Native.Nat.{ℕ, _+_, _-_, _^_, _≤_, _<_}
 use native.Mathlib.Omega.{arith}
 use lib.Bits.{bitAnd, bitXor, xor-lt}
 use lib.Count.{trailingZeros, ones}
-use lib.Pow.{pow-pos}
 use Rattle.bits.specs.Places.{bit}
 use Rattle.bits.proofs.Binary.{weight-ones, weight-xor}
 use Rattle.bits.proofs.LowestOne.{one-fewer}
@@ -17,10 +16,9 @@ use Rattle.model.specs.Order.{gray, codeword}
 use Rattle.model.specs.Reading.{chunkDistance, chunkReading}
 use Rattle.model.specs.declared.Chunk.the-variants.{Codeword, Unreadable}
 use Rattle.code_theory.specs.Promise.{Sound}
-use Rattle.code_theory.proofs.Codewords.{rows-start}
 use Rattle.code_theory.proofs.LeastDistance.{codeword-narrow}
 use Rattle.code_theory.proofs.ChunkReading.{reading-first, reading-passed}
-use Rattle.chunk.proofs.GrayStep.{word-next}
+use Rattle.chunk.proofs.GrayStep.{AtSet, set-start, set-next}
 
 -- ---- the bits of one codeword
 
@@ -47,34 +45,24 @@ counted-past t d count rest all more far =
 
 -- the search stands at codeword i of last, which is in word, and the codewords before it lie farther than t from the chunk x
 pub record AtCandidate (k : ℕ) (row : ℕ → ℕ) (t x last word i : ℕ) : Type 0 where
-  pub end : last + 1 ≡ 2 ^ k
-  pub within : i ≤ last
-  pub current : word ≡ sumOfRows row k (gray i)
+  pub at : AtSet k row last word i
   pub passed : (j : ℕ) → j < i → t < ones (bitXor (sumOfRows row k (gray j)) x)
 
 module _ (k : ℕ) (row : ℕ → ℕ) (t x : ℕ) where
   pub search-starts : (two : ℕ) → two ≡ 2 ^ k → AtCandidate k row t x (two - 1) 0 0
-  search-starts two e =
-      record {
-        end = omega (arith, pow-pos k);
-        within = omega arith;
-        current = sym (rows-start row k);
-        passed = λ j b. absurd (omega arith);
-      }
+  search-starts two e = record { at = set-start e; passed = λ j b. absurd (omega arith) }
 
   pub search-goes-on : k ≤ 12 → (last word i : ℕ) → AtCandidate k row t x last word i → (i ≡ last → ⊥)
       → t < ones (bitXor word x) → AtCandidate k row t x last (bitXor word (row (trailingZeros 32 (i + 1)))) (i + 1)
-  search-goes-on twelve last word i at more far =
+  search-goes-on twelve last word i stand more far =
       record {
-        end = at .end;
-        within = omega (arith, at .within);
-        current = word-next k i twelve (omega (arith, at .end, at .within)) row word (at .current);
+        at = set-next twelve (stand .at) (omega (arith, stand .at .within));
         passed = λ j b.
-            ⊎-elim (λ (e : j ≡ i). rw (e, ← at .current) far) (λ (ne : j ≡ i → ⊥). at .passed j (omega arith)) (eq-or-ne j i);
+            ⊎-elim (λ (e : j ≡ i). rw (e, ← stand .at .current) far) (λ (ne : j ≡ i → ⊥). stand .passed j (omega arith)) (eq-or-ne j i);
       }
 
 module _ (C : Code) (sound : Sound C) (x : ℕ) (fits : x < 2 ^ C .n) (t : ℕ) (is-radius : t ≡ radius C)
-    (last word i : ℕ) (at : AtCandidate (C .k) (C .row) t x last word i) where
+    (last word i : ℕ) (stand : AtCandidate (C .k) (C .row) t x last word i) where
   -- codeword and chunk are numbers of n places, so the ones of their exclusive-or are the places in which they differ
   far-of-ones : (j : ℕ) → chunkDistance C (bit x) j ≡ ones (bitXor (sumOfRows (C .row) (C .k) (gray j)) x)
   unfolding chunkDistance codeword
@@ -83,19 +71,19 @@ module _ (C : Code) (sound : Sound C) (x : ℕ) (fits : x < 2 ^ C .n) (t : ℕ) 
       ∙ weight-ones (C .n) (bitXor (codeword C j) x) (xor-lt (C .n) (codeword C j) x (codeword-narrow C sound j) fits)
 
   here : chunkDistance C (bit x) i ≡ ones (bitXor word x)
-  here = far-of-ones i ∙ ap (λ (w : ℕ). ones (bitXor w x)) (sym (at .current))
+  here = far-of-ones i ∙ ap (λ (w : ℕ). ones (bitXor w x)) (sym (stand .at .current))
 
   before : (j : ℕ) → j < i → radius C < chunkDistance C (bit x) j
-  before j b = rw (far-of-ones j, ← is-radius) (at .passed j b)
+  before j b = rw (far-of-ones j, ← is-radius) (stand .passed j b)
 
   pub search-found : (count : ℕ) → count ≡ ones (bitXor word x) → count ≤ t → Codeword i count ≡ chunkReading C (bit x)
   search-found count e close =
       sym
-      (reading-first C (bit x) i (omega (arith, at .end, at .within)) before (omega (arith, here, is-radius))
+      (reading-first C (bit x) i (omega (arith, stand .at .end, stand .at .within)) before (omega (arith, here, is-radius))
       ∙ ap (Codeword i) (here ∙ sym e))
 
   pub search-failed : i ≡ last → t < ones (bitXor word x) → Unreadable ≡ chunkReading C (bit x)
   search-failed done far =
       sym
       (reading-passed C (bit x)
-      (λ j b. ⊎-elim (λ (e : j ≡ i). rw (e, here, ← is-radius) far) (λ (ne : j ≡ i → ⊥). before j (omega (arith, at .end))) (eq-or-ne j i)))
+      (λ j b. ⊎-elim (λ (e : j ≡ i). rw (e, here, ← is-radius) far) (λ (ne : j ≡ i → ⊥). before j (omega (arith, stand .at .end))) (eq-or-ne j i)))

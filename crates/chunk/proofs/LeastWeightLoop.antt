@@ -19,10 +19,10 @@ use Rattle.bits.proofs.Numbers.{eq-or-ne}
 use Rattle.model.specs.Card.{sumOfRows}
 use Rattle.model.specs.Order.{gray}
 use Rattle.code_theory.specs.LeastOfSets.{leastOfSets}
-use Rattle.code_theory.proofs.Codewords.{rows-start, rows-below}
+use Rattle.code_theory.proofs.Codewords.{rows-below}
 use Rattle.code_theory.proofs.Gray.{gray-zero, gray-below, gray-positive, gray-onto}
 use Rattle.code_theory.proofs.LeastOfSets.{AtMostEach, least-in-any-order}
-use Rattle.chunk.proofs.GrayStep.{row-below, word-next}
+use Rattle.chunk.proofs.GrayStep.{AtSet, set-start, row-below, set-next}
 use Rattle.chunk.proofs.LeastOf.{LeastOf, least-of-same}
 use Rattle.chunk.proofs.LowSums.{Table}
 use Rattle.chunk.proofs.Rows.{Narrow}
@@ -38,9 +38,7 @@ AtMostMet low high row h b = (i j : ℕ) → i ≤ h → j < 2 ^ low → 0 < i +
 
 -- the loop stands at set h of last of the rows behind, whose sum is in word, and least is the least of n and the weights met
 pub record AtBehind (n low high : ℕ) (row : ℕ → ℕ) (last word least h : ℕ) : Type 0 where
-  pub end : last + 1 ≡ 2 ^ high
-  pub within : h ≤ last
-  pub current : word ≡ sumOfRows (behind low row) high (gray h)
+  pub at : AtSet high (behind low row) last word h
   pub at-most-n : least ≤ n
   pub at-most-met : AtMostMet low high row h least
   pub greatest : (b : ℕ) → b ≤ n → AtMostMet low high row h b → b ≤ least
@@ -106,12 +104,10 @@ module _ {n low high : ℕ} {row : ℕ → ℕ} where
   pub at-start : (sums : List ℕ) {two size least : ℕ} → Table low row sums → two ≡ 2 ^ high → size ≡ 2 ^ low
       → LeastOf (λ j. ones (bitXor (getD sums j 0) 0)) 1 size n least → AtBehind n low high row (two - 1) 0 least 0
   at-start sums {least = least} table is-two is-size found =
-      let none : 0 ≡ sumOfRows (behind low row) high (gray 0) = sym (rows-start (behind low row) high) in
-      let (at-most, at-most-each, greatest) = of-table low high row sums 0 0 1 n least table none (rw (← is-size) found) in
+      let none : AtSet high (behind low row) _ 0 0 = set-start is-two in
+      let (at-most, at-most-each, greatest) = of-table low high row sums 0 0 1 n least table (none .current) (rw (← is-size) found) in
       record {
-        end = omega (arith, pow-pos high);
-        within = omega arith;
-        current = none;
+        at = none;
         at-most-n = at-most;
         at-most-met = λ i j l m pos. let first : i ≡ 0 = omega arith in rw first (at-most-each j (omega arith) m);
         greatest = λ b hi all. greatest b hi (λ j lo m. all 0 j (omega arith) m (omega arith));
@@ -120,41 +116,38 @@ module _ {n low high : ℕ} {row : ℕ → ℕ} where
   -- the row that is added is one of the twelve
   pub row-behind : low + high ≤ 12 → {last word least h : ℕ} → AtBehind n low high row last word least h → h < last
       → low + trailingZeros 32 (h + 1) < 12
-  row-behind twelve {h = h} at more = omega (arith, row-below high h (omega arith) (omega arith))
+  row-behind twelve stand more = omega (arith, row-below (omega arith) (stand .at) more)
 
   -- a turn
   pub at-next : high ≤ 12 → (sums : List ℕ) {size last word least h least′ : ℕ} → Table low row sums → size ≡ 2 ^ low
       → AtBehind n low high row last word least h → h < last
       → let next = bitXor word (row (low + trailingZeros 32 (h + 1))) in
       LeastOf (λ j. ones (bitXor (getD sums j 0) next)) 0 size least least′ → AtBehind n low high row last next least′ (h + 1)
-  at-next twelve sums {word = word} {least = least} {h = h} {least′ = least′} table is-size at more found =
-      let next : ℕ = bitXor word (row (low + trailingZeros 32 (h + 1))) in
-      let current : next ≡ sumOfRows (behind low row) high (gray (h + 1)) =
-      word-next high h twelve (omega arith) (behind low row) word (at .current) in
-      let (at-most, at-most-each, greatest) = of-table low high row sums (h + 1) next 0 least least′ table current (rw (← is-size) found) in
+  at-next twelve sums {least = least} {h = h} {least′ = least′} table is-size stand more found =
+      let next = set-next twelve (stand .at) more in
+      let (at-most, at-most-each, greatest) =
+      of-table low high row sums (h + 1) _ 0 least least′ table (next .current) (rw (← is-size) found) in
       record {
-        end = at .end;
-        within = omega arith;
-        current = current;
+        at = next;
         at-most-n = omega arith;
         at-most-met =
             λ i j l m pos.
             ⊎-elim (λ (last : i ≡ h + 1). rw last (at-most-each j (omega arith) m))
-            (λ (other : i ≡ h + 1 → ⊥). omega (arith, at .at-most-met i j (omega arith) m pos))
+            (λ (other : i ≡ h + 1 → ⊥). omega (arith, stand .at-most-met i j (omega arith) m pos))
             (eq-or-ne i (h + 1));
         greatest =
             λ b hi all.
-            greatest b (at .greatest b hi (λ i j l m pos. all i j (omega arith) m pos))
+            greatest b (stand .greatest b hi (λ i j l m pos. all i j (omega arith) m pos))
             (λ j lo m. all (h + 1) j (omega arith) m (omega arith));
       }
 
   -- at the end all nonempty sets are met
   pub at-end : {k last word least h : ℕ} → low + high ≡ k → AtBehind n low high row last word least h → last ≤ h
       → Narrow n k row → least ≡ leastOfSets n k row (2 ^ k - 1)
-  at-end {least = least} {h = h} is-k at done =
+  at-end {least = least} {h = h} is-k stand done =
       let all : h ≡ 2 ^ high - 1 = omega arith in
       rw (← is-k)
       (λ narrow.
-      least-in-any-order n (low + high) row least (at .at-most-n)
-      (each-met n low high row narrow least (rw all at (at .at-most-met)))
-      (λ b hi each. at .greatest b hi (rw all (only-met n low high row narrow b each))))
+      least-in-any-order n (low + high) row least (stand .at-most-n)
+      (each-met n low high row narrow least (rw all at (stand .at-most-met)))
+      (λ b hi each. stand .greatest b hi (rw all (only-met n low high row narrow b each))))

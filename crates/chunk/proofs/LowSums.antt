@@ -7,12 +7,12 @@ use native.Mathlib.Omega.{arith}
 use lib.Bits.{bitXor}
 use lib.Count.{trailingZeros}
 use lib.ListN.{length, getD, set, length-set}
-use lib.Pow.{pow-pos, pow-mono}
+use lib.Pow.{pow-mono}
 use Rattle.bits.proofs.FilledList.{one-entry-more}
 use Rattle.model.specs.Card.{sumOfRows}
 use Rattle.model.specs.Order.{gray}
 use Rattle.code_theory.proofs.Codewords.{rows-start}
-use Rattle.chunk.proofs.GrayStep.{word-next}
+use Rattle.chunk.proofs.GrayStep.{AtSet, set-start, set-next}
 
 -- entry j is the sum of set j of the low rows
 abbrev pub Table : (low : ℕ) (row : ℕ → ℕ) (sums : List ℕ) → Type 0
@@ -20,10 +20,8 @@ Table low row sums = (j : ℕ) → j < 2 ^ low → getD sums j 0 ≡ sumOfRows r
 
 -- the loop stands at entry i of last: the entries up to it stand in sums, and it is in sum
 pub record AtSum (low : ℕ) (row : ℕ → ℕ) (last : ℕ) (sums : List ℕ) (sum i : ℕ) : Type 0 where
-  pub end : last + 1 ≡ 2 ^ low
-  pub within : i ≤ last
+  pub at : AtSet low row last sum i
   pub whole : length sums ≡ 32
-  pub current : sum ≡ sumOfRows row low (gray i)
   pub entries : (j : ℕ) → j < i + 1 → getD sums j 0 ≡ sumOfRows row low (gray j)
 
 module _ {low : ℕ} {row : ℕ → ℕ} where
@@ -32,33 +30,27 @@ module _ {low : ℕ} {row : ℕ → ℕ} where
       → AtSum low row (two - 1) sums 0 0
   sum-start is-two whole first =
       record {
-        end = omega (arith, pow-pos low);
-        within = omega arith;
+        at = set-start is-two;
         whole = whole;
-        current = sym (rows-start row low);
         entries = λ j l. let none : j ≡ 0 = omega arith in rw none (first ∙ sym (rows-start row low));
       }
 
   -- the next entry is one of the table's 32
   pub sum-room : low ≤ 5 → {last : ℕ} {sums : List ℕ} {sum i : ℕ} → AtSum low row last sums sum i → i < last → i + 1 < 32
-  sum-room five at more = omega (arith, pow-mono {i = low} {j = 5} five)
+  sum-room five stand more = omega (arith, pow-mono {i = low} {j = 5} five)
 
   -- a turn
   pub sum-next : low ≤ 5 → {last : ℕ} {sums : List ℕ} {sum i : ℕ} → AtSum low row last sums sum i → i < last
       → let next = bitXor sum (row (trailingZeros 32 (i + 1))) in AtSum low row last (set sums (i + 1) next) next (i + 1)
-  sum-next five {sums = sums} {sum = sum} {i = i} at more =
-      let next : ℕ = bitXor sum (row (trailingZeros 32 (i + 1))) in
-      let current : next ≡ sumOfRows row low (gray (i + 1)) =
-      word-next low i (omega arith) (omega arith) row sum (at .current) in
-      let room : i + 1 < length sums = omega (arith, sum-room five at more) in
+  sum-next five {sums = sums} {i = i} stand more =
+      let next = set-next (omega arith) (stand .at) more in
+      let room : i + 1 < length sums = omega (arith, sum-room five stand more) in
       record {
-        end = at .end;
-        within = omega arith;
-        whole = simp length-set (at .whole);
-        current = current;
-        entries = one-entry-more (λ j. sumOfRows row low (gray j)) sums (i + 1) next room (at .entries) current;
+        at = next;
+        whole = simp length-set (stand .whole);
+        entries = one-entry-more (λ j. sumOfRows row low (gray j)) sums (i + 1) _ room (stand .entries) (next .current);
       }
 
   -- at the end the table is full
   pub sum-end : {last : ℕ} {sums : List ℕ} {sum i : ℕ} → AtSum low row last sums sum i → last ≤ i → Table low row sums
-  sum-end at done j below = at .entries j (omega arith)
+  sum-end stand done j below = stand .entries j (omega arith)

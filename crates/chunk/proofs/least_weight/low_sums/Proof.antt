@@ -33,8 +33,7 @@ add-i c = search needs
 
 -- the number of the row that is added
 row : (c : tie.In-loop Inv-loop μ-loop) → trailingZeros 32 (c .before .loop .i + 1) < 12
-row c =
-    let first = c .before .before .before in row-of-twelve (first .args .low) (c .before .loop .i) (omega arith) (omega arith)
+row c = row-of-twelve (omega arith) (c .before .loop .inv .at) (c .loop-test .taken)
 
 -- the number of the entry that is written
 room : (c : tie.In-loop Inv-loop μ-loop) → c .before .loop .i + 1 < 32

@@ -70,7 +70,7 @@ row : (c : tie.Else3 Inv-bits μ-bits Inv-loop μ-loop) → trailingZeros 32 (c 
 row c =
     let at = c .before .before .before .before in
     let first = at .before .before .before .before in
-    row-of-twelve (first .args .code .k) (at .loop .i) (first .pre .0 .k-high) (omega (arith, at .loop .inv .end, at .loop .inv .within))
+    row-of-twelve (first .pre .0 .k-high) (at .loop .inv .at) (omega (arith, at .loop .inv .at .within))
 
 add-i : tie.Need-add-i Inv-bits μ-bits Inv-loop μ-loop
 add-i c = search needs
