@@ -6,7 +6,7 @@ use mathlib.Core.Bool.{not}
 use mathlib.Core.List.{List}
 use mathlib.Core.Logic.{⊎-elim}
 use borrow.Author.Tests.{lt-ltb, le-ltb, lt-leb, le-leb, ne-eqb}
-use native.Mathlib.Nat.{div-eq-of-lt, le-div-iff-mul-le, lt-of-le-of-lt, lt-of-lt-of-le, mul-le-mul-right}
+use native.Mathlib.Nat.{div-eq-of-lt, le-div-iff-mul-le, lt-of-le-of-lt, lt-of-lt-of-le}
 use native.Mathlib.Numerals.{add-one}
 use native.Mathlib.Omega.{arith}
 use lib.Bits.{bitXor}
@@ -16,6 +16,7 @@ use lib.Pow.{pow-pos, pow-mono}
 use Rattle.bits.specs.Places.{bit}
 use Rattle.bits.proofs.Numbers.{lt-or-le}
 use Rattle.model.specs.Card.{highFirst, rowOf, sumOfRows}
+use Rattle.code_theory.proofs.Codewords.{at-most-once}
 
 -- ---- where they stand
 
@@ -62,5 +63,4 @@ rows-more row z g = rw (add-one z)
 -- a row taken once at most fits 64 bits
 pub row-fits : (b row n : ℕ) → b < 2 → row < 2 ^ n → n ≤ 64 → b * row < 2 ^ 64
 row-fits b row n h narrow width =
-    let once : b * row ≤ 1 * row = mul-le-mul-right row (omega arith) in
-    lt-of-le-of-lt {m = row} (omega arith) (lt-of-lt-of-le narrow (pow-mono {i = n} {j = 64} width))
+    lt-of-le-of-lt (at-most-once b row h) (lt-of-lt-of-le narrow (pow-mono {i = n} {j = 64} width))

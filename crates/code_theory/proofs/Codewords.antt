@@ -66,6 +66,10 @@ rows-of-one row (suc k) z l =
     rw (bit-pow-other z k (λ e. ne (sym e)), rows-of-one row k z (omega arith), zero-mul) (xor-zero-r (row z)))
     (eq-or-ne z k)
 
+-- a row taken once at most adds no more than the row
+pub at-most-once : (b r : ℕ) → b < 2 → b * r ≤ r
+at-most-once b r l = let m : b * r ≤ 1 * r = mul-le-mul-right r (omega arith) in omega arith
+
 -- a sum of rows that are below 2 ^ n is below 2 ^ n
 pub rows-below : (n : ℕ) (row : ℕ → ℕ) (k g : ℕ) → ((z : ℕ) → z < k → row z < 2 ^ n) → sumOfRows row k g < 2 ^ n
 unfolding sumOfRows
@@ -73,9 +77,6 @@ rows-below n row zero g h = pow-pos n
 rows-below n row (suc k) g h =
     xor-lt n (sumOfRows row k g) (bit g k * row k) (rows-below n row k g (λ z l. h z (omega arith)))
     (lt-of-le-of-lt (at-most-once (bit g k) (row k) (bit-bit g k)) (h k (omega arith)))
-  where
-    at-most-once : (b r : ℕ) → b < 2 → b * r ≤ r
-    at-most-once b r l = let m : b * r ≤ 1 * r = mul-le-mul-right r (omega arith) in omega arith
 
 -- the Gray order starts at the sum of no rows
 pub rows-start : (row : ℕ → ℕ) (k : ℕ) → sumOfRows row k (gray 0) ≡ 0
