@@ -101,8 +101,8 @@ module _ (C : Code) (promise : ChunkPromise C) (x : ℕ → ℕ) (i m : ℕ) (in
   first-part : majority (C .D) x ≡ (i + 1) % 2 → majority (C .D) (separator₂ C x) ≡ i % 2
       → m < 2 * C .D + changedWeight C i → Allows C x (start C i + m)
   first-part s₁ s₂ h =
-      by-rule₂ C x _ _ i _ (record { first = s₁; second = s₂; third = w .separator₃-old (omega arith) }) parities-differ (w .chunk₂-old (omega arith)) inside
-      (omega arith) (omega arith)
+      by-rule₂ C x _ _ i _ (record { first = s₁; second = s₂; third = w .separator₃-old (omega arith) }) parities-differ
+      (w .chunk₂-old (omega arith)) inside (omega arith) (omega arith)
 
   last-part : majority (C .D) (separator₂ C x) ≡ (i + 1) % 2 → majority (C .D) (separator₃ C x) ≡ i % 2
       → C .D + changedWeight C i ≤ m → Allows C x (start C i + m)

@@ -69,7 +69,7 @@ module _ (C : Code) (i : ℕ) where
       code-bit p = mod-lt _ (omega arith)
 
 -- a word's places in the order of its chunks
-pub word-in-order : (C : Code) → wordBits C ≡ C .D + C .n + C .D + C .n + C .D
+word-in-order : (C : Code) → wordBits C ≡ C .D + C .n + C .D + C .n + C .D
 word-in-order C = omega arith
 
 -- the distance of two words is the sum of the distances of their chunks

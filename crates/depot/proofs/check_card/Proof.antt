@@ -1,4 +1,4 @@
--- `depot::check_card` meets its contract: it is answered what is right for whichever card was decoded so, and this card was.
+-- `depot::check_card` meets its contract: `card_answer` answers for every card that decodes to its argument, and this card does.
 -- Assumes nothing.
 use borrow.Author.Needs.{needs}
 use Rattle.depot.proofs.check_card.Statement.{statement}
