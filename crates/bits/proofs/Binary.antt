@@ -7,7 +7,7 @@ use native.Mathlib.Nat.{lt-of-lt-of-le, zero-lt-suc, zero-add, add-zero, pow-suc
 use native.Mathlib.Nat.{div-div-eq-div-mul, mod-lt, mod-one, mod-eq-of-lt, mod-add-mod, add-mod-mod, mul-add-mod-self-right}
 use native.Mathlib.Numerals.{one-add}
 use native.Mathlib.Omega.{arith}
-use lib.Bits.{bitXor, differ, xor-step, xor-shr}
+use lib.Bits.{bitXor, differ, xor-step, xor-shr, xor-lt}
 use lib.Count.{ones, ones-cat}
 use lib.Pow.{pow-pos, pow-mono, mod-pow-add}
 use Rattle.bits.specs.Sums.{sumBelow, unlike, distance}
@@ -138,3 +138,7 @@ ones-below (suc n) x =
 
 pub weight-ones : (n x : ℕ) → x < 2 ^ n → weight n x ≡ ones x
 weight-ones n x h = ones-below n x ∙ ap ones (mod-eq-of-lt h)
+
+-- two numbers below 2 ^ n differ in as many places as their exclusive-or has ones
+pub ones-xor : (n x y : ℕ) → x < 2 ^ n → y < 2 ^ n → ones (bitXor x y) ≡ distance n (bit x) (bit y)
+ones-xor n x y hx hy = sym (weight-ones n (bitXor x y) (xor-lt n x y hx hy)) ∙ weight-xor n x y

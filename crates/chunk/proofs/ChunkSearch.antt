@@ -5,10 +5,10 @@ use mathlib.Core.Path.{_≡_, sym, ap, _∙_}
 use mathlib.Core.Logic.{⊎-elim}
 use Prim.Native.Nat.{ℕ, _+_, _-_, _^_, _≤_, _<_}
 use native.Mathlib.Omega.{arith}
-use lib.Bits.{bitAnd, bitXor, xor-lt}
+use lib.Bits.{bitAnd, bitXor}
 use lib.Count.{trailingZeros, ones}
 use Rattle.bits.specs.Places.{bit}
-use Rattle.bits.proofs.Binary.{weight-ones, weight-xor}
+use Rattle.bits.proofs.Binary.{ones-xor}
 use Rattle.bits.proofs.LowestOne.{one-fewer}
 use Rattle.bits.proofs.Numbers.{eq-or-ne}
 use Rattle.model.specs.Card.{Code, sumOfRows, radius}
@@ -66,9 +66,7 @@ module _ (C : Code) (sound : Sound C) (x : ℕ) (fits : x < 2 ^ C .n) (t : ℕ) 
   -- codeword and chunk are numbers of n places, so the ones of their exclusive-or are the places in which they differ
   far-of-ones : (j : ℕ) → chunkDistance C (bit x) j ≡ ones (bitXor (sumOfRows (C .row) (C .k) (gray j)) x)
   unfolding chunkDistance codeword
-  far-of-ones j =
-      sym (weight-xor (C .n) (codeword C j) x)
-      ∙ weight-ones (C .n) (bitXor (codeword C j) x) (xor-lt (C .n) (codeword C j) x (codeword-narrow C sound j) fits)
+  far-of-ones j = sym (ones-xor (C .n) (codeword C j) x (codeword-narrow C sound j) fits)
 
   here : chunkDistance C (bit x) i ≡ ones (bitXor word x)
   here = far-of-ones i ∙ ap (λ (w : ℕ). ones (bitXor w x)) (sym (stand .at .current))

@@ -1,15 +1,11 @@
--- The distance of two byte lists' places goes byte by byte, and that of two bytes is the count of ones of their exclusive-or.
--- Assumes nothing.
-use mathlib.Core.Path.{_≡_, sym, _∙_}
+-- The distance of two byte lists' places goes byte by byte. Assumes nothing.
+use mathlib.Core.Path.{_≡_}
 use mathlib.Core.List.{List}
-use Prim.Native.Nat.{ℕ, _+_, _*_, _<_}
+use Prim.Native.Nat.{ℕ, _+_, _*_}
 use native.Mathlib.Omega.{arith}
-use lib.Bits.{bitXor, xor-lt}
-use lib.Count.{ones}
 use lib.ListN.{getD}
 use Rattle.bits.specs.Sums.{distance}
 use Rattle.bits.specs.Places.{bit, place}
-use Rattle.bits.proofs.Binary.{weight-xor, weight-ones}
 use Rattle.bits.proofs.Distance.{distance-ext, distance-split}
 use Rattle.bits.proofs.Places.{places-of-byte}
 
@@ -24,7 +20,3 @@ distance-byte a b j =
       distance-split (8 * j) 8 (place a) (place b),
       distance-ext 8 (places-of-byte a j) (places-of-byte b j),
     )
-
--- two bytes
-pub ones-of-bytes : (x y : ℕ) → x < 256 → y < 256 → ones (bitXor x y) ≡ distance 8 (bit x) (bit y)
-ones-of-bytes x y hx hy = sym (weight-ones 8 (bitXor x y) (xor-lt 8 x y hx hy)) ∙ weight-xor 8 x y

@@ -45,11 +45,11 @@ first-word C sound w holds p =
     at-zero : (q : ℕ) → wordAt C 0 q ≡ word C 0 q
     at-zero q = rw (start-zero C) at (word-at-start C (promise C sound) 0 (omega arith) q)
 
+-- an array w put together at a place of those that hold a block's two words
 module _ (C : Code) (i : ℕ) (u v w : List ℕ) (at : ℕ) (words : BlockWords C i u v) (room : at ≤ wordBits C)
     (splice : Spliced u v w at) where
   below : (p : ℕ) → p < at → place w p ≡ word C (i + 1) p
-  below p b =
-      rw (splice p, lt-ltb p at b) (words .new p (omega arith))
+  below p b = rw (splice p, lt-ltb p at b) (words .new p (omega arith))
 
   above : (p : ℕ) → at ≤ p → place w p ≡ place u p
   above p b = rw (splice p, le-ltb p at b)

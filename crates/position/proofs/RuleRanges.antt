@@ -45,11 +45,11 @@ module _ (C : Code) (sound : Sound C) (i : ℕ) (inside : i < lastCodeword C) (x
       answer-of-search C (place x) 2 _ _ s (passed .scanned) (low ∙ omega arith)
       (rw is-chunk₂ at (passed .position-is) ∙ omega (arith, apart-separator₂ C (promise C sound) i inside))
 
-  -- one that begins at separator 3 begins D steps before the next start
-  pub before-next-start : s .low ≡ start C i + distance (C .D + C .n + C .D + C .n) (word C i) (word C (i + 1))
-      → s .low ≡ start C (i + 1) - C .D
-  before-next-start low =
-      low ∙ omega (arith, apart-chunk₂ C (promise C sound) i inside, promise C sound .start-next i inside)
+-- a search that begins at separator 3 begins D steps before the next start
+pub before-next-start : (C : Code) → Sound C → (i : ℕ) → i < lastCodeword C → (low : ℕ)
+    → low ≡ start C i + distance (C .D + C .n + C .D + C .n) (word C i) (word C (i + 1)) → low ≡ start C (i + 1) - C .D
+before-next-start C sound i inside low is =
+    is ∙ omega (arith, apart-chunk₂ C (promise C sound) i inside, promise C sound .start-next i inside)
 
 -- the upper end of rule 3's range: at the last start the track ends there, and at any other it goes on for D steps at least
 pub track-ends : (C : Code) (p : ℕ) → p ≡ lastCodeword C → start C p ≡ min (start C p + C .D) (lastPosition C)

@@ -2,8 +2,8 @@
 -- Assumes nothing.
 use native.Mathlib.Omega.{arith}
 use lib.Bits.{xor-lt}
+use Rattle.bits.proofs.Binary.{ones-xor}
 use Rattle.bits.proofs.Distance.{distance-le}
-use Rattle.position.proofs.ByteDistance.{ones-of-bytes}
 use Rattle.position.proofs.hamming.byte_unlike.Statement.{statement}
 use Rattle.position.proofs.hamming.byte_unlike.Tie as tie
 
@@ -12,7 +12,7 @@ cast-result c = omega (arith, xor-lt 8 (c .args .x) (c .args .y) (c .fits .x .fi
 
 returns : tie.Need-returns
 returns c =
-    let is = ones-of-bytes (c .args .x) (c .args .y) (c .fits .x .fits) (c .fits .y .fits) in
+    let is = ones-xor 8 (c .args .x) (c .args .y) (c .fits .x .fits) (c .fits .y .fits) in
     (is, rw is (distance-le 8 _ _))
 
 pub byte-unlike-spec : {M : Type 1} → statement M

@@ -48,7 +48,7 @@ returns-2 c =
     let i = first .args .p - 1 in
     let here : first .args .p ≡ i + 1 = omega (arith, c .before .before .if1 .left) in
     let inside : i < lastCodeword C = omega (arith, c .before .before .if1 .left, first .pre .2) in
-    let low = before-next-start C (first .pre .0) i inside (first .args .x) (c .search-block .result) (rw (at .separator₃-at) at (search .0)) in
+    let low = before-next-start C (first .pre .0) i inside _ (rw (at .separator₃-at) at (search .0)) in
     let end = at-next-start C (first .pre .0) i inside (first .args .x) (c .search-block .result) (rw (at .bits-are) at (search .1)) in
     (rw (← here) at low, rw (← here) at end, search .1 .scanned)
 
