@@ -1,5 +1,5 @@
 -- The laws of sums over places: a sum is fixed by its values, adds up over parts of its range, and is additive; two sums whose
--- values differ at one place differ by the difference there. Assumes nothing.
+-- values differ at one place differ by the difference there. And what starts at place 0 is the whole. Assumes nothing.
 use mathlib.Core.Path.{_≡_, refl, ap, fun-ext}
 use mathlib.Core.Logic.{⊎-elim}
 use Prim.Native.Nat.{ℕ, zero, suc, _+_, _≤_, _<_}

@@ -1,5 +1,6 @@
 -- The bytes of a position's word: its d places, then spare bits that are zero. So the bytes of two words differ in as many bits as
--- the words, and a residual is the count of bits in which the position's bytes and the received ones differ. Assumes nothing.
+-- the words, a received word of the right length with spare bits zero is read, and a residual is the count of bits in which the
+-- position's bytes and the received ones differ. Assumes nothing.
 use mathlib.Core.Path.{_≡_, sym, _∙_}
 use mathlib.Core.Bool.{false}
 use mathlib.Core.List.{List}
