@@ -6,7 +6,7 @@
  * Prints   position P residual R rule N   or   refused N   . Its exit status is 0 if the word was read, 1 if it was refused, and 2
  * if the arguments or the file are of no use. Built by
  *
- *     cc -Iinclude -o read_word examples/read_word.c target/staticlib/libcapi.a
+ *     cc -Iinclude -o read_word examples/read_word.c target/staticlib/libdunnavish.a
  */
 #include <errno.h>
 #include <stdio.h>

@@ -2,8 +2,8 @@
  * Dunnavish: position words of trams on stabling tracks, for programs in C.
  *
  * Five calls: check a track card, write the word of a position, read a received word, the start of a block, and the distance of
- * a position in millimetres. The archive is target/staticlib/libcapi.a, for x86-64 Linux; `rt staticlib capi` builds it. Link it
- * as   cc program.c libcapi.a   (it needs memcpy and nothing else).
+ * a position in millimetres. The archive is target/staticlib/libdunnavish.a, for x86-64 Linux; `rt staticlib dunnavish` builds it. Link it
+ * as   cc program.c libdunnavish.a   (it needs memcpy and nothing else).
  *
  * A call answers with its status: 0 (DUNNAVISH_OK), or the number of the one reason why it could not be served, below. Whenever
  * the status is not 0, no byte and no number that was lent has changed. Every call ends, whatever the bytes and numbers are.

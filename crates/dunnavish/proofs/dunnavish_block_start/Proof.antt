@@ -1,20 +1,20 @@
--- `capi::dunnavish_millimetres` meets its contract: the count of the lent numbers, then what the library answered.
+-- `dunnavish::dunnavish_block_start` meets its contract: the count of the lent numbers, then what the library answered.
 -- Assumes nothing.
 use mathlib.Core.Path.{sym, _∙_}
 use mathlib.Core.List.{[], _∷_}
 use borrow.Author.Needs.{needs}
 use Rattle.model.specs.Numbers.{numberStatus, numberValues}
-use Rattle.capi.specs.Crossing.{numberCount}
-use Rattle.capi.proofs.Lent.{wrong-count-changes-nothing, refusal-changes-nothing, values-are-left, all-stored}
-use Rattle.capi.proofs.NonzeroRefusals.{millimetres-refusal-nonzero}
-use Rattle.capi.proofs.dunnavish_millimetres.Statement.{statement}
-use Rattle.capi.proofs.dunnavish_millimetres.Tie as tie
+use Rattle.dunnavish.specs.Crossing.{numberCount}
+use Rattle.dunnavish.proofs.Lent.{wrong-count-changes-nothing, refusal-changes-nothing, values-are-left, all-stored}
+use Rattle.dunnavish.proofs.NonzeroRefusals.{start-refusal-nonzero}
+use Rattle.dunnavish.proofs.dunnavish_block_start.Statement.{statement}
+use Rattle.dunnavish.proofs.dunnavish_block_start.Tie as tie
 
 returns : tie.Need-returns
 returns c = wrong-count-changes-nothing numberCount _ (c .if1 .taken) _ _
 
-millimetres-requires : tie.Need-millimetres-requires
-millimetres-requires c κs = search needs
+block-start-requires : tie.Need-block-start-requires
+block-start-requires c κs = search needs
 
 enum-known-answer : tie.Need-enum-known-answer
 enum-known-answer c = search needs
@@ -29,8 +29,8 @@ returns-2 : tie.Need-returns-2
 unfolding numberStatus numberValues
 returns-2 c =
     let asked = c .before .before .before in
-    let refused = sym (asked .millimetres .ensures) ∙ c .before .answer .given .1 in
-    rw refused (refusal-changes-nothing numberCount _ (asked .before .if1 .left) _ (millimetres-refusal-nonzero _ _ refused) _)
+    let refused = sym (asked .block-start .ensures) ∙ c .before .answer .given .1 in
+    rw refused (refusal-changes-nothing numberCount _ (asked .before .if1 .left) _ (start-refusal-nonzero _ _ refused) _)
 
 same-length : tie.Need-same-length
 same-length c = search needs
@@ -40,15 +40,15 @@ unfolding numberStatus numberValues
 returns-3 c =
     let asked = c .before .before .before in
     let alike = asked .before .if1 .left in
-    rw (sym (asked .millimetres .ensures) ∙ c .before .answer2 .given .1, all-stored (_ ∷ []) _ alike)
+    rw (sym (asked .block-start .ensures) ∙ c .before .answer2 .given .1, all-stored (_ ∷ []) _ alike)
     (values-are-left numberCount _ alike _)
 
-pub dunnavish-millimetres-spec : {M : Type 1} → statement M
-dunnavish-millimetres-spec =
+pub dunnavish-block-start-spec : {M : Type 1} → statement M
+dunnavish-block-start-spec =
     tie.close
     (tie.spec
     returns
-    millimetres-requires
+    block-start-requires
     enum-known-answer
     enum-known-answer-2
     slice-write-values

@@ -1,4 +1,4 @@
--- `capi::dunnavish_check_card` meets its contract: the count of the lent numbers, then what the library answered.
+-- `dunnavish::dunnavish_check_card` meets its contract: the count of the lent numbers, then what the library answered.
 -- Assumes nothing.
 use mathlib.Core.Path.{sym, _∙_}
 use mathlib.Core.List.{[], _∷_}
@@ -6,11 +6,11 @@ use native.Mathlib.Omega.{arith}
 use borrow.Author.Needs.{needs}
 use lib.ListN.{length-set}
 use Rattle.model.specs.Numbers.{cardStatus, cardValues}
-use Rattle.capi.specs.Crossing.{cardCount}
-use Rattle.capi.proofs.Lent.{wrong-count-changes-nothing, refusal-changes-nothing, values-are-left, all-stored}
-use Rattle.capi.proofs.NonzeroRefusals.{card-refusal-nonzero}
-use Rattle.capi.proofs.dunnavish_check_card.Statement.{statement}
-use Rattle.capi.proofs.dunnavish_check_card.Tie as tie
+use Rattle.dunnavish.specs.Crossing.{cardCount}
+use Rattle.dunnavish.proofs.Lent.{wrong-count-changes-nothing, refusal-changes-nothing, values-are-left, all-stored}
+use Rattle.dunnavish.proofs.NonzeroRefusals.{card-refusal-nonzero}
+use Rattle.dunnavish.proofs.dunnavish_check_card.Statement.{statement}
+use Rattle.dunnavish.proofs.dunnavish_check_card.Tie as tie
 
 returns : tie.Need-returns
 returns c = wrong-count-changes-nothing cardCount _ (c .if1 .taken) _ _

@@ -1,14 +1,14 @@
--- `capi::dunnavish_read_word` meets its contract: the count of the lent numbers, then what the library answered.
+-- `dunnavish::dunnavish_read_word` meets its contract: the count of the lent numbers, then what the library answered.
 -- Assumes nothing.
 use mathlib.Core.Path.{sym, _∙_}
 use mathlib.Core.List.{[], _∷_}
 use borrow.Author.Needs.{needs}
 use Rattle.model.specs.Numbers.{readStatus, readValues}
-use Rattle.capi.specs.Crossing.{readCount}
-use Rattle.capi.proofs.Lent.{wrong-count-changes-nothing, refusal-changes-nothing, values-are-left, all-stored}
-use Rattle.capi.proofs.NonzeroRefusals.{read-refusal-nonzero}
-use Rattle.capi.proofs.dunnavish_read_word.Statement.{statement}
-use Rattle.capi.proofs.dunnavish_read_word.Tie as tie
+use Rattle.dunnavish.specs.Crossing.{readCount}
+use Rattle.dunnavish.proofs.Lent.{wrong-count-changes-nothing, refusal-changes-nothing, values-are-left, all-stored}
+use Rattle.dunnavish.proofs.NonzeroRefusals.{read-refusal-nonzero}
+use Rattle.dunnavish.proofs.dunnavish_read_word.Statement.{statement}
+use Rattle.dunnavish.proofs.dunnavish_read_word.Tie as tie
 
 returns : tie.Need-returns
 returns c = wrong-count-changes-nothing readCount _ (c .if1 .taken) _ _

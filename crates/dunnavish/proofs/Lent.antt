@@ -7,7 +7,7 @@ use native.Mathlib.Omega.{arith}
 use borrow.Author.Tests.{eq-eqb, ne-eqb}
 use lib.ListN.{length}
 use lib.Seq.{sets, sets-eq, drop-length}
-use Rattle.capi.specs.Crossing.{wrongCount, statusFor, leftBy, UnchangedUnlessZero}
+use Rattle.dunnavish.specs.Crossing.{wrongCount, statusFor, leftBy, UnchangedUnlessZero}
 
 module _ (count : ℕ) (lent : List ℕ) where
   -- what the contract of a call says of its status and of what it leaves, where the answer's status is `answered`

@@ -1,4 +1,4 @@
--- `capi::dunnavish_write_word` meets its contract: the library's own contract says what the lent word holds.
+-- `dunnavish::dunnavish_write_word` meets its contract: the library's own contract says what the lent word holds.
 -- Assumes nothing.
 use mathlib.Core.Path.{_≡_, refl, sym, _∙_}
 use Prim.Native.Nat.{ℕ}
@@ -8,9 +8,9 @@ use Rattle.model.specs.declared.WriteAnswer.{WriteAnswer}
 use Rattle.model.specs.declared.WriteAnswer.the-variants.{Written, Refused}
 use Rattle.position_theory.specs.Demands.{UnchangedIfRefused}
 use Rattle.model.specs.Numbers.{writeStatus}
-use Rattle.capi.specs.Crossing.{UnchangedUnlessZero}
-use Rattle.capi.proofs.dunnavish_write_word.Statement.{statement}
-use Rattle.capi.proofs.dunnavish_write_word.Tie as tie
+use Rattle.dunnavish.specs.Crossing.{UnchangedUnlessZero}
+use Rattle.dunnavish.proofs.dunnavish_write_word.Statement.{statement}
+use Rattle.dunnavish.proofs.dunnavish_write_word.Tie as tie
 
 refused-is-not-written : (answer : WriteAnswer) (refusal : ℕ) → answer ≡ Refused refusal → answer ≡ Written → ⊥
 refused-is-not-written answer refusal refused written = let clash : _≡_ {A = ℕ} 0 1 = cc in omega arith

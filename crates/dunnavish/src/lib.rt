@@ -5,7 +5,7 @@
 ghost use mathlib.Core.Path.{_≡_};
 ghost use Rattle.model.specs.Answers.{cardAnswer, writeAnswer, lentAfterWrite, readAnswer, startAnswer, millimetresAnswer};
 ghost use Rattle.model.specs.Numbers.{cardStatus, cardValues, writeStatus, readStatus, readValues, numberStatus, numberValues};
-ghost use Rattle.capi.specs.Crossing.{cardCount, readCount, numberCount, statusFor, leftBy, UnchangedUnlessZero};
+ghost use Rattle.dunnavish.specs.Crossing.{cardCount, readCount, numberCount, statusFor, leftBy, UnchangedUnlessZero};
 use model::CardAnswer;
 use model::NumberAnswer;
 use model::ReadAnswer;
