@@ -1,66 +1,139 @@
--- A report made turn by turn: what the turns print, one after the other, and then the end, is the report of all the bytes that have
--- come in, however they were divided among the turns. Assumes nothing.
+-- A report made turn by turn: what the turns put out, one after the other, and then the end, is the report of all the bytes that have
+-- come in, however they were divided among the turns. The whole words of what had come in before come first, then those of what
+-- was held and has come in since. Assumes nothing.
 use Prim.Native.Nat.{ℕ, _+_, _*_, _≤_, _<_}
-use mathlib.Core.Path.{_≡_, refl, _∙_}
+use mathlib.Core.Path.{_≡_, sym, ap, _∙_}
 use mathlib.Core.List.{List, [], _++_, append-assoc}
-use native.Mathlib.Nat.{zero-add, div-mul-le-self, mod-eq-sub-div-mul, mod-lt}
+use native.Mathlib.Nat.{zero-add, zero-mul, zero-div, zero-mod, add-mul, div-mul-le-self, mod-lt, mul-add-div-right, mul-add-mod-self-right}
 use native.Mathlib.Omega.{arith}
-use lib.ListN.{length, take, drop, length-drop, take-append-drop}
-use lib.Seq.{length-take-le, take-append-seam}
-use Rattle.model.specs.Card.{Code, codeOf, SoundCard}
-use Rattle.model.specs.Answers.{wordLength, cardAnswer}
-use Rattle.report.specs.Lines.{cardLine, shortLine, lastLine}
+use lib.ListN.{length, take, drop, length-append, take-append-drop}
+use lib.Seq.{length-take-le, take-take, take-append-seam, drop-append-add}
+use Rattle.bits.specs.Sums.{sumBelow}
+use Rattle.bits.proofs.Sums.{sum-of-bits}
+use Rattle.model.specs.Card.{Code}
+use Rattle.model.specs.Answers.{wordLength}
+use Rattle.model.specs.declared.ReadAnswer.{ReadAnswer}
+use Rattle.model.specs.declared.ReadAnswer.the-variants.{At, Refused}
+use Rattle.report.specs.Lines.{shortLine, lastLine}
 use Rattle.report.specs.Puts.{Puts}
-use Rattle.report.specs.Report.{wordLines, wordsRead, reportOf}
+use Rattle.report.specs.Report.{answerAt, wordLines, readCount, wordsRead, wordsReport}
+use Rattle.stream.specs.declared.turn.Progress.{Progress}
 use Rattle.stream.specs.declared.turn.Taken.{Taken}
-use Rattle.stream.specs.TakenIn.{TakenIn}
-use Rattle.stream.proofs.Pieces.{lines-of-first, read-of-first}
-use Rattle.stream.proofs.Whole.{Printed, printed-nothing, printed-more, report-of-sound}
-
--- `all` has come in; `text` has been printed of its whole words, and `held`, the bytes short of a word, is kept
-pub record Streamed (C : Code) (all text held : List ℕ) (met read : ℕ) : Type 0 where
-  pub bytes : List ℕ
-  pub joined : all ≡ bytes ++ held
-  pub printed : Printed C bytes text met read
-  pub short : length held < wordLength C
+use Rattle.stream.specs.Streamed.{Streamed, Reached, Follows, Completes}
+use Rattle.stream.specs.TakenIn.{TakenIn, wholeWords}
+use Rattle.stream.proofs.Pieces.{lines-of-first, lines-in-pieces, read-of-first, read-in-pieces}
 
 -- a text put at the front of a buffer is what stands up to the next place
-text-at-front : {out text out′ : List ℕ} {next : ℕ} → Puts out 0 text out′ next → take next out′ ≡ text
+pub text-at-front : {out text out′ : List ℕ} {next : ℕ} → Puts out 0 text out′ next → take next out′ ≡ text
 text-at-front {out} {text} p = rw (p .bytes, p .place, zero-add) (take-append-seam text (drop (length text) out))
 
+-- a word counts once at most
+count-low : (answer : ReadAnswer) → readCount answer < 2
+unfolding readCount
+count-low (At position residual rule) = omega arith
+count-low (Refused refusal) = omega arith
+
 -- before the first turn
-pub streamed-nothing : (C : Code) → 1 ≤ wordLength C → Streamed C [] [] [] 0 0
-streamed-nothing C some = record { bytes = []; joined = refl; printed = printed-nothing C; short = some }
+pub streamed-nothing : (C : Code) (input : List ℕ) {p : Progress} → p .held ≡ 0 → p .met ≡ 0 → p .read ≡ 0 → Streamed C [] [] input p
+unfolding wordLines wordsRead sumBelow
+streamed-nothing C input held met read =
+    record {
+      met = rw (met, zero-div);
+      read = rw (met, read);
+      held = rw (held, zero-mod);
+      kept = rw (held, met, zero-mul);
+      lines = rw met;
+    }
 
--- a turn: `more` comes in behind what is held, and the turn's lines are printed
-module _ (C : Code) {all text held : List ℕ} {met read : ℕ} (s : Streamed C all text held met read) where
-  pub streamed-turn : (more : List ℕ) {input′ out out′ : List ℕ} {r : Taken} → TakenIn C (held ++ more) met input′ out out′ r
-      → Streamed C (all ++ more) (text ++ take (r .next) out′) (take (r .held) input′) (met + r .words) (read + r .read)
-  streamed-turn more {input′} {out} {out′} {r} taken =
-      let w : ℕ = wordLength C in
-      let arrived : List ℕ = held ++ more in
-      let m : ℕ = r .words in
-      let piece : List ℕ = take (m * w) arrived in
-      let tail : List ℕ = drop (m * w) arrived in
-      let split : piece ++ tail ≡ arrived = take-append-drop (m * w) arrived in
-      let fits : m * w ≤ length arrived = rw (taken .words) (div-mul-le-self (length arrived) w) in
-      let whole : length piece ≡ m * w = length-take-le (m * w) arrived fits in
-      let lines : take (r .next) out′ ≡ wordLines C piece met m =
-      text-at-front (taken .lines) ∙ rw split at (lines-of-first C m piece tail whole met) in
-      let count : r .read ≡ wordsRead C piece m = taken .read ∙ rw split at (read-of-first C m piece tail whole) in
-      record {
-        bytes = s .bytes ++ piece;
-        joined = rw (s .joined, taken .kept, append-assoc (s .bytes) held more, append-assoc (s .bytes) piece tail, split);
-        printed = rw (lines, count) (printed-more C (s .printed) piece m whole);
-        short =
-            rw (taken .kept, length-drop, taken .words, ← (mod-eq-sub-div-mul (length arrived) w))
-            (mod-lt (length arrived) (omega (arith, s .short)));
-      }
+module _ (C : Code) {all text input : List ℕ} {p : Progress} (s : Streamed C all text input p) where
+  -- no more words are read than met
+  pub few-read : p .read ≤ p .met
+  unfolding wordsRead
+  few-read = rw (s .read) (sum-of-bits (λ i. readCount (answerAt C all i)) (p .met) (λ i. count-low (answerAt C all i)))
 
--- the end: all that has been printed is the report of the card and all the bytes
-pub streamed-report : (card : List ℕ) → SoundCard card
-    → {all text held : List ℕ} {met read : ℕ} → Streamed (codeOf card) all text held met read
-    → {out out′ : List ℕ} {next : ℕ} → Puts out 0 (shortLine (length held) ++ lastLine met read) out′ next
-    → reportOf (card ++ all) ≡ cardLine (cardAnswer card) ++ text ++ take next out′
-streamed-report card sound {held = held} s end =
-    rw (s .joined, text-at-front end) (report-of-sound card sound (s .printed) held (s .short) ∙ simp append-assoc)
+  -- fewer bytes are held than a word has
+  pub few-held : 1 ≤ wordLength C → p .held < wordLength C
+  few-held some = rw (s .held) (mod-lt (length all) some)
+
+  -- the bytes of the whole words, and then those held
+  whole : length (take (p .met * wordLength C) all) ≡ p .met * wordLength C
+  whole = length-take-le (p .met * wordLength C) all (rw (s .met) (div-mul-le-self (length all) (wordLength C)))
+
+  joined : take (p .met * wordLength C) all ++ take (p .held) input ≡ all
+  joined = rw (s .kept) (take-append-drop (p .met * wordLength C) all)
+
+  -- a turn: the first n bytes of the buffer, those held and more, are taken in
+  module _ (some : 1 ≤ wordLength C) (n : ℕ) (within : p .held ≤ n) {input′ out out′ : List ℕ} {r : Taken}
+      (taken : TakenIn C (take n input) p input′ out out′ r) where
+    abbrev before : List ℕ
+    before = take (p .met * wordLength C) all
+
+    abbrev arrived : List ℕ
+    arrived = take n input
+
+    abbrev more : List ℕ
+    more = drop (p .held) arrived
+
+    all-joined : all ++ more ≡ before ++ arrived
+    all-joined =
+        let held : List ℕ = take (p .held) input in
+        let split : held ++ more ≡ arrived = rw (take-take (p .held) n input within) at (take-append-drop (p .held) arrived) in
+        ap (λ (l : List ℕ). l ++ more) (sym joined) ∙ append-assoc before held more ∙ ap (λ (l : List ℕ). before ++ l) split
+
+    streamed-turn : Streamed C (all ++ more) (text ++ take (r .next) out′) input′ (r .progress)
+    streamed-turn =
+        let w : ℕ = wordLength C in
+        let m : ℕ = wholeWords C arrived in
+        let held : List ℕ = take (p .held) input in
+        let lines : text ≡ wordLines C before 0 (p .met) =
+        s .lines ∙ rw joined at (lines-of-first C (p .met) before held whole 0) in
+        let count : p .read ≡ wordsRead C before (p .met) = s .read ∙ rw joined at (read-of-first C (p .met) before held whole) in
+        let end : (p .met + m) * w ≡ length before + m * w = rw whole (add-mul (p .met) m w) in
+        rw all-joined
+        record {
+          met = taken .met ∙ rw (length-append, whole) (sym (mul-add-div-right {m = w} some (p .met) (length arrived)));
+          read = rw (taken .met, taken .read, count) (sym (read-in-pieces C (p .met) before arrived whole m));
+          held = taken .held ∙ rw (length-append, whole) (sym (mul-add-mod-self-right (p .met) w (length arrived)));
+          kept = taken .kept ∙ rw (taken .met, end) (sym (drop-append-add before arrived (m * w)));
+          lines =
+              rw (taken .met, text-at-front (taken .lines), lines)
+              (sym (rw zero-add at (lines-in-pieces C (p .met) before arrived whole 0 m)));
+        }
+
+-- a turn that takes in what has come in adds to the report the lines of its words
+pub follows : (C : Code) (input : List ℕ) (n : ℕ) {p : Progress} {input′ out out′ : List ℕ} {r : Taken} → 1 ≤ wordLength C
+    → p .held ≤ n → TakenIn C (take n input) p input′ out out′ r
+    → TakenIn C (take n input) p input′ out out′ r × Follows C input n p (take (r .next) out′) input′ (r .progress)
+unfolding Follows
+follows C input n some within taken = (taken, λ all text s. streamed-turn C s some n within taken)
+
+-- the end completes the report
+pub completes : (p : Progress) {out out′ : List ℕ} {next : ℕ}
+    → Puts out 0 (shortLine (p .held) ++ lastLine (p .met) (p .read)) out′ next → Completes p (take next out′)
+unfolding Completes wordsReport
+completes p put C all text input s =
+    rw (text-at-front put, s .lines, s .held, s .read, s .met) (simp append-assoc)
+
+-- What has been reached: before the first turn, where bytes behind those held are written over, and after a turn.
+pub reached-nothing : (C : Code) (input : List ℕ) {p : Progress} → p .held ≡ 0 → p .met ≡ 0 → p .read ≡ 0 → Reached C input p
+reached-nothing C input held met read = record { all = []; text = []; streamed = streamed-nothing C input held met read }
+
+pub reached-still : {C : Code} {input input′ : List ℕ} {p : Progress} → take (p .held) input′ ≡ take (p .held) input → Reached C input p
+    → Reached C input′ p
+reached-still same reached =
+    let s = reached .streamed in
+    record {
+      all = reached .all;
+      text = reached .text;
+      streamed = record { met = s .met; read = s .read; held = s .held; kept = same ∙ s .kept; lines = s .lines };
+    }
+
+pub reached-turn : (C : Code) (input : List ℕ) (n : ℕ) (p : Progress) (lines input′ : List ℕ) (p′ : Progress)
+    → Follows C input n p lines input′ p′ → Reached C input p → Reached C input′ p′
+unfolding Follows
+reached-turn C input n p lines input′ p′ follows reached =
+    record {
+      all = reached .all ++ drop (p .held) (take n input);
+      text = reached .text ++ lines;
+      streamed = follows (reached .all) (reached .text) (reached .streamed);
+    }

@@ -1,4 +1,6 @@
-// One turn: lines for the words that have come in, and the bytes short of a word kept for the next turn; and the end.
+// One turn: lines for the words that have come in, and the bytes short of a word kept for the next turn; and the end. The contracts
+// say what a turn and the end add to the report, for whatever came in before.
+ghost use mathlib.Core.Path.{_≡_};
 ghost use mathlib.Core.List.{_++_};
 ghost use Prim.Native.Nat.{_+_, _*_, _/_, _^_, _≤_, _<_};
 ghost use lib.ListN.{length, take};
@@ -7,6 +9,7 @@ ghost use Rattle.model.specs.Decoded.{meaning};
 ghost use Rattle.code_theory.specs.Promise.{Sound};
 ghost use Rattle.report.specs.Lines.{shortLine, lastLine, lineRoom};
 ghost use Rattle.report.specs.Puts.{Puts};
+ghost use Rattle.stream.specs.Streamed.{Reached, Follows, Completes};
 ghost use Rattle.stream.specs.TakenIn.{TakenIn};
 use super::tail;
 use super::words;
@@ -14,38 +17,69 @@ use model::DecodedCode;
 use position::layout;
 use report::lines;
 
-// What a turn gives: the place past its lines, the words that it met and those that it read, and the bytes kept.
-pub struct Taken {
-    pub next: usize,
-    pub words: usize,
-    pub read: u64,
+// How a reader of words stands between two turns: the bytes short of a word, which it holds at the front of its buffer, the words
+// that it met, and those of them that were read.
+pub struct Progress {
     pub held: usize,
+    pub met: u64,
+    pub read: u64,
 }
 
-// Takes in the first `n` bytes of the buffer; `met` words came before them.
-pub fn take_in(out: &mut [u8], code: DecodedCode, input: &mut [u8], n: usize, met: u64) -> Taken
+// What a turn gives: the place past its lines, and how the reader then stands.
+pub struct Taken {
+    pub next: usize,
+    pub progress: Progress,
+}
+
+// Before the first turn.
+pub fn nothing_yet() -> Progress
+    ensures { λ r. ⌜ (r .held ≡ 0) × (r .met ≡ 0) × (r .read ≡ 0) ⌝ }
+{
+    Progress {
+        held: 0,
+        met: 0,
+        read: 0,
+    }
+}
+
+// Takes in the first `n` bytes of the buffer: those held, and behind them those that came in since the last turn.
+pub fn take_in(
+    out: &mut [u8],
+    code: DecodedCode,
+    input: &mut [u8],
+    n: usize,
+    before: Progress,
+) -> Taken
     requires { ⌜ Sound (meaning code) ⌝ }
-    requires { ⌜ (n ≤ length (now input)) × (n / wordLength (meaning code) * lineRoom ≤ length (now out)) × (met + n / wordLength (meaning code) < 2 ^ 64) ⌝ }
-    ensures { λ r. ⌜ TakenIn (meaning code) (take n (now (input .entry))) met (now (input .exit)) (now (out .entry)) (now (out .exit)) r ⌝ }
+    requires { ⌜ Reached (meaning code) (now input) before ⌝ }
+    requires { ⌜ (before .held ≤ n) × (n ≤ length (now input)) ⌝ }
+    requires { ⌜ n / wordLength (meaning code) * lineRoom ≤ length (now out) ⌝ }
+    requires { ⌜ before .met + n / wordLength (meaning code) < 2 ^ 64 ⌝ }
+    ensures taken { λ r. ⌜ TakenIn (meaning code) (take n (now (input .entry))) before (now (input .exit)) (now (out .entry)) (now (out .exit)) r ⌝ }
+    ensures follows { λ r. ⌜ Follows (meaning code) (now (input .entry)) n before (take (r .next) (now (out .exit))) (now (input .exit)) (r .progress) ⌝ }
 {
     let w = layout::word_length(code);
     let m = n / w;
-    let put = words::put_words(out, 0, code, &input[..n], met, m);
+    let put = words::put_words(out, 0, code, &input[..n], before.met, m);
     let held = tail::keep_tail(input, m * w, n);
+    let progress = Progress {
+        held,
+        met: before.met + m as u64,
+        read: before.read + put.read,
+    };
     Taken {
         next: put.next,
-        words: m,
-        read: put.read,
-        held,
+        progress,
     }
 }
 
 // The end of the report: the bytes short of a word, and the last line.
-pub fn put_end(out: &mut [u8], held: usize, met: u64, read: u64) -> usize
+pub fn put_end(out: &mut [u8], progress: Progress) -> usize
     requires { ⌜ 2 * lineRoom ≤ length (now out) ⌝ }
-    ensures { λ r. ⌜ Puts (now (out .entry)) 0 (shortLine held ++ lastLine met read) (now (out .exit)) r ⌝ }
-    ensures { λ r. ⌜ r ≤ 2 * lineRoom ⌝ }
+    ensures put { λ r. ⌜ Puts (now (out .entry)) 0 (shortLine (progress .held) ++ lastLine (progress .met) (progress .read)) (now (out .exit)) r ⌝ }
+    ensures room { λ r. ⌜ r ≤ 2 * lineRoom ⌝ }
+    ensures whole { λ r. ⌜ Completes progress (take r (now (out .exit))) ⌝ }
 {
-    let last_at = lines::put_short_line(out, 0, held as u64);
-    lines::put_last_line(out, last_at, met, read)
+    let last_at = lines::put_short_line(out, 0, progress.held as u64);
+    lines::put_last_line(out, last_at, progress.met, progress.read)
 }

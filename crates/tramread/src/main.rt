@@ -1,17 +1,19 @@
 // tramread: standard input is a card and then words; standard output gets a line for the card, a line a word, and a last line.
-// All that is printed is `reportOf` of all that is read, a definition of crate report. No contract can say what a call of C's reads
-// or writes, so the work is done by proved functions on lent bytes, and laws put their texts together: `report-of-refused` (stream's
-// proofs/Whole.antt) for a refused card, and for a sound one those of stream's proofs/Streaming.antt, `streamed-nothing` before the
-// loop, `streamed-turn` for each of its turns, and `streamed-report` at the end.
+// All that is printed is `reportOf` of all that is read, a definition of crate report. No contract can say what a call of the system's
+// reads or writes (system.rt), so what is proved is said of the bytes in the buffers: each turn of the loop adds to the report what
+// the bytes that came in call for, whatever came before (stream's turn.rt), and the last part that is put out completes it.
 // The stored stdin is document 01's card B with the words of its example, and stdout is the document's text.
+mod system;
+
 ghost use mathlib.Core.Path.{_≡_};
+ghost use mathlib.Core.List.{_++_};
 ghost use Prim.Native.Nat.{_≤_};
-ghost use lib.ListN.{length, take};
+ghost use lib.ListN.{length};
 ghost use Rattle.model.specs.Decoded.{meaning};
 ghost use Rattle.code_theory.specs.Promise.{Sound};
+ghost use Rattle.report.specs.Report.{wordsReport, reportOf};
+ghost use Rattle.tramread.specs.LastPart.{LastPart};
 use chunk::decode;
-use libc::STDIN_FILENO;
-use libc::STDOUT_FILENO;
 use model::DecodedCode;
 use position::layout;
 use position::summary;
@@ -24,6 +26,12 @@ const WORDS: usize = 1600;
 // A proved loop has to end, and nothing says that the input does: the loop counts its turns down, from a number that no run uses
 // up and with which the words' numbers still fit.
 const TURNS: u64 = 9007199254740992;
+
+// How reading ended: with the last part of the report at the front of the buffer of lines, up to a place; or the system failed.
+pub enum Ended {
+    At(usize),
+    Failed,
+}
 
 // A buffer for the bytes that come in.
 fn input_buffer() -> [u8; 64000]
@@ -39,59 +47,75 @@ fn line_buffer() -> [u8; 204800]
     [0; 204800]
 }
 
-// Reads once, into the buffer's bytes from place `held` up to `full`, and answers how many of its bytes are then in use: `held` where
-// the input has ended or cannot be read. What is held stays as it is.
-fn receive(buffer: &mut [u8], held: usize, full: usize) -> usize
-    requires { ⌜ (held ≤ full) × (full ≤ length (now buffer)) ⌝ }
-    ensures { λ r. ⌜ (held ≤ r) × (r ≤ full) ⌝ }
-    ensures { λ r. ⌜ take held (now (buffer .exit)) ≡ take held (now (buffer .entry)) ⌝ }
-{
-    let got = libc::read(STDIN_FILENO, &mut buffer[held..full]);
-    held + io::count(got, &buffer[held..full])
-}
-
-// Reads words until the input ends, and writes their lines, the bytes short of a word, and the last line. A read may bring few
-// bytes, and part of a word: that part is kept, and the next read goes on behind it.
-fn read_words(code: DecodedCode, input: &mut [u8], out: &mut [u8])
+// Reads words until the input ends, puts out their lines, and leaves the bytes short of a word and the last line in `out`. A read may
+// bring few bytes, and part of a word: that part is kept, and the next read goes on behind it.
+fn read_words(code: DecodedCode, input: &mut [u8], out: &mut [u8]) -> Ended
     requires { ⌜ Sound (meaning code) ⌝ }
     requires { ⌜ (length (now input) ≡ 64000) × (length (now out) ≡ 204800) ⌝ }
+    ensures { λ r. ⌜ LastPart (wordsReport (meaning code)) (now (out .exit)) r ⌝ }
 {
-    let w = layout::word_length(code);
-    let full = WORDS * w;
-    let mut held: usize = 0;
-    let mut met: u64 = 0;
-    let mut read: u64 = 0;
+    let full = WORDS * layout::word_length(code);
+    let mut progress = turn::nothing_yet();
     let mut turns = TURNS;
     while turns > 0 {
-        let n = receive(input, held, full);
+        let held = progress.held;
+        let came = system::receive(input, held, full);
+        if came.failed {
+            return Ended::Failed;
+        }
+        let n = came.end;
         if n == held {
             break;
         }
-        let taken = turn::take_in(out, code, input, n, met);
+        let taken = turn::take_in(out, code, input, n, progress);
         let end = taken.next;
-        if !io::write_all(STDOUT_FILENO, &out[..end]) {
-            return;
+        if !system::put_out(out, end) {
+            return Ended::Failed;
         }
-        held = taken.held;
-        met += taken.words as u64;
-        read += taken.read;
+        let next = taken.progress;
+        progress = next;
         turns -= 1;
     }
-    let end = turn::put_end(out, held, met, read);
-    io::write_all(STDOUT_FILENO, &out[..end]);
+    Ended::At(turn::put_end(out, progress))
 }
 
-// The card is checked and decoded once. Fewer than 512 bytes of input are a card of that many bytes.
-fn main() {
-    let mut bytes = [0u8; 512];
-    let n = io::read_full(STDIN_FILENO, &mut bytes);
-    let decoded = decode::decode(&bytes[..n]);
-    let mut out = line_buffer();
-    let end = lines::put_card_line(&mut out, 0, summary::card_answer(decoded));
-    io::write_all(STDOUT_FILENO, &out[..end]);
+// The report of a card and the words behind it: all but its last part is put out, and that part is left in `out`. The card is
+// checked and decoded once.
+fn report_on(card: &[u8], input: &mut [u8], out: &mut [u8]) -> Ended
+    requires { ⌜ length (now card) ≤ 512 ⌝ }
+    requires { ⌜ (length (now input) ≡ 64000) × (length (now out) ≡ 204800) ⌝ }
+    ensures { λ r. ⌜ LastPart (λ came. reportOf (now (card .entry) ++ came)) (now (out .exit)) r ⌝ }
+{
+    let decoded = decode::decode(card);
+    let end = lines::put_card_line(out, 0, summary::card_answer(decoded));
     if decoded.refusal != 0 {
+        return Ended::At(end);
+    }
+    if !system::put_out(out, end) {
+        return Ended::Failed;
+    }
+    read_words(decoded.code, input, out)
+}
+
+// The program takes no argument. Fewer than 512 bytes of input are a card of that many bytes.
+fn main() {
+    if os::arg_count() > 1 {
+        system::tell_usage();
         return;
     }
+    let mut card = [0u8; 512];
+    let came = system::receive_all(&mut card);
+    if came.failed {
+        return;
+    }
+    let n = came.end;
     let mut input = input_buffer();
-    read_words(decoded.code, &mut input, &mut out);
+    let mut out = line_buffer();
+    let ended = report_on(&card[..n], &mut input, &mut out);
+    match ended {
+        Ended::At(end) => {
+            system::put_out(&out, end);
+        }
+        Ended::Failed => {}
+    }
 }

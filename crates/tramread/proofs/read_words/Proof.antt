@@ -1,153 +1,146 @@
--- `tramread::read_words` is safe and ends. The loop's invariant: fewer bytes are held than a word has, and the numbers of words
--- still fit when all turns have been taken, each with at most 1,600 words. The measure is the turns that are left.
--- Assumes nothing.
+-- `tramread::read_words` meets its contract. The loop's invariant: some bytes that came in, and the lines put out for them, lead to how
+-- the reader stands (`Reached`), and the numbers of words still fit when all turns have been taken, each with at most 1,600 words.
+-- Each turn adds what it received and its lines (`reached-turn`), and the end completes the report. The measure is the turns that
+-- are left. Assumes nothing.
 use Prim.Native.Nat.{_+_, _*_, _/_, _≤_, _<_}
 use mathlib.Core.Path.{_≡_, sym, _∙_}
 use mathlib.Core.Logic.{⊎-elim}
-use native.Mathlib.Nat.{mod-lt, div-le-of-le-mul}
+use native.Mathlib.Nat.{div-le-of-le-mul}
 use native.Mathlib.Omega.{arith}
 use borrow.Author.Needs.{needs}
 use lib.ListN.{length, take}
 use lib.Seq.{length-take-le}
 use Rattle.model.specs.Decoded.{meaning}
 use Rattle.model.specs.Answers.{wordLength}
+use Rattle.stream.specs.Streamed.{Reached, Completes}
+use Rattle.stream.proofs.Streaming.{few-held, reached-nothing, reached-still, reached-turn}
+use Rattle.tramread.specs.LastPart.{LastPart}
 use Rattle.tramread.proofs.read_words.Statement.{statement}
 use Rattle.tramread.proofs.read_words.Tie as tie
 
 abbrev Inv-loop : tie.InvT-loop
-Inv-loop code input₀ out₀ w full held₀ met₀ read₀ turns₀ input out held met read turns =
-    (length input ≡ 64000) × (length out ≡ 204800) × (held < w) × (met + 1600 * turns ≤ 14411518807585587200) × (read ≤ met)
+Inv-loop code input₀ out₀ full progress₀ turns₀ input out progress turns =
+    (length input ≡ 64000) × (length out ≡ 204800) × (progress .met + 1600 * turns ≤ 14411518807585587200)
+    × Reached (meaning code) input progress
 
 abbrev μ-loop : tie.MeasureT-loop
-μ-loop code input₀ out₀ w full held₀ met₀ read₀ turns₀ input out held met read turns = turns
+μ-loop code input₀ out₀ full progress₀ turns₀ input out progress turns = turns
 
--- the way back: from a turn's write to what the turn took in, to what it received, and to the head of the loop; from there to where
--- the words' length was measured, and to the call
-abbrev taken : tie.Else2 Inv-loop μ-loop → tie.After-take-in Inv-loop μ-loop
-taken c = c .before .before .before .before .before .before .before
-
+-- the way back: from what a turn took in to what it received, and to the head of the loop; from there to where the words' length was
+-- measured, and to the call
 abbrev received : tie.After-take-in Inv-loop μ-loop → tie.After-receive Inv-loop μ-loop
-received c = c .before .before .before .before .before .before
+received c = c .before .before .before .before .before .before .before
 
 abbrev head : tie.After-receive Inv-loop μ-loop → tie.At-loop Inv-loop μ-loop
 head c = c .before .before .before
 
 abbrev measured : tie.At-loop Inv-loop μ-loop → tie.After-word-length Inv-loop μ-loop
-measured c = c .before
+measured c = c .before .before
 
 abbrev first : tie.At-loop Inv-loop μ-loop → tie.Start Inv-loop μ-loop
 first c = measured c .before .before .before
 
+loop-holds : tie.Need-loop-holds Inv-loop μ-loop
+loop-holds c =
+    let begun = c .nothing-yet .ensures in
+    (omega arith, omega arith, omega arith, reached-nothing _ _ (begun .0) (begun .1) (begun .2))
+
+-- fewer bytes are held than a word has
+held-short : (c : tie.At-loop Inv-loop μ-loop) → c .loop .progress .held < measured c .word-length .result
+held-short c =
+    let length-of = measured c .word-length in
+    rw (length-of .ensures .0) (few-held (meaning (first c .args .code)) (c .loop .inv .3 .streamed) (rw (length-of .ensures .0) at (length-of .ensures .1)))
+
+receive-requires : tie.Need-receive-requires Inv-loop μ-loop
+receive-requires c κs = let short = held-short (c .before .before) in (omega arith, omega arith)
+
 -- what has come in has no more than 1,600 whole words
-few : (c : tie.After-receive Inv-loop μ-loop) → c .receive .result / wordLength (meaning (first (head c) .args .code)) ≤ 1600
+few : (c : tie.After-receive Inv-loop μ-loop) → c .receive .result .end / wordLength (meaning (first (head c) .args .code)) ≤ 1600
 few c =
     let length-of = measured (head c) .word-length in
     rw (← (length-of .ensures .0)) (div-le-of-le-mul (length-of .result) (omega arith))
 
--- it stands in the buffer
-arrived : (c : tie.After-receive Inv-loop μ-loop) → length (take (c .receive .result) (c .receive .last .0)) ≡ c .receive .result
-arrived c = length-take-le _ _ (omega arith)
-
--- what a turn gives, in numbers
-turned : (c : tie.After-take-in Inv-loop μ-loop)
-    → let come = c .before .before .before .before .before .before in
-    (c .take-in .result .words ≤ 1600) × (c .take-in .result .held < measured (head come) .word-length .result)
-    × (c .take-in .result .next ≤ length (c .take-in .last .0))
-turned c =
-    let come = c .before .before .before .before .before .before in
-    let length-of = measured (head come) .word-length in
-    let words : c .take-in .result .words ≤ 1600 = rw (c .take-in .ensures .words, arrived come) (few come) in (
-      words,
-      rw (c .take-in .ensures .held, ← (length-of .ensures .0)) (mod-lt _ (length-of .ensures .1)),
-      omega arith,
-    )
-
-word-length-requires : tie.Need-word-length-requires Inv-loop μ-loop
-word-length-requires c κs = search needs
-
-mul-full : tie.Need-mul-full Inv-loop μ-loop
-mul-full c = search needs
-
-loop-holds : tie.Need-loop-holds Inv-loop μ-loop
-loop-holds c = search needs
-
-receive-requires : tie.Need-receive-requires Inv-loop μ-loop
-receive-requires c κs = search needs
+-- what is held is still there, with what was received behind it
+reached-again : (c : tie.After-receive Inv-loop μ-loop) → Reached (meaning (first (head c) .args .code)) (c .receive .last .0) (head c .loop .progress)
+reached-again c = reached-still (c .receive .ensures .1) (head c .loop .inv .3)
 
 take-in-requires : tie.Need-take-in-requires Inv-loop μ-loop
 take-in-requires c κs =
-    let come = c .before .before .before .before .before in
-    let words = few come in
-    (first (head come) .pre .0, (omega arith, omega arith, omega arith))
-
-slice-reshare-prefix-write-all : tie.Need-slice-reshare-prefix-write-all Inv-loop μ-loop
-slice-reshare-prefix-write-all c = let turn = c .before .before .before .before in turned turn .2
-
-slice-aggregate-write-all : tie.Need-slice-aggregate-write-all Inv-loop μ-loop
-slice-aggregate-write-all c =
-    let turn = c .before .before .before .before .before in sym (length-take-le _ _ (turned turn .2))
-
-write-all-requires : tie.Need-write-all-requires Inv-loop μ-loop
-write-all-requires c κs = search needs
-
-same-length : tie.Need-same-length Inv-loop μ-loop
-same-length c = search needs
-
-same-length-2 : tie.Need-same-length-2 Inv-loop μ-loop
-same-length-2 c = search needs
-
-returns : tie.Need-returns Inv-loop μ-loop
-returns c = search needs
-
-add-met : tie.Need-add-met Inv-loop μ-loop
-add-met c = omega (arith, turned (taken c) .0)
-
-add-read : tie.Need-add-read Inv-loop μ-loop
-add-read c = omega (arith, turned (taken (c .before)) .0)
-
-sub-turns : tie.Need-sub-turns Inv-loop μ-loop
-sub-turns c = search needs
-
-loop-less : tie.Need-loop-less Inv-loop μ-loop
-loop-less c = search needs
-
-loop-again : tie.Need-loop-again Inv-loop μ-loop
-loop-again c =
-    let turn = taken (c .before) in
-    let come = received turn in
-    let inv = head come .loop .inv in (
-      turn .take-in .kept .1 .1 .0 ∙ come .receive .kept .0 ∙ inv .0,
-      turn .take-in .kept .0 ∙ inv .1,
-      turned turn .1,
-      omega (arith, turned turn .0),
-      omega arith,
+    let come = c .before .before .before .before .before .before in
+    let words = few come in (
+      first (head come) .pre .0,
+      (reached-again come, ((omega arith, omega arith), (omega arith, omega arith))),
     )
 
-put-end-requires : tie.Need-put-end-requires Inv-loop μ-loop
-put-end-requires c κs = search needs
+-- what a turn gives, in numbers
+turned : (c : tie.After-take-in Inv-loop μ-loop)
+    → (c .take-in .result .progress .met ≤ head (received c) .loop .progress .met + 1600)
+    × (c .take-in .result .next ≤ length (c .take-in .last .0))
+turned c =
+    let come = received c in
+    let taken = c .take-in .ensures .0 in
+    let words = few come in
+    let arrived : length (take (come .receive .result .end) (come .receive .last .0)) ≡ come .receive .result .end =
+    length-take-le _ _ (omega arith) in
+    (omega (arith, rw arrived at (taken .met)), omega (arith, rw arrived at (taken .room)))
 
-slice-reshare-prefix-write-all-2 : tie.Need-slice-reshare-prefix-write-all-2 Inv-loop μ-loop
-slice-reshare-prefix-write-all-2 c = search needs
+put-out-requires : tie.Need-put-out-requires Inv-loop μ-loop
+put-out-requires c κs = turned (c .before .before .before .before .before) .1
 
-slice-aggregate-write-all-2 : tie.Need-slice-aggregate-write-all-2 Inv-loop μ-loop
-slice-aggregate-write-all-2 c = sym (length-take-le _ _ (omega arith))
+returns : tie.Need-returns Inv-loop μ-loop
+unfolding LastPart
+returns c = tt
 
-write-all-requires-2 : tie.Need-write-all-requires-2 Inv-loop μ-loop
-write-all-requires-2 c κs = search needs
+-- both buffers are as long as they were
+still-long : (c : tie.After-take-in Inv-loop μ-loop) → (length (c .take-in .last .1 .1 .0) ≡ 64000) × (length (c .take-in .last .0) ≡ 204800)
+still-long c =
+    let come = received c in
+    let inv = head come .loop .inv in
+    (c .take-in .kept .1 .1 .0 ∙ come .receive .kept .0 ∙ inv .0, c .take-in .kept .0 ∙ inv .1)
 
 same-length-3 : tie.Need-same-length-3 Inv-loop μ-loop
 same-length-3 c =
-    let left = c .before .before .before .before .before .before in
-    let inv = left .before .loop .inv in
-    let whole : length (left .loop-test .input) ≡ 64000 =
-    ⊎-elim (λ w. rw (w .1) (inv .0)) (λ w. rw (w .6) (w .2 .kept .0 ∙ inv .0)) (left .loop-test .came) in
-    whole ∙ sym (first (left .before) .pre .1 .0)
+    let turn = c .before .before .before .before .before .before .before in
+    still-long turn .0 ∙ sym (first (head (received turn)) .pre .1 .0)
 
 same-length-4 : tie.Need-same-length-4 Inv-loop μ-loop
-same-length-4 c = search needs
+same-length-4 c =
+    let turn = c .before .before .before .before .before .before .before in
+    still-long turn .1 ∙ sym (first (head (received turn)) .pre .1 .1)
 
 returns-2 : tie.Need-returns-2 Inv-loop μ-loop
-returns-2 c = search needs
+unfolding LastPart
+returns-2 c = tt
+
+loop-again : tie.Need-loop-again Inv-loop μ-loop
+loop-again c =
+    let turn = c .before .before .before .before .before .before .before .before in (
+      still-long turn .0,
+      still-long turn .1,
+      omega (arith, turned turn .0),
+      reached-turn _ _ _ _ _ _ _ (turn .take-in .ensures .1) (reached-again (received turn)),
+    )
+
+same-length-5 : tie.Need-same-length-5 Inv-loop μ-loop
+same-length-5 c =
+    let left = c .before .before .before .before in
+    let inv = left .before .loop .inv in
+    let whole : length (left .loop-test .input) ≡ 64000 =
+    ⊎-elim (λ w. rw (w .1) (inv .0)) (λ w. rw (w .7) (w .2 .kept .0 ∙ inv .0)) (left .loop-test .came) in
+    whole ∙ sym (first (left .before) .pre .1 .0)
+
+returns-3 : tie.Need-returns-3 Inv-loop μ-loop
+unfolding LastPart Completes
+returns-3 c =
+    let end = c .before .before in
+    let reached = end .before .before .before .loop .inv .3 in (
+      omega arith,
+      record {
+        came = reached .all;
+        text = reached .text;
+        whole = end .put-end .ensures .1 .1 _ (reached .all) (reached .text) _ (reached .streamed);
+      },
+    )
 
 pub read-words-spec : {M : Type 1} → statement M
 read-words-spec =
@@ -155,26 +148,23 @@ read-words-spec =
     (tie.spec
     Inv-loop
     μ-loop
-    word-length-requires
-    mul-full
+    (λ c κs. search needs)
+    (λ c. search needs)
+    (λ c κs. search needs)
     loop-holds
     receive-requires
-    take-in-requires
-    slice-reshare-prefix-write-all
-    slice-aggregate-write-all
-    write-all-requires
-    same-length
-    same-length-2
+    (λ c. search needs)
+    (λ c. search needs)
     returns
-    add-met
-    add-read
-    sub-turns
-    loop-less
-    loop-again
-    put-end-requires
-    slice-reshare-prefix-write-all-2
-    slice-aggregate-write-all-2
-    write-all-requires-2
+    take-in-requires
+    put-out-requires
     same-length-3
     same-length-4
-    returns-2)
+    returns-2
+    (λ c. search needs)
+    (λ c. search needs)
+    loop-again
+    (λ c κs. search needs)
+    same-length-5
+    (λ c. search needs)
+    returns-3)

@@ -1,7 +1,8 @@
 -- `stream::turn::take_in` meets its contract: n / w words of w bytes are whole, and their lines are those that are put; the n % w
--- bytes that are left are those behind the whole words, and these are kept. Assumes nothing.
-use Prim.Native.Nat.{_-_, _*_, _/_, _≤_}
-use mathlib.Core.Path.{_≡_, sym, _∙_}
+-- bytes that are left are those behind the whole words, and these are kept. So the turn follows what came before it (`follows`).
+-- Assumes nothing.
+use Prim.Native.Nat.{ℕ, _+_, _*_, _/_, _^_, _≤_, _<_}
+use mathlib.Core.Path.{_≡_, sym, ap, _∙_}
 use native.Mathlib.Nat.{zero-add, div-mul-le-self, mod-eq-sub-div-mul}
 use native.Mathlib.Omega.{arith}
 use borrow.Author.Needs.{needs}
@@ -10,85 +11,104 @@ use lib.Seq.{length-take-le}
 use Rattle.model.specs.Decoded.{meaning}
 use Rattle.model.specs.Answers.{wordLength}
 use Rattle.stream.proofs.Pieces.{tail-behind-words}
+use Rattle.stream.proofs.Streaming.{few-read, follows}
 use Rattle.stream.proofs.turn.take_in.Statement.{statement}
 use Rattle.stream.proofs.turn.take_in.Tie as tie
 
+-- the way back: from the bytes kept to the words put, to where the words' length was measured, and to the call
+abbrev put : tie.After-keep-tail → tie.After-put-words
+put c = c .before .before .before .before
+
+abbrev measured : tie.After-put-words → tie.After-word-length
+measured c = c .before .before .before
+
+abbrev first : tie.After-word-length → tie.Start
+first c = c .before .before .before
+
 -- n bytes have come in
-arrived : (c : tie.After-word-length)
-    → let first = c .before .before .before in length (take (first .args .n) (first .args .input .now)) ≡ first .args .n
-arrived c = let first = c .before .before .before in length-take-le _ _ (first .pre .1 .0)
+arrived : (c : tie.After-word-length) → length (take (first c .args .n) (first c .args .input .now)) ≡ first c .args .n
+arrived c = length-take-le _ _ (first c .pre .1 .1 .0 .1)
 
-word-length-requires : tie.Need-word-length-requires
-word-length-requires c κs = search needs
-
-div-m : tie.Need-div-m
-div-m c = search needs
-
-slice-reshare-prefix-put-words : tie.Need-slice-reshare-prefix-put-words
-slice-reshare-prefix-put-words c = search needs
+-- the measured length is that of the code's words
+each : (c : tie.After-word-length) → wordLength (meaning (first c .args .code)) ≡ c .word-length .result
+each c = sym (c .word-length .ensures .0)
 
 slice-aggregate-put-words : tie.Need-slice-aggregate-put-words
 slice-aggregate-put-words c = sym (arrived (c .before .before))
 
 put-words-requires : tie.Need-put-words-requires
 put-words-requires c κs =
-    let measured = c .before .before in
-    let first = measured .before .before .before in
-    let w = measured .word-length .result in
-    let whole : first .args .n / w * w ≤ first .args .n = div-mul-le-self (first .args .n) w in
-    let each : wordLength (meaning (first .args .code)) ≡ w = sym (measured .word-length .ensures .0) in (
-      first .pre .0,
-      (rw (each, arrived measured) whole, rw (zero-add, ← each) (first .pre .1 .1), rw each at (first .pre .1 .2)),
+    let length-of = c .before .before in
+    let args = first length-of .args in
+    let pre = first length-of .pre in
+    let w = length-of .word-length .result in (
+      pre .0,
+      (
+        rw (each length-of, arrived length-of) (div-mul-le-self (args .n) w),
+        rw (zero-add, ← (each length-of)) (pre .1 .1 .1 .0),
+        rw (each length-of) at (pre .1 .1 .1 .1),
+      ),
     )
 
 mul-keep-tail : tie.Need-mul-keep-tail
 mul-keep-tail c =
-    let measured = c .before .before .before .before .before .before in
-    let first = measured .before .before .before in
-    omega (arith, div-mul-le-self (first .args .n) (measured .word-length .result))
+    let length-of = c .before .before .before .before .before .before in
+    omega (arith, div-mul-le-self (first length-of .args .n) (length-of .word-length .result))
 
 keep-tail-requires : tie.Need-keep-tail-requires
 keep-tail-requires c κs =
-    let measured = c .before .before .before .before .before .before in
-    let first = measured .before .before .before in
-    (div-mul-le-self _ _, first .pre .1 .0)
+    let length-of = c .before .before .before .before .before .before in
+    (div-mul-le-self _ _, first length-of .pre .1 .1 .0 .1)
 
-same-length : tie.Need-same-length
-same-length c = search needs
+-- the words met still fit
+met-fits : (c : tie.After-word-length) → first c .args .before .met + first c .args .n / c .word-length .result < 2 ^ 64
+met-fits c = rw (each c) at (first c .pre .1 .1 .1 .1)
 
-same-length-2 : tie.Need-same-length-2
-same-length-2 c = search needs
+add-t19 : tie.Need-add-t19
+add-t19 c = omega (arith, met-fits (measured (put (c .before .before .before))))
+
+add-t20 : tie.Need-add-t20
+add-t20 c =
+    let words = put (c .before .before .before .before .before) in
+    let length-of = measured words in
+    let reached = first length-of .pre .1 .0 in
+    omega (arith, met-fits length-of, few-read _ (reached .streamed), words .put-words .ensures .1 .1 .1)
 
 returns : tie.Need-returns
 returns c =
-    let kept = c .before .before in
-    let put = kept .before .before .before .before in
-    let measured = put .before .before .before in
-    let first = measured .before .before .before in
-    let n = first .args .n in
-    let w = measured .word-length .result in
-    let is-length = measured .word-length .ensures .0 in
+    let kept = c .before .before .before .before .before in
+    let words = put kept in
+    let length-of = measured words in
+    let args = first length-of .args in
+    let n = args .n in
+    let w = length-of .word-length .result in
+    let is-length = length-of .word-length .ensures .0 in
+    let within = first length-of .pre .1 .1 .0 in
+    follows (meaning (args .code)) (args .input .now) n (rw (each length-of) (length-of .word-length .ensures .1)) (within .0)
     record {
-      words = rw (arrived measured, ← is-length);
-      held = rw (arrived measured, ← is-length) (kept .keep-tail .ensures .0 ∙ sym (mod-eq-sub-div-mul n w));
-      lines = put .put-words .ensures .0;
-      read = put .put-words .ensures .1 .1 .0;
-      kept = rw (← is-length) (kept .keep-tail .ensures .1 ∙ tail-behind-words (first .args .input .now) n w (first .pre .1 .0));
-      few = put .put-words .ensures .1 .1 .1;
-      room = rw zero-add at (put .put-words .ensures .1 .0);
+      met = rw (arrived length-of, ← is-length);
+      read = rw (arrived length-of, ← is-length) (ap (λ (more : ℕ). args .before .read + more) (words .put-words .ensures .1 .1 .0));
+      held = rw (arrived length-of, ← is-length) (kept .keep-tail .ensures .0 ∙ sym (mod-eq-sub-div-mul n w));
+      kept =
+          rw (arrived length-of, ← is-length)
+          (kept .keep-tail .ensures .1 ∙ tail-behind-words (args .input .now) n w (within .1));
+      lines = rw (arrived length-of, ← is-length) (words .put-words .ensures .0);
+      room = rw (arrived length-of, ← is-length) (rw zero-add at (words .put-words .ensures .1 .0));
     }
 
 pub take-in-spec : {M : Type 1} → statement M
 take-in-spec =
     tie.close
     (tie.spec
-    word-length-requires
-    div-m
-    slice-reshare-prefix-put-words
+    (λ c κs. search needs)
+    (λ c. search needs)
+    (λ c. search needs)
     slice-aggregate-put-words
     put-words-requires
     mul-keep-tail
     keep-tail-requires
-    same-length
-    same-length-2
+    add-t19
+    add-t20
+    (λ c. search needs)
+    (λ c. search needs)
     returns)

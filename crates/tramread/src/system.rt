@@ -1,0 +1,110 @@
+// Standard input and standard output. A call of the system's that was interrupted is made again; any other failure is told in one
+// line on standard error, what failed and the system's reason, and answered to the caller. What a call reads or writes is the
+// system's: no contract speaks of it.
+ghost use mathlib.Core.Path.{_≡_};
+ghost use Prim.Native.Nat.{_≤_};
+ghost use lib.ListN.{length, take};
+use libc::EINTR;
+use libc::STDERR_FILENO;
+use libc::STDIN_FILENO;
+use libc::STDOUT_FILENO;
+
+// A proved loop has to end, and nothing says that interruptions do: a call is made again as often as this, a number that no run
+// uses up.
+const TRIES: u64 = 9007199254740992;
+
+// What was received: how many of the buffer's bytes are then in use, and whether the system failed.
+pub struct Received {
+    pub end: usize,
+    pub failed: bool,
+}
+
+// Tells on standard error how the program is used.
+pub fn tell_usage() {
+    io::write_all(
+        STDERR_FILENO,
+        b"usage: tramread < INPUT   (a card of 512 bytes, then words)\n",
+    );
+}
+
+// A read that failed brought nothing.
+fn read_failed(held: usize) -> Received
+    ensures { λ r. ⌜ r .end ≡ held ⌝ }
+{
+    os::fail(b"tramread: reading standard input");
+    Received {
+        end: held,
+        failed: true,
+    }
+}
+
+// A write that failed.
+fn write_failed() -> bool {
+    os::fail(b"tramread: writing standard output");
+    false
+}
+
+// Reads once, into the buffer's bytes from place `held` up to `full`. The bytes in use are as many as before, `held`, where the input
+// has ended or the system failed. What is held stays as it is.
+pub fn receive(buffer: &mut [u8], held: usize, full: usize) -> Received
+    requires { ⌜ (held ≤ full) × (full ≤ length (now buffer)) ⌝ }
+    ensures { λ r. ⌜ (held ≤ r .end) × (r .end ≤ full) ⌝ }
+    ensures { λ r. ⌜ take held (now (buffer .exit)) ≡ take held (now (buffer .entry)) ⌝ }
+{
+    let mut tries = TRIES;
+    while tries > 0 {
+        let got = libc::read(STDIN_FILENO, &mut buffer[held..full]);
+        if got >= 0 {
+            return Received {
+                end: held + io::count(got, &buffer[held..full]),
+                failed: false,
+            };
+        }
+        if os::errno() != EINTR {
+            return read_failed(held);
+        }
+        tries -= 1;
+    }
+    read_failed(held)
+}
+
+// Reads until the buffer is full or the input ends.
+pub fn receive_all(buffer: &mut [u8]) -> Received
+    ensures { λ r. ⌜ r .end ≤ length (now (buffer .exit)) ⌝ }
+{
+    let full = buffer.len();
+    let mut held: usize = 0;
+    while held < full {
+        let came = receive(buffer, held, full);
+        let end = came.end;
+        if end == held {
+            return came;
+        }
+        held = end;
+    }
+    Received {
+        end: held,
+        failed: false,
+    }
+}
+
+// Writes the first `end` bytes of the buffer, and answers whether all of them were taken.
+pub fn put_out(buffer: &[u8], end: usize) -> bool
+    requires { ⌜ end ≤ length (now buffer) ⌝ }
+{
+    let mut done: usize = 0;
+    let mut tries = TRIES;
+    while done < end {
+        if tries == 0 {
+            return write_failed();
+        }
+        let got = libc::write(STDOUT_FILENO, &buffer[done..end]);
+        if got > 0 {
+            done += io::count(got, &buffer[done..end]);
+        } else if os::errno() != EINTR {
+            return write_failed();
+        }
+        tries -= 1;
+    }
+    true
+}
