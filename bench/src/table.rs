@@ -16,7 +16,9 @@ struct Cost {
 
 /// Prints the table of every card: the calls, and the program tramread.
 pub fn print(tramread: &str) {
-    println!("| card | call | by | words a second | library's time / this | instructions a word | library's instructions / this |");
+    println!(
+        "| card | call | by | words a second | library's time / this | instructions a word | library's instructions / this |"
+    );
     println!("|---|---|---|---|---|---|---|");
     let me = env::current_exe().unwrap();
     let me = me.to_str().unwrap();
