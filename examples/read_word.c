@@ -3,10 +3,10 @@
  *
  *     read_word CARD BYTE...      CARD is a card's file, each BYTE a byte of the word in hexadecimal
  *
- * Prints   position P residual R rule N   or   refused N   . Its exit status is 0 if the word was read, 1 if it was refused, and 2
- * if the arguments or the file are of no use. Built by
+ * Prints   position P residual R rule N   or   refused N: why   . Its exit status is 0 if the word was read, 1 if it was refused,
+ * and 2 if the arguments or the file are of no use. Built in the repository's root, after `rt staticlib dunnavish`, by
  *
- *     cc -Iinclude -o read_word examples/read_word.c target/staticlib/libdunnavish.a
+ *     cc -Iinclude -o target/read_word examples/read_word.c -Ltarget/staticlib -ldunnavish
  */
 #include <errno.h>
 #include <stdio.h>
@@ -68,7 +68,7 @@ int main(int argc, char **argv)
 
     status = dunnavish_read_word(card, card_bytes, word, word_bytes, values, DUNNAVISH_READ_VALUES);
     if (status != DUNNAVISH_OK) {
-        printf("refused %u\n", (unsigned)status);
+        printf("refused %u: %s\n", (unsigned)status, dunnavish_status_text(status));
         return 1;
     }
     printf("position %u residual %u rule %u\n", (unsigned)values[DUNNAVISH_READ_POSITION],

@@ -2,8 +2,10 @@
  * Dunnavish: position words of trams on stabling tracks, for programs in C.
  *
  * Five calls: check a track card, write the word of a position, read a received word, the start of a block, and the distance of
- * a position in millimetres. The archive is target/staticlib/libdunnavish.a, for x86-64 Linux; `rt staticlib dunnavish` builds it. Link it
- * as   cc program.c libdunnavish.a   (it needs memcpy and nothing else).
+ * a position in millimetres. docs/FORMAT.md says what the bytes of a card and of a word are, how a word is read, and what each
+ * refusal means. The archive is target/staticlib/libdunnavish.a, for x86-64 Linux; `rt staticlib dunnavish` builds it. From the
+ * repository's root, link it as   cc -Iinclude program.c -Ltarget/staticlib -ldunnavish   (it needs memcpy and nothing else). The
+ * header is C99 or later, or C++.
  *
  * A call answers with its status: 0 (DUNNAVISH_OK), or the number of the one reason why it could not be served, below. Whenever
  * the status is not 0, no byte and no number that was lent has changed. Every call ends, whatever the bytes and numbers are.
@@ -11,8 +13,8 @@
  * Arguments
  *   Every array is a pointer and the count of its elements (bytes of a card or a word; numbers, not bytes, of `values`).
  *   A card is the card's 512 bytes, checked anew by each call. A card of any other length is answered DUNNAVISH_CARD_LENGTH.
- *   A word is its d bits in (d + 7) / 8 bytes: bit p of the word is bit p % 8, lowest first, of byte p / 8. The spare bits of the
- *   last byte are zero.
+ *   A word is its d bits in dunnavish_word_bytes(d) bytes: bit p of the word is bit p % 8, lowest first, of byte p / 8. The spare
+ *   bits of the last byte are zero.
  *   `values` is where the call puts its answer. Its count must be exactly the call's (DUNNAVISH_CARD_VALUES and so on), or the
  *   call is answered DUNNAVISH_VALUE_COUNT before anything else is looked at.
  *   No pointer may be NULL, not even with a count of 0: pass the address of any object then. An array that a call writes
@@ -41,9 +43,21 @@
 extern "C" {
 #endif
 
+/* The version of this header and its archive. */
+#define DUNNAVISH_VERSION_MAJOR 0
+#define DUNNAVISH_VERSION_MINOR 1
+#define DUNNAVISH_VERSION_PATCH 0
+#define DUNNAVISH_VERSION "0.1.0"
+
 /* The bytes of a card, and of the widest word. */
 #define DUNNAVISH_CARD_BYTES 512
 #define DUNNAVISH_WIDEST_WORD_BYTES 40
+
+/* The bytes of a word of so many bits. */
+static inline size_t dunnavish_word_bytes(uint32_t bits)
+{
+    return bits / 8 + (bits % 8 != 0);
+}
 
 /* The status of a call. The reasons are tested in this order, the last one first of all; the first that holds is the answer. */
 enum dunnavish_status {
@@ -62,6 +76,28 @@ enum dunnavish_status {
     DUNNAVISH_NO_BLOCK = 12,        /* received word: rule 1 before the first block, or rule 2 after the last */
     DUNNAVISH_VALUE_COUNT = 100     /* `values` has not exactly the count of the call; tested before all the others */
 };
+
+/* What a status says, in a few words: a constant string, never NULL, for any other number too. */
+static inline const char *dunnavish_status_text(uint32_t status)
+{
+    switch (status) {
+    case DUNNAVISH_OK: return "served";
+    case DUNNAVISH_CARD_LENGTH: return "the card has not 512 bytes";
+    case DUNNAVISH_CARD_CHECK: return "the card's check differs from its bytes";
+    case DUNNAVISH_CARD_LIMITS: return "the card's n is outside 1 to 64, or its k outside 1 to 12 or above n";
+    case DUNNAVISH_CARD_STRAY_BITS: return "a row of the card has a bit at n or above, or an unused row or byte is not zero";
+    case DUNNAVISH_CARD_DEPENDENT: return "some nonempty set of the card's rows sums to zero";
+    case DUNNAVISH_WORD_LENGTH: return "the word has not exactly the bytes of this card's words";
+    case DUNNAVISH_OFF_THE_TRACK: return "the position is above the last, or the block above 2^k - 1";
+    case DUNNAVISH_SPARE_BIT: return "a bit past the end of the received word is set";
+    case DUNNAVISH_SEPARATORS: return "the separators of the received word read 0 1 0 or 1 0 1";
+    case DUNNAVISH_CHUNK_UNREADABLE: return "a code chunk that the rule names has no codeword within the radius";
+    case DUNNAVISH_CHUNKS_DIFFER: return "the separators are alike, and the two code chunks read differently";
+    case DUNNAVISH_NO_BLOCK: return "the received word points to a block before the first or after the last";
+    case DUNNAVISH_VALUE_COUNT: return "the count of values is not the call's";
+    default: return "a status that this version does not have";
+    }
+}
 
 /* Check a card. Answers 0 to 5, or 100. On 0 the seven values are those of the indices below. */
 enum dunnavish_card_value {

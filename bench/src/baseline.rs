@@ -90,8 +90,7 @@ impl Code {
 
     /// r(i)
     fn start(&self, i: usize) -> usize {
-        let turns: usize =
-            (0..self.k).map(|z| self.rows[z].count_ones() as usize * ((i + (1 << z)) >> (z + 1))).sum();
+        let turns: usize = (0..self.k).map(|z| self.rows[z].count_ones() as usize * ((i + (1 << z)) >> (z + 1))).sum();
         3 * self.distance * i + 2 * turns
     }
 
@@ -200,8 +199,7 @@ extern "C" {
 }
 
 fn find_nested(code: &Code, chunk: u64) -> Option<usize> {
-    let found =
-        unsafe { nested_search(code.rows.as_ptr(), code.n as u32, code.k as u32, code.radius as u32, chunk) };
+    let found = unsafe { nested_search(code.rows.as_ptr(), code.n as u32, code.k as u32, code.radius as u32, chunk) };
     usize::try_from(found).ok()
 }
 

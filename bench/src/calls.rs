@@ -29,7 +29,7 @@ impl Work {
         one_number(match way {
             "library" => dunnavish::read_word(&self.card, word)
                 .map(|r| baseline::Read { position: r.position, residual: r.residual, rule: r.rule.number() })
-                .map_err(|refusal| refusal.number()),
+                .map_err(|refusal| refusal.number().unwrap()),
             "kept" => baseline::read(&self.kept, word),
             "kept-nested" => baseline::read(&self.nested, word),
             _ => decode(&self.card).and_then(|code| baseline::read(&EachCall(code), word)),
@@ -38,7 +38,7 @@ impl Work {
 
     fn write(&self, way: &str, position: u32, word: &mut [u8]) -> u64 {
         let answer = match way {
-            "library" => dunnavish::write_word(&self.card, position, word).map_err(|refusal| refusal.number()),
+            "library" => dunnavish::write_word(&self.card, position, word).map_err(|refusal| refusal.number().unwrap()),
             "kept" => baseline::write(&self.kept, position, word),
             _ => decode(&self.card).and_then(|code| baseline::write(&EachCall(code), position, word)),
         };

@@ -16,7 +16,9 @@ struct Cost {
 
 /// Prints the table of every card: the calls, and the program tramread.
 pub fn print(tramread: &str) {
-    println!("| card | call | by | words a second | library's time / this | instructions a word | library's instructions / this |");
+    println!(
+        "| card | call | by | instructions a word | library's instructions / this | words a second | library's time / this |"
+    );
     println!("|---|---|---|---|---|---|---|");
     let me = env::current_exe().unwrap();
     let me = me.to_str().unwrap();
@@ -36,7 +38,7 @@ fn rows<'a>(card: &str, call: &str, ways: impl Iterator<Item = (&'a str, Cost)>)
             _ => ("-".into(), "-".into()),
         };
         let (speed, times) = (1.0 / cost.seconds, library.seconds / cost.seconds);
-        println!("| {card} | {call} | {way} | {speed:.0} | {times:.2} | {count} | {ratio} |");
+        println!("| {card} | {call} | {way} | {count} | {ratio} | {speed:.0} | {times:.2} |");
     }
 }
 

@@ -1,12 +1,17 @@
 //! Position words of trams on stabling tracks.
 //!
-//! A tram reports where it stands by a coded word; a track's *card*, 512 bytes, says which code. The five calls here check a card,
-//! write the word of a position, read a received word, give the start of a block, and turn a position into millimetres. They are
-//! thin and safe wrappers of a library that is proved: each call ends, answers every input, and keeps no state, so any number of
-//! threads may use it. No call allocates or panics.
+//! A tram reports where it stands by a coded word; a track's *card*, 512 bytes, says which code. The five calls here check a
+//! card, write the word of a position, read a received word, give the start of a block, and turn a position into millimetres.
+//! They are thin and safe wrappers of a library that is proved: each call ends, answers every input, and keeps no state, so any
+//! number of threads may use it. No call allocates or panics.
+//!
+//! `docs/FORMAT.md` of the repository says what a card and a word are, byte by byte, how a word is read and what each refusal
+//! means. The archive that is linked, `libdunnavish.a`, is the one that `rt staticlib dunnavish` writes to `target/staticlib`
+//! there; the environment variable `DUNNAVISH_LIB_DIR` names another folder, and a relative one is taken from where cargo is
+//! started.
 //!
 //! ```
-//! // Card B of the specification: n 3, k 1, track 14, row 0 = 7, check 145.
+//! // Card B, the example of docs/FORMAT.md: n 3, k 1, track 14, row 0 = 7, check 145.
 //! let mut card = [0u8; dunnavish::CARD_BYTES];
 //! card[..4].copy_from_slice(&[3, 1, 0, 14]);
 //! card[11] = 7;
@@ -37,24 +42,41 @@ pub const CARD_BYTES: usize = 512;
 /// The bytes of the widest word.
 pub const WIDEST_WORD_BYTES: usize = 40;
 
-/// Defines [`Refusal`] by one table: a name, the specification's number, and the reason, which is its documentation and its text.
+/// Defines [`Refusal`] by one table: a name, the number in docs/FORMAT.md, and the reason, which is its documentation and text.
 macro_rules! refusals {
     ($($name:ident = $number:literal: $reason:literal,)+) => {
-        /// Why a call was turned down. The discriminants are the specification's numbers, and a call reports the first that
-        /// holds in their order.
+        /// Why a call was turned down. A call reports the first that holds, in the order of their numbers.
+        ///
+        /// Later versions of the library may know more reasons, so a `match` needs an arm for those.
         #[derive(Clone, Copy, Debug, PartialEq, Eq, PartialOrd, Ord, Hash)]
-        #[repr(u32)]
+        #[non_exhaustive]
         pub enum Refusal {
-            $(#[doc = $reason] $name = $number,)+
+            $(#[doc = $reason] $name,)+
+            /// the library answered a status that this crate has no name for: the two are of different versions
+            UnknownStatus(u32),
+            /// the library read the word by a rule that this crate has no name for: the two are of different versions
+            UnknownRule(u32),
         }
 
         impl Refusal {
-            /// Every refusal, in the order in which they are looked for.
-            pub const ALL: [Refusal; 12] = [$(Refusal::$name,)+];
+            /// Every refusal that has a number, in the order in which they are looked for.
+            pub const ALL: &'static [Refusal] = &[$(Refusal::$name,)+];
 
-            fn reason(self) -> &'static str {
+            /// Its number in `docs/FORMAT.md`, 1 to 12; none for an unknown status or rule.
+            pub fn number(self) -> Option<u32> {
                 match self {
-                    $(Refusal::$name => $reason,)+
+                    $(Refusal::$name => Some($number),)+
+                    Refusal::UnknownStatus(_) | Refusal::UnknownRule(_) => None,
+                }
+            }
+        }
+
+        impl fmt::Display for Refusal {
+            fn fmt(&self, f: &mut fmt::Formatter<'_>) -> fmt::Result {
+                match self {
+                    $(Refusal::$name => f.write_str(concat!($reason, " (refusal ", $number, ")")),)+
+                    Refusal::UnknownStatus(status) => write!(f, "the library answered the unknown status {status}"),
+                    Refusal::UnknownRule(rule) => write!(f, "the library read the word by the unknown rule {rule}"),
                 }
             }
         }
@@ -77,20 +99,9 @@ refusals! {
 }
 
 impl Refusal {
-    /// The specification's number, 1 to 12.
-    pub fn number(self) -> u32 {
-        self as u32
-    }
-
     /// The refusal with this number, if there is one.
     pub fn from_number(number: u32) -> Option<Refusal> {
-        Refusal::ALL.into_iter().find(|refusal| refusal.number() == number)
-    }
-}
-
-impl fmt::Display for Refusal {
-    fn fmt(&self, f: &mut fmt::Formatter<'_>) -> fmt::Result {
-        write!(f, "{} (refusal {})", self.reason(), self.number())
+        Refusal::ALL.iter().copied().find(|refusal| refusal.number() == Some(number))
     }
 }
 
@@ -118,7 +129,7 @@ pub struct CardSummary {
 impl CardSummary {
     /// The bytes of a word of this card, at most [`WIDEST_WORD_BYTES`].
     pub fn word_bytes(&self) -> usize {
-        self.word_bits.div_ceil(8) as usize
+        (self.word_bits as usize + 7) / 8
     }
 }
 
@@ -135,9 +146,19 @@ pub enum Rule {
 }
 
 impl Rule {
-    /// The specification's number, 1 to 3.
+    /// Its number in `docs/FORMAT.md`, 1 to 3.
     pub fn number(self) -> u32 {
         self as u32
+    }
+
+    /// The rule with this number, if there is one.
+    pub fn from_number(number: u32) -> Option<Rule> {
+        match number {
+            1 => Some(Rule::ThirdDiffers),
+            2 => Some(Rule::FirstDiffers),
+            3 => Some(Rule::AllAlike),
+            _ => None,
+        }
     }
 }
 
@@ -170,13 +191,19 @@ mod exported {
     }
 }
 
-/// The status of a call as a result.
+/// The status of a call as a result. A status without a name here (100 says that too few or too many numbers were lent, and the
+/// calls below lend exactly enough) is an error too.
 fn served(status: u32) -> Result<(), Refusal> {
-    if status == 0 {
-        return Ok(());
+    match status {
+        0 => Ok(()),
+        _ => Err(Refusal::from_number(status).unwrap_or(Refusal::UnknownStatus(status))),
     }
-    // The library's other status, 100, says that too few or too many numbers were lent; the calls below lend exactly enough.
-    Err(Refusal::from_number(status).expect("the library answers 0 or a refusal of the table"))
+}
+
+/// The values of a read as a reading.
+fn reading([position, residual, rule]: [u32; 3]) -> Result<Reading, Refusal> {
+    let rule = Rule::from_number(rule).ok_or(Refusal::UnknownRule(rule))?;
+    Ok(Reading { position, residual, rule })
 }
 
 // SAFETY, of every call below: the pointers and counts are those of live slices, never null; what the library writes is borrowed
@@ -192,7 +219,8 @@ pub fn check_card(card: &[u8]) -> Result<CardSummary, Refusal> {
     Ok(CardSummary { length, rows, track, distance, radius, word_bits, last })
 }
 
-/// Writes the word of a position into `word`, which has exactly [`CardSummary::word_bytes`] bytes. A refused write changes no byte.
+/// Writes the word of a position into `word`, which has exactly [`CardSummary::word_bytes`] bytes. A refused write changes no
+/// byte.
 ///
 /// Refused: the card, [`Refusal::WordLength`], [`Refusal::OffTheTrack`].
 pub fn write_word(card: &[u8], position: u32, word: &mut [u8]) -> Result<(), Refusal> {
@@ -201,8 +229,8 @@ pub fn write_word(card: &[u8], position: u32, word: &mut [u8]) -> Result<(), Ref
 
 /// Reads a received word: the nearest of the positions that its separators and code chunks allow.
 ///
-/// If each of the word's five chunks has at most [`CardSummary::radius`] bits turned, the answer is a reading, and its position is
-/// off by at most twice the bits turned in all.
+/// If each of the word's five chunks has at most [`CardSummary::radius`] bits turned, the answer is a reading, and its position
+/// is off by at most twice the bits turned in all.
 ///
 /// Refused: the card, [`Refusal::WordLength`], and [`Refusal::SpareBit`] to [`Refusal::NoBlock`].
 pub fn read_word(card: &[u8], word: &[u8]) -> Result<Reading, Refusal> {
@@ -210,13 +238,7 @@ pub fn read_word(card: &[u8], word: &[u8]) -> Result<Reading, Refusal> {
     served(unsafe {
         exported::dunnavish_read_word(card.as_ptr(), card.len(), word.as_ptr(), word.len(), values.as_mut_ptr(), values.len())
     })?;
-    let [position, residual, rule] = values;
-    let rule = match rule {
-        1 => Rule::ThirdDiffers,
-        2 => Rule::FirstDiffers,
-        _ => Rule::AllAlike,
-    };
-    Ok(Reading { position, residual, rule })
+    reading(values)
 }
 
 /// The position at which a block starts; blocks are 0 to 2^k - 1.
@@ -235,4 +257,34 @@ pub fn millimetres(card: &[u8], position: u32) -> Result<u32, Refusal> {
     let mut values = [0u32; 1];
     served(unsafe { exported::dunnavish_millimetres(card.as_ptr(), card.len(), position, values.as_mut_ptr(), values.len()) })?;
     Ok(values[0])
+}
+
+#[cfg(test)]
+mod tests {
+    use super::{reading, served, Reading, Refusal, Rule};
+
+    #[test]
+    fn an_unknown_status_is_an_error() {
+        assert_eq!(served(0), Ok(()));
+        for refusal in Refusal::ALL {
+            assert_eq!(served(refusal.number().unwrap()), Err(*refusal));
+        }
+        for status in [13, 99, 100, 101, u32::MAX] {
+            assert_eq!(served(status), Err(Refusal::UnknownStatus(status)));
+            assert_eq!(Refusal::UnknownStatus(status).number(), None);
+        }
+        assert_eq!(Refusal::UnknownStatus(100).to_string(), "the library answered the unknown status 100");
+    }
+
+    #[test]
+    fn an_unknown_rule_is_an_error() {
+        for rule in [Rule::ThirdDiffers, Rule::FirstDiffers, Rule::AllAlike] {
+            assert_eq!(reading([7, 1, rule.number()]), Ok(Reading { position: 7, residual: 1, rule }));
+        }
+        for rule in [0, 4, u32::MAX] {
+            assert_eq!(reading([7, 1, rule]), Err(Refusal::UnknownRule(rule)));
+            assert_eq!(Refusal::UnknownRule(rule).number(), None);
+        }
+        assert_eq!(Refusal::UnknownRule(4).to_string(), "the library read the word by the unknown rule 4");
+    }
 }

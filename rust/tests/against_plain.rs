@@ -11,7 +11,7 @@ use plain::{unlike, Code};
 use random::Random;
 
 fn number<T>(answer: Result<T, Refusal>) -> Result<T, u32> {
-    answer.map_err(Refusal::number)
+    answer.map_err(|refusal| refusal.number().expect("a refusal of document 01"))
 }
 
 /// Both check this card; its code, if it is sound.
@@ -212,7 +212,9 @@ fn codes_of_great_distance() {
 
 #[test]
 fn every_word_and_every_position_of_small_cards() {
-    for (n, rows) in [(1, &[1u64][..]), (2, &[3]), (2, &[1, 2]), (3, &[7]), (3, &[3, 6]), (3, &[7, 3]), (3, &[1, 2, 4]), (4, &[15])] {
+    for (n, rows) in
+        [(1, &[1u64][..]), (2, &[3]), (2, &[1, 2]), (3, &[7]), (3, &[3, 6]), (3, &[7, 3]), (3, &[1, 2, 4]), (4, &[15])]
+    {
         let card = card_of(n, rows.len() as u8, 1, rows);
         let code = both_check(&card).unwrap();
         for position in 0..=code.last() + 1 {

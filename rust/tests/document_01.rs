@@ -1,8 +1,8 @@
 //! The cases of document 01, through the library.
 mod cards;
 
-use dunnavish::{block_start, check_card, millimetres, read_word, write_word, CardSummary, Reading, Refusal, Rule};
 use cards::{card_of, seal};
+use dunnavish::{block_start, check_card, millimetres, read_word, write_word, CardSummary, Reading, Refusal, Rule};
 
 fn card_a() -> Vec<u8> {
     card_of(3, 2, 0, &[3, 6])
@@ -149,9 +149,10 @@ fn distances() {
 
 #[test]
 fn refusals_have_the_documents_numbers() {
-    for (index, refusal) in Refusal::ALL.into_iter().enumerate() {
-        assert_eq!(refusal.number(), index as u32 + 1);
-        assert_eq!(Refusal::from_number(refusal.number()), Some(refusal));
+    assert_eq!(Refusal::ALL.len(), 12);
+    for (number, refusal) in (1..).zip(Refusal::ALL) {
+        assert_eq!(refusal.number(), Some(number));
+        assert_eq!(Refusal::from_number(number), Some(*refusal));
     }
     assert_eq!(Refusal::from_number(0), None);
     assert_eq!(Refusal::from_number(13), None);

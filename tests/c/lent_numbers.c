@@ -11,7 +11,8 @@
 #define MARK 0xA5A5A5A5u
 
 enum { CHECK, READ, START, MILLIMETRES, CALLS };
-static const size_t counts[CALLS] = {DUNNAVISH_CARD_VALUES, DUNNAVISH_READ_VALUES, DUNNAVISH_NUMBER_VALUES, DUNNAVISH_NUMBER_VALUES};
+static const size_t counts[CALLS] = {DUNNAVISH_CARD_VALUES, DUNNAVISH_READ_VALUES, DUNNAVISH_NUMBER_VALUES,
+                                     DUNNAVISH_NUMBER_VALUES};
 
 /* Card B: n 3, k 1, track 14, row 7, check 145. */
 static uint8_t card[DUNNAVISH_CARD_BYTES];

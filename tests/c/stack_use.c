@@ -1,7 +1,7 @@
 /*
- * Measures the stack that a call takes, and fails if it is not below what include/dunnavish.h promises. Each call runs on a thread
- * whose stack is painted first; a thread that calls nothing is subtracted. Cards of every length n, and of the fewest and the most
- * rows, and positions over the whole track. Linked with -Wl,-z,now, so that memcpy is bound before the calls.
+ * Measures the stack that a call takes, and fails if it is not below what include/dunnavish.h promises. Each call runs on a
+ * thread whose stack is painted first; a thread that calls nothing is subtracted. Cards of every length n, and of the fewest and
+ * the most rows, and positions over the whole track. Linked with -Wl,-z,now, so that memcpy is bound before the calls.
  */
 #include <pthread.h>
 #include <stdio.h>
@@ -124,7 +124,7 @@ int main(void)
                     position = 0;
                     stack_of(CHECK);
                     last = values[DUNNAVISH_CARD_LAST];
-                    word_bytes = (values[DUNNAVISH_CARD_BITS] + 7) / 8;
+                    word_bytes = dunnavish_word_bytes(values[DUNNAVISH_CARD_BITS]);
                     position = round == 0 ? 0 : round == 1 ? last : (uint32_t)(next_random() % (last + 1));
                     if (which == READ)
                         stack_of(WRITE);

@@ -89,7 +89,7 @@ impl Code {
     }
 
     pub fn word_bytes(&self) -> usize {
-        self.word_bits().div_ceil(8)
+        (self.word_bits() + 7) / 8
     }
 
     pub fn last_codeword(&self) -> usize {
@@ -108,13 +108,7 @@ impl Code {
     /// The five chunks of a word: their first place and their length.
     pub fn chunks(&self) -> [(usize, usize); 5] {
         let (n, distance) = (self.n, self.distance);
-        [
-            (0, distance),
-            (distance, n),
-            (distance + n, distance),
-            (2 * distance + n, n),
-            (2 * distance + 2 * n, distance),
-        ]
+        [(0, distance), (distance, n), (distance + n, distance), (2 * distance + n, n), (2 * distance + 2 * n, distance)]
     }
 
     /// w(i)
@@ -166,7 +160,11 @@ impl Code {
     }
 
     pub fn millimetres(&self, position: usize) -> Result<usize, u32> {
-        if position > self.last() { Err(7) } else { Ok(50 * position) }
+        if position > self.last() {
+            Err(7)
+        } else {
+            Ok(50 * position)
+        }
     }
 
     fn separator(&self, bits: &[bool]) -> bool {
@@ -175,8 +173,7 @@ impl Code {
 
     /// The number of the codeword within the radius; there is one at most.
     fn chunk(&self, bits: &[bool]) -> Result<usize, u32> {
-        let near: Vec<usize> =
-            (0..self.codewords.len()).filter(|&i| unlike(&self.codewords[i], bits) <= self.radius).collect();
+        let near: Vec<usize> = (0..self.codewords.len()).filter(|&i| unlike(&self.codewords[i], bits) <= self.radius).collect();
         assert!(near.len() <= 1);
         near.first().copied().ok_or(10)
     }

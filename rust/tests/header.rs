@@ -1,0 +1,34 @@
+//! The C header says the same as this crate: the version, the refusals' numbers and texts, and the sizes.
+use dunnavish::{Refusal, CARD_BYTES, WIDEST_WORD_BYTES};
+
+const HEADER: &str = include_str!("../../include/dunnavish.h");
+
+/// Whether some line of the header is this one, spaces at its ends aside.
+fn declares(wanted: &str) -> bool {
+    HEADER.lines().any(|line| line.trim() == wanted)
+}
+
+#[test]
+fn one_version() {
+    assert!(declares(&format!("#define DUNNAVISH_VERSION \"{}\"", env!("CARGO_PKG_VERSION"))));
+    assert!(declares(&format!("#define DUNNAVISH_VERSION_MAJOR {}", env!("CARGO_PKG_VERSION_MAJOR"))));
+    assert!(declares(&format!("#define DUNNAVISH_VERSION_MINOR {}", env!("CARGO_PKG_VERSION_MINOR"))));
+    assert!(declares(&format!("#define DUNNAVISH_VERSION_PATCH {}", env!("CARGO_PKG_VERSION_PATCH"))));
+}
+
+#[test]
+fn one_table_of_refusals() {
+    for refusal in Refusal::ALL {
+        let number = refusal.number().unwrap();
+        let text = refusal.to_string().replace(&format!(" (refusal {number})"), "");
+        let named = HEADER.split(&format!(" = {number},")).next().and_then(|before| before.split_whitespace().last());
+        let case = format!("case {}: return \"{text}\";", named.unwrap());
+        assert!(declares(&case), "{case}");
+    }
+}
+
+#[test]
+fn the_same_sizes() {
+    assert!(declares(&format!("#define DUNNAVISH_CARD_BYTES {CARD_BYTES}")));
+    assert!(declares(&format!("#define DUNNAVISH_WIDEST_WORD_BYTES {WIDEST_WORD_BYTES}")));
+}
