@@ -27,7 +27,7 @@ static int has(const char *name)
 
 static void tell(const char *what, int error)
 {
-    fprintf(stderr, "tramread: %s: %s\n", what, strerror(error));
+    fprintf(stderr, "tramread: %s: %s\n", has("an error line that names nothing") ? "error" : what, strerror(error));
 }
 
 /* Writes the lines that are kept. After a write that failed nothing more is written. */
@@ -42,6 +42,10 @@ static void flush(void)
             done += has("a short write is taken for a whole one") ? text_bytes - done : (size_t)went;
         else if (errno != EINTR || has("an interrupted write is given up"))
             write_error = errno;
+    }
+    if (write_error != 0 && has("a line for each failed write")) {
+        tell("standard output", write_error);
+        write_error = 0;
     }
     text_bytes = 0;
 }
@@ -167,7 +171,8 @@ int main(int count, char **given)
     }
     if (card_line())
         all_lines();
-    flush();
+    if (read_error == 0 || !has("a failed read loses lines"))
+        flush();
     if (read_error != 0 && !has("no word of a failed read") && !has("the error before the lines"))
         tell("standard input", has("every reason is EIO") ? EIO : read_error);
     if (write_error != 0 && !has("no word of a failed write"))

@@ -51,14 +51,20 @@ static void told(int holds, const char *name, size_t count, const struct outcome
     }
 }
 
-/* One line that names what failed by one of two words, and ends in a colon and the reason. */
+/*
+ * One line that ends in a colon and the reason, and names what failed before it by one of two words. The program's own name, with
+ * which the line may begin, does not count.
+ */
 static int names_failure(const char *line, const char *word, const char *other_word, int reason)
 {
+    static const char own_name[] = "tramread";
     char end[200];
     size_t length = strlen(line), end_length = (size_t)snprintf(end, sizeof end, ": %s\n", strerror(reason));
+    const char *named = strncmp(line, own_name, sizeof own_name - 1) == 0 ? line + sizeof own_name - 1 : line;
+    const char *found = strcasestr(named, word) != NULL ? strcasestr(named, word) : strcasestr(named, other_word);
 
     return length > end_length && strchr(line, '\n') == line + length - 1 && strcmp(line + length - end_length, end) == 0 &&
-           (strcasestr(line, word) != NULL || strcasestr(line, other_word) != NULL);
+           found != NULL && found < line + length - end_length;
 }
 
 /* What follows the text that the first `count` bytes give, with or without what the end of the input adds; NULL: other text. */

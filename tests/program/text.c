@@ -134,13 +134,13 @@ static void short_inputs(const struct track *t)
         hold(counts[i] < CARD_BYTES ? "an input that ends inside the card" : "a card alone", t, counts[i], WAYS(every_way));
 }
 
-/* Every count of bytes short of a word, after no word, one word and three. */
+/* Every count of bytes short of a word, after no word and after three. */
 static void tails(const struct track *t)
 {
-    static const size_t words[] = {0, 1, 3};
+    static const size_t words[] = {0, 3};
     size_t i, tail;
 
-    for (i = 0; i < 3; i++)
+    for (i = 0; i < 2; i++)
         for (tail = 0; tail < t->width; tail++)
             hold("a tail", t, CARD_BYTES + words[i] * t->width + tail, WAYS(every_way));
 }
@@ -148,7 +148,7 @@ static void tails(const struct track *t)
 /* A refused card, alone and followed by bytes; `number` is the number that document 01 gives it. */
 static void refused_card(const uint8_t *card, uint32_t number)
 {
-    static const size_t after[] = {0, 1, 2, 40, 600};
+    static const size_t after[] = {0, 2, 600};
     char name[40];
     struct track t = track_of(card, 150000);
     size_t i;
@@ -230,23 +230,38 @@ static void many_wide_words(const struct track *t)
         }
 }
 
-/* A card of n and k with random rows. Most are sound; one with dependent rows is an input too. */
+/* Random rows of n bits, drawn again until no nonempty set of them sums to zero. */
+static void draw_rows(struct fields *f)
+{
+    uint8_t card[CARD_BYTES];
+    uint32_t values[CARD_VALUES];
+    unsigned z;
+
+    do {
+        for (z = 0; z < f->k; z++) {
+            f->rows[z] = next_number() << 32 ^ next_number();
+            if (f->n < 64)
+                f->rows[z] &= (UINT64_C(1) << f->n) - 1;
+        }
+        card_of(f, card);
+    } while (second_check_card(card, CARD_BYTES, values, CARD_VALUES) == 5);
+}
+
+/* A card of n and k with random rows, and words of all kinds; then the same input with its last bytes cut off. */
 static void random_card(unsigned n, unsigned k, size_t words)
 {
     struct fields f = {n, k, (unsigned)below(65536), {0}};
     struct track t;
     char name[60];
-    unsigned z;
 
-    for (z = 0; z < k; z++) {
-        f.rows[z] = next_number() << 32 ^ next_number();
-        if (n < 64)
-            f.rows[z] &= (UINT64_C(1) << n) - 1;
-    }
+    draw_rows(&f);
     t = answered(&f, words);
     snprintf(name, sizeof name, "a card of n %u, k %u, D %u", n, k, t.card[DISTANCE]);
-    hold(name, &t, t.count, WAYS(every_way));
-    hold(name, &t, t.count - below(t.width + 1), WAYS(quick_ways));
+    hold(name, &t, t.count, WAYS(large_ways));
+    if (k == 1)
+        hold(name, &t, t.count - below(t.width + 1), WAYS(every_way));
+    else
+        hold(name, &t, t.count - below(t.width + 1), WAYS(quick_ways));
     drop(&t);
 }
 
