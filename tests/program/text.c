@@ -3,9 +3,9 @@
  * a card alone; every refused card, with and without bytes after it; every count of bytes short of a word; more words than any
  * buffer holds; cards of many shapes with words of all kinds.
  *
- * The expected text is document 01's: its example as it stands there, its numbers of refused cards, and its form of the lines.
- * What a card and a word are answered comes from the second reader (tracks.h). Nothing is taken from the program itself. That
- * every rule and every refusal of a word has been met is counted.
+ * The expected text is document 01's: its example as it stands there, what it says of single words, its numbers of refused cards,
+ * and its form of the lines. What a card and a word are answered otherwise comes from the second reader (tracks.h). Nothing is
+ * taken from the program itself. That every rule and every refusal of a word has been met is counted.
  *
  *     text PROGRAM [MOST]     stops after MOST differences (20)
  *
@@ -88,29 +88,11 @@ static void hold(const char *name, const struct track *t, size_t count, const si
     free(expected);
 }
 
-/* Document 01's card B, byte by byte, followed by its four words: the document prints the whole text. */
-static void document_example(void)
-{
-    static const char expected[] = "track 14 last 15 radius 1\n"
-                                   "1 at 7 residual 0 rule 2\n"
-                                   "2 at 5 residual 1 rule 2\n"
-                                   "3 refused 9\n"
-                                   "4 refused 8\n"
-                                   "words 4 read 2\n";
-    static const uint8_t words[8] = {0x7F, 0x00, 0x5F, 0x00, 0xC0, 0x01, 0x00, 0x80};
-    uint8_t input[CARD_BYTES + sizeof words] = {3, 1, 0, 14, 0, 0, 0, 0, 0, 0, 0, 7};
-    size_t i;
-
-    input[511] = 145;
-    memcpy(input + CARD_BYTES, words, sizeof words);
-    for (i = 0; i < sizeof every_way / sizeof *every_way; i++)
-        hold_to("document 01's example", input, sizeof input, every_way[i], expected);
-}
-
 /* Card B; and the card of the widest words, forty bytes: n 64, D 64, k 1, a row of 64 ones. */
 static const struct fields card_b = {3, 1, 14, {7}};
 static const struct fields widest = {64, 1, 65535, {UINT64_MAX}};
 
+/* A sound card with words of all kinds and their answers. */
 static struct track answered(const struct fields *f, size_t words)
 {
     uint8_t card[CARD_BYTES];
@@ -118,10 +100,65 @@ static struct track answered(const struct fields *f, size_t words)
 
     card_of(f, card);
     t = track_of(card, words);
-    if (t.refusal == 0)
-        make_words(&t);
+    if (t.refusal != 0) {
+        printf("tests/program: the second reader refuses a card that should be sound: %u\n", t.refusal);
+        exit(2);
+    }
+    make_words(&t);
     answer_words(&t);
     return t;
+}
+
+/* A card and words, with the text as document 01 gives it. */
+static void hold_document(const struct fields *f, const uint8_t *words, size_t word_bytes, const char *expected)
+{
+    uint8_t input[CARD_BYTES + WIDEST_WORD];
+    size_t i;
+
+    card_of(f, input);
+    memcpy(input + CARD_BYTES, words, word_bytes);
+    for (i = 0; i < sizeof every_way / sizeof *every_way; i++)
+        hold_to("document 01's words", input, CARD_BYTES + word_bytes, every_way[i], expected);
+}
+
+/* The document's example of the program; then what it says of reading words of cards B and A, under 'Two cards to try'. */
+static void document_cases(void)
+{
+    static const struct fields card_a = {3, 2, 0, {3, 6}};
+    static const uint8_t example[] = {0x7F, 0x00, 0x5F, 0x00, 0xC0, 0x01, 0x00, 0x80};
+    static const uint8_t refused_b[] = {0x00, 0x70, 0x00, 0x0E};
+    static const uint8_t words_a[] = {0x2F, 0x00, 0xEF, 0x05, 0x04, 0x00}; /* of 5, of 9, and 00 100 00 000 00 */
+
+    hold_document(&card_b, example, sizeof example,
+                  "track 14 last 15 radius 1\n"
+                  "1 at 7 residual 0 rule 2\n"
+                  "2 at 5 residual 1 rule 2\n"
+                  "3 refused 9\n"
+                  "4 refused 8\n"
+                  "words 4 read 2\n");
+    hold_document(&card_b, refused_b, sizeof refused_b,
+                  "track 14 last 15 radius 1\n"
+                  "1 refused 12\n"
+                  "2 refused 11\n"
+                  "words 2 read 0\n");
+    hold_document(&card_a, words_a, sizeof words_a,
+                  "track 0 last 30 radius 0\n"
+                  "1 at 5 residual 0 rule 2\n"
+                  "2 at 9 residual 0 rule 1\n"
+                  "3 refused 10\n"
+                  "words 3 read 2\n");
+}
+
+/* Card B's check is the document's, so that cards made here are cards. */
+static void check_is_right(void)
+{
+    uint8_t card[CARD_BYTES];
+
+    card_of(&card_b, card);
+    if (card[510] != 0 || card[511] != 145) {
+        printf("tests/program: card B's check is made wrong\n");
+        exit(2);
+    }
 }
 
 /* No input, inputs that end inside the card, and a card alone. */
@@ -313,7 +350,8 @@ int main(int count, char **words)
     program = words[1];
     if (count > 2)
         most = strtoul(words[2], NULL, 10);
-    document_example();
+    check_is_right();
+    document_cases();
     few = answered(&card_b, 1700);
     short_inputs(&few);
     tails(&few);
