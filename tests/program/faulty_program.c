@@ -79,6 +79,12 @@ static size_t more(void)
     return (size_t)came;
 }
 
+/* Whether the input was cut off by a failed read, so that what only its end gives is not printed. */
+static int cut_off(void)
+{
+    return read_error != 0 && !has("the end after a failed read");
+}
+
 /* Reads the card and prints its line. Answers 0 where it is refused. */
 static int card_line(void)
 {
@@ -87,7 +93,7 @@ static int card_line(void)
     while (held_bytes < CARD_BYTES && more() != 0)
         if (has("the card is one read"))
             break;
-    if (held_bytes == 0 && has("no line for no input"))
+    if (cut_off() || (held_bytes == 0 && has("no line for no input")))
         return 0;
     if (has("a card of any length"))
         held_bytes = held_bytes < CARD_BYTES ? CARD_BYTES : held_bytes;
@@ -152,6 +158,8 @@ static void all_lines(void)
         if (has("a tail is the end") && held_bytes != 0)
             break;
     } while (more() != 0);
+    if (cut_off())
+        return;
     if ((held_bytes != 0 && !has("no line for a tail")) || has("a line for no tail"))
         line("short %zu\n", held_bytes);
     if (!has("no last line"))

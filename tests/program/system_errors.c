@@ -3,8 +3,8 @@
  * library's words for the error:
  *
  *   - A read that fails: the lines of what was read come first, then one line on standard error that names what failed and ends
- *     in the reason, after a colon. Whether the lines that only the end of the input gives (`short`, `words`, or `card refused 1`
- *     for less than a card) come too is left open.
+ *     in the reason, after a colon. The lines that only the end of the input gives (`short`, `words`, or `card refused 1` for less
+ *     than a card) don't come: the last line says that all input was read.
  *   - A write that fails: one line on standard error, as above. What went out before is the beginning of the right text.
  *   - An interrupted read or write is tried again, and a write that takes only some of the bytes is gone on with: both without
  *     a word.
