@@ -107,12 +107,17 @@ pub follows : (C : Code) (input : List ℕ) (n : ℕ) {p : Progress} {input′ o
 unfolding Follows
 follows C input n some within taken = (taken, λ all text s. streamed-turn C s some n within taken)
 
+-- the report of what has come in: what has been put out for it, and the end
+pub report-streamed : (C : Code) {all text input : List ℕ} {p : Progress} → Streamed C all text input p
+    → wordsReport C all ≡ text ++ (shortLine (p .held) ++ lastLine (p .met) (p .read))
+unfolding wordsReport
+report-streamed C s = rw (s .lines, s .held, s .read, s .met) (simp append-assoc)
+
 -- the end completes the report
 pub completes : (p : Progress) {out out′ : List ℕ} {next : ℕ}
     → Puts out 0 (shortLine (p .held) ++ lastLine (p .met) (p .read)) out′ next → Completes p (take next out′)
-unfolding Completes wordsReport
-completes p put C all text input s =
-    rw (text-at-front put, s .lines, s .held, s .read, s .met) (simp append-assoc)
+unfolding Completes
+completes p put C all text input s = rw (text-at-front put) (report-streamed C s)
 
 -- What has been reached: before the first turn, where bytes behind those held are written over, and after a turn.
 pub reached-nothing : (C : Code) (input : List ℕ) {p : Progress} → p .held ≡ 0 → p .met ≡ 0 → p .read ≡ 0 → Reached C input p

@@ -12,7 +12,7 @@ ghost use lib.ListN.{length};
 ghost use Rattle.model.specs.Decoded.{meaning};
 ghost use Rattle.code_theory.specs.Promise.{Sound};
 ghost use Rattle.report.specs.Report.{wordsReport, reportOf};
-ghost use Rattle.tramread.specs.LastPart.{LastPart};
+ghost use Rattle.tramread.specs.Parts.{FromCard, LastPart};
 use chunk::decode;
 use model::DecodedCode;
 use position::layout;
@@ -51,6 +51,7 @@ fn line_buffer() -> [u8; 204800]
 // bring few bytes, and part of a word: that part is kept, and the next read goes on behind it.
 fn read_words(code: DecodedCode, input: &mut [u8], out: &mut [u8]) -> Ended
     requires { ⌜ Sound (meaning code) ⌝ }
+    requires { ⌜ FromCard (meaning code) ⌝ }
     requires { ⌜ (length (now input) ≡ 64000) × (length (now out) ≡ 204800) ⌝ }
     ensures { λ r. ⌜ LastPart (wordsReport (meaning code)) (now (out .exit)) r ⌝ }
 {

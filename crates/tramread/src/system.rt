@@ -4,6 +4,7 @@
 ghost use mathlib.Core.Path.{_≡_};
 ghost use Prim.Native.Nat.{_≤_};
 ghost use lib.ListN.{length, take};
+ghost use Rattle.tramread.specs.Parts.{PartOfReport};
 use libc::EINTR;
 use libc::STDERR_FILENO;
 use libc::STDIN_FILENO;
@@ -88,9 +89,10 @@ pub fn receive_all(buffer: &mut [u8]) -> Received
     }
 }
 
-// Writes the first `end` bytes of the buffer, and answers whether all of them were taken.
+// Writes the first `end` bytes of the buffer, which are a part of a report, and answers whether all of them were taken.
 pub fn put_out(buffer: &[u8], end: usize) -> bool
     requires { ⌜ end ≤ length (now buffer) ⌝ }
+    requires { ⌜ PartOfReport (take end (now buffer)) ⌝ }
 {
     let mut done: usize = 0;
     let mut tries = TRIES;

@@ -1,12 +1,12 @@
 -- `tramread::main` is safe and ends: the card has at most the 512 bytes of its buffer, the buffers are as long as they are made, and
 -- the last part of the report stands within its own. Assumes nothing.
-use Prim.Native.Nat.{_≤_}
 use mathlib.Core.Path.{sym}
 use native.Mathlib.Omega.{arith}
 use borrow.Author.Needs.{needs}
-use lib.ListN.{length}
+use lib.ListN.{take}
 use lib.Seq.{length-take-le}
-use Rattle.tramread.specs.LastPart.{LastPart}
+use Rattle.tramread.specs.Parts.{LastPart}
+use Rattle.tramread.proofs.Parts.{last-part}
 use Rattle.tramread.proofs.main.Statement.{statement}
 use Rattle.tramread.proofs.main.Tie as tie
 
@@ -26,7 +26,9 @@ unfolding LastPart
 put-out-requires c κs =
     let known = c .before .before in
     let report = known .before .before .before .before in
-    (rw (known .ended .given .1) at (report .report-on .ensures)) .0
+    let last = rw (known .ended .given .1) at (report .report-on .ensures) in
+    let card = report .before .before .before .before .before .before .before .before in
+    (last .0, last-part (take (card .receive-all .result .end) (card .receive-all .last .0)) (last .1))
 
 pub main-spec : {M : Type 1} → statement M
 main-spec =

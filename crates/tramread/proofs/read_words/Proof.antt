@@ -12,9 +12,10 @@ use lib.ListN.{length, take}
 use lib.Seq.{length-take-le}
 use Rattle.model.specs.Decoded.{meaning}
 use Rattle.model.specs.Answers.{wordLength}
-use Rattle.stream.specs.Streamed.{Reached, Completes}
+use Rattle.stream.specs.Streamed.{Reached, Follows, Completes}
 use Rattle.stream.proofs.Streaming.{few-held, reached-nothing, reached-still, reached-turn}
-use Rattle.tramread.specs.LastPart.{LastPart}
+use Rattle.tramread.specs.Parts.{LastPart}
+use Rattle.tramread.proofs.Parts.{turn-lines-part}
 use Rattle.tramread.proofs.read_words.Statement.{statement}
 use Rattle.tramread.proofs.read_words.Tie as tie
 
@@ -84,13 +85,6 @@ turned c =
     length-take-le _ _ (omega arith) in
     (omega (arith, rw arrived at (taken .met)), omega (arith, rw arrived at (taken .room)))
 
-put-out-requires : tie.Need-put-out-requires Inv-loop μ-loop
-put-out-requires c κs = turned (c .before .before .before .before .before) .1
-
-returns : tie.Need-returns Inv-loop μ-loop
-unfolding LastPart
-returns c = tt
-
 -- both buffers are as long as they were
 still-long : (c : tie.After-take-in Inv-loop μ-loop) → (length (c .take-in .last .1 .1 .0) ≡ 64000) × (length (c .take-in .last .0) ≡ 204800)
 still-long c =
@@ -98,15 +92,27 @@ still-long c =
     let inv = head come .loop .inv in
     (c .take-in .kept .1 .1 .0 ∙ come .receive .kept .0 ∙ inv .0, c .take-in .kept .0 ∙ inv .1)
 
+put-out-requires : tie.Need-put-out-requires Inv-loop μ-loop
+unfolding Follows
+put-out-requires c κs =
+    let turn = c .before .before .before .before .before in
+    let reached = reached-again (received turn) in
+    let streamed = turn .take-in .ensures .1 (reached .all) (reached .text) (reached .streamed) in
+    (omega (arith, turned turn .1, received turn .receive .ensures .0, still-long turn .1), turn-lines-part _ (first (head (received turn)) .pre .1 .0) (reached .text) _ streamed)
+
+returns : tie.Need-returns Inv-loop μ-loop
+unfolding LastPart
+returns c = tt
+
 same-length-3 : tie.Need-same-length-3 Inv-loop μ-loop
 same-length-3 c =
     let turn = c .before .before .before .before .before .before .before in
-    still-long turn .0 ∙ sym (first (head (received turn)) .pre .1 .0)
+    still-long turn .0 ∙ sym (first (head (received turn)) .pre .1 .1 .0)
 
 same-length-4 : tie.Need-same-length-4 Inv-loop μ-loop
 same-length-4 c =
     let turn = c .before .before .before .before .before .before .before in
-    still-long turn .1 ∙ sym (first (head (received turn)) .pre .1 .1)
+    still-long turn .1 ∙ sym (first (head (received turn)) .pre .1 .1 .1)
 
 returns-2 : tie.Need-returns-2 Inv-loop μ-loop
 unfolding LastPart
@@ -127,7 +133,7 @@ same-length-5 c =
     let inv = left .before .loop .inv in
     let whole : length (left .loop-test .input) ≡ 64000 =
     ⊎-elim (λ w. rw (w .1) (inv .0)) (λ w. rw (w .7) (w .2 .kept .0 ∙ inv .0)) (left .loop-test .came) in
-    whole ∙ sym (first (left .before) .pre .1 .0)
+    whole ∙ sym (first (left .before) .pre .1 .1 .0)
 
 returns-3 : tie.Need-returns-3 Inv-loop μ-loop
 unfolding LastPart Completes

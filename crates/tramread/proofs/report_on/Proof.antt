@@ -1,12 +1,14 @@
 -- `tramread::report_on` meets its contract: the line of a refused card is its report, and of a sound card the words' report follows
 -- the card's line. Assumes nothing.
-use mathlib.Core.Path.{sym, ap, _∙_}
+use mathlib.Core.Path.{_≡_, sym, ap, _∙_}
 use native.Mathlib.Omega.{arith}
 use borrow.Author.Needs.{needs}
+use lib.ListN.{take}
+use Rattle.model.specs.Answers.{cardAnswer}
 use Rattle.report.specs.Lines.{cardLine}
 use Rattle.stream.proofs.Streaming.{text-at-front}
-use Rattle.tramread.specs.LastPart.{LastPart}
-use Rattle.tramread.proofs.CardFirst.{refused-card-line, words-behind-card}
+use Rattle.tramread.specs.Parts.{LastPart}
+use Rattle.tramread.proofs.Parts.{card-line-part, refused-card-line, words-behind-card}
 use Rattle.tramread.proofs.report_on.Statement.{statement}
 use Rattle.tramread.proofs.report_on.Tie as tie
 
@@ -17,13 +19,26 @@ decoded c = c .before .before .before
 abbrev first : tie.After-decode → tie.Start
 first c = c .before .before .before .before
 
+-- what is put at the front is the card's line
+is-card-line : (c : tie.After-put-card-line)
+    → take (c .put-card-line .result) (c .put-card-line .last .0) ≡ cardLine (cardAnswer (first (decoded c) .args .card .now))
+is-card-line c =
+    text-at-front (c .put-card-line .ensures .0)
+    ∙ ap cardLine (c .before .card-answer .ensures (first (decoded c) .args .card .now) (decoded c .decode .ensures))
+
 returns : tie.Need-returns
 returns c =
     let line = c .before .before .before .before in
     let from = decoded line .decode .ensures in
-    let args = first (decoded line) .args in
-    refused-card-line (args .card .now) (first (decoded line) .pre .0) (λ sound. c .if1 .taken (from .refusal ∙ sound)) _ _ (omega arith)
-    (text-at-front (line .put-card-line .ensures .0) ∙ ap cardLine (line .before .card-answer .ensures (args .card .now) from))
+    let called = first (decoded line) in
+    refused-card-line (called .args .card .now) (called .pre .0) (λ sound. c .if1 .taken (from .refusal ∙ sound)) _ _ (omega arith)
+    (is-card-line line)
+
+put-out-requires : tie.Need-put-out-requires
+put-out-requires c κs =
+    let line = c .before .before .before .before .before in
+    let called = first (decoded line) in
+    (omega arith, card-line-part (called .args .card .now) (called .pre .0) (is-card-line line))
 
 returns-2 : tie.Need-returns-2
 unfolding LastPart
@@ -34,7 +49,14 @@ read-words-requires c κs =
     let checked = c .before .before .before .before .before in
     let line = checked .before .before .before .before in
     let pre = first (decoded line) .pre in
-    (decoded line .decode .ensures .sound (checked .if1 .left), (pre .1 .0, line .put-card-line .kept .0 ∙ pre .1 .1))
+    let from = decoded line .decode .ensures in
+    let passed = checked .if1 .left in (
+      from .sound passed,
+      (
+        record { card = first (decoded line) .args .card .now; sound = sym (from .refusal) ∙ passed; is = from .code passed },
+        (pre .1 .0, line .put-card-line .kept .0 ∙ pre .1 .1),
+      ),
+    )
 
 returns-3 : tie.Need-returns-3
 returns-3 c =
@@ -55,7 +77,7 @@ report-on-spec =
     (λ c κs. search needs)
     (λ c. search needs)
     returns
-    (λ c κs. search needs)
+    put-out-requires
     (λ c. search needs)
     returns-2
     read-words-requires

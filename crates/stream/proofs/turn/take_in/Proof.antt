@@ -33,6 +33,10 @@ arrived c = length-take-le _ _ (first c .pre .1 .1 .0 .1)
 each : (c : tie.After-word-length) → wordLength (meaning (first c .args .code)) ≡ c .word-length .result
 each c = sym (c .word-length .ensures .0)
 
+-- the words met still fit
+met-fits : (c : tie.After-word-length) → first c .args .before .met + first c .args .n / c .word-length .result < 2 ^ 64
+met-fits c = rw (each c) at (first c .pre .1 .1 .1 .1)
+
 slice-aggregate-put-words : tie.Need-slice-aggregate-put-words
 slice-aggregate-put-words c = sym (arrived (c .before .before))
 
@@ -46,7 +50,7 @@ put-words-requires c κs =
       (
         rw (each length-of, arrived length-of) (div-mul-le-self (args .n) w),
         rw (zero-add, ← (each length-of)) (pre .1 .1 .1 .0),
-        rw (each length-of) at (pre .1 .1 .1 .1),
+        omega (arith, met-fits length-of),
       ),
     )
 
@@ -59,10 +63,6 @@ keep-tail-requires : tie.Need-keep-tail-requires
 keep-tail-requires c κs =
     let length-of = c .before .before .before .before .before .before in
     (div-mul-le-self _ _, first length-of .pre .1 .1 .0 .1)
-
--- the words met still fit
-met-fits : (c : tie.After-word-length) → first c .args .before .met + first c .args .n / c .word-length .result < 2 ^ 64
-met-fits c = rw (each c) at (first c .pre .1 .1 .1 .1)
 
 add-t19 : tie.Need-add-t19
 add-t19 c = omega (arith, met-fits (measured (put (c .before .before .before))))
