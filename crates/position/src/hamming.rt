@@ -27,9 +27,9 @@ pub fn bits_unlike(a: [u8; 40], b: [u8; 40]) -> u32
 }
 
 // A place before which u and v differ in exactly m places: found by bytes, and within the last one by bits.
-pub fn place_after(u: &[u8; 40], v: &[u8; 40], m: u32) -> u32
-    requires { ⌜ m ≤ distance 320 (place (now u)) (place (now v)) ⌝ }
-    ensures { λ r. ⌜ (r ≤ 320) × (distance r (place (now (u .entry))) (place (now (v .entry))) ≡ m) ⌝ }
+pub fn place_after(u: [u8; 40], v: [u8; 40], m: u32) -> u32
+    requires { ⌜ m ≤ distance 320 (place u) (place v) ⌝ }
+    ensures { λ r. ⌜ (r ≤ 320) × (distance r (place u) (place v) ≡ m) ⌝ }
 {
     let mut passed: u32 = 0;
     let mut j: usize = 0;
@@ -43,7 +43,8 @@ pub fn place_after(u: &[u8; 40], v: &[u8; 40], m: u32) -> u32
     }
     let mut q = 8 * j as u32;
     while passed < m {
-        passed += (places::bit_at(u, q) + places::bit_at(v, q)) % 2;
+        let i = (q / 8) as usize;
+        passed += (places::bit_of(u[i], q) + places::bit_of(v[i], q)) % 2;
         q += 1;
     }
     q

@@ -49,7 +49,7 @@ fn search_block(code: DecodedCode, x: [u8; 40], i: u32, at: u32, to: u32) -> Sca
         x,
         blocks::block_start(code, i) + hamming::bits_unlike(u, w),
     );
-    scan::pass_places(&u, &v, &x, at, to, first)
+    scan::pass_places(u, v, x, at, to, first)
 }
 
 // The answer of a search that has come to the last allowed position.
@@ -100,7 +100,7 @@ fn search_after_start(code: DecodedCode, x: [u8; 40], p: u32, s: Scan) -> Scan
 {
     let u = words::word_of(code, p);
     let v = words::word_of(code, p + 1);
-    scan::pass_places(&u, &v, &x, 0, code.distance, s)
+    scan::pass_places(u, v, x, 0, code.distance, s)
 }
 
 // Rule 3, both chunks reading p: the nearest from r(p) - D to r(p) + D, cut to the track.

@@ -25,7 +25,7 @@ fn chunk_reading(code: DecodedCode, x: [u8; 40], at: u32) -> Chunk
     requires { ⌜ Sound (meaning code) × (at + code .n ≤ wordBits (meaning code)) ⌝ }
     ensures { λ r. ⌜ r ≡ chunkReading (meaning code) (from at (place x)) ⌝ }
 {
-    search::read_chunk(code, places::bits_at(&x, at, code.n))
+    search::read_chunk(code, places::bits_at(x, at, code.n))
 }
 
 // What rule 1 answers: it reads chunk 1.
@@ -108,9 +108,9 @@ fn named_rule(code: DecodedCode, x: [u8; 40]) -> u32
     ensures { λ r. ⌜ (r ≡ ruleNamed (meaning code) (place x)) × (r ≤ 3) ⌝ }
 {
     let at = layout::layout_of(code);
-    let s1 = places::separator_at(&x, 0, code.distance);
-    let s2 = places::separator_at(&x, at.separator2, code.distance);
-    let s3 = places::separator_at(&x, at.separator3, code.distance);
+    let s1 = places::separator_at(x, 0, code.distance);
+    let s2 = places::separator_at(x, at.separator2, code.distance);
+    let s3 = places::separator_at(x, at.separator3, code.distance);
     if s1 == s2 {
         if s2 == s3 {
             return 3;
@@ -135,7 +135,7 @@ pub fn read(code: DecodedCode, word: &[u8]) -> ReadAnswer
     let x = words::received(word);
     let bits = layout::layout_of(code).bits;
     let rule = named_rule(code, x);
-    let spare = refusal::refusal_if(places::ones_from(&x, bits, 8 * len as u32 - bits) != 0, 8);
+    let spare = refusal::refusal_if(places::ones_from(x, bits, 8 * len as u32 - bits) != 0, 8);
     let unnamed = refusal::refusal_if(rule == 0, 9);
     let refusal = refusal::first_of(spare, unnamed);
     if refusal != 0 {

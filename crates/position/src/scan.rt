@@ -57,17 +57,18 @@ fn advance(s: Scan, residual: u32) -> Scan
 
 // From place `at` to place `to` of block i, whose words w(i) and w(i+1) are u and v: each place in which they differ is one
 // position on.
-pub fn pass_places(u: &[u8; 40], v: &[u8; 40], x: &[u8; 40], at: u32, to: u32, s: Scan) -> Scan
-    requires { ⌜ SearchReady (now u) (now v) (now x) at to s ⌝ }
-    ensures { λ r. ⌜ (r .low ≡ s .low) × Passes (now (u .entry)) (now (v .entry)) (now (x .entry)) at to s r ⌝ }
+pub fn pass_places(u: [u8; 40], v: [u8; 40], x: [u8; 40], at: u32, to: u32, s: Scan) -> Scan
+    requires { ⌜ SearchReady u v x at to s ⌝ }
+    ensures { λ r. ⌜ (r .low ≡ s .low) × Passes u v x at to s r ⌝ }
 {
     let mut q = at;
     let mut state = s;
     while q < to {
-        let old = places::bit_at(u, q);
-        let new = places::bit_at(v, q);
+        let j = (q / 8) as usize;
+        let old = places::bit_of(u[j], q);
+        let new = places::bit_of(v[j], q);
         if old != new {
-            let received = places::bit_at(x, q);
+            let received = places::bit_of(x[j], q);
             let next = advance(state, next_residual(state.residual, new, received));
             state = next;
         }

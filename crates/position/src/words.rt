@@ -95,7 +95,7 @@ pub fn word_in_block(code: DecodedCode, i: u32, m: u32) -> [u8; 40]
 {
     let u = word_of(code, i);
     let v = word_of(code, i + 1);
-    splice::spliced(u, v, hamming::place_after(&u, &v, m))
+    splice::spliced(u, v, hamming::place_after(u, v, m))
 }
 
 // The word of a position.

@@ -21,35 +21,35 @@ abbrev Passed : (u v : List ℕ) (m q passed : ℕ) → Type 0
 Passed u v m q passed = (q ≤ 320) × (passed ≡ distance q (place u) (place v)) × (passed ≤ m)
 
 abbrev Inv-bytes : tie.InvT-bytes
-Inv-bytes u v m passed₀ j₀ passed j = Passed u v m (8 * j) passed
+Inv-bytes m u v passed₀ j₀ passed j = Passed u v m (8 * j) passed
 
 abbrev μ-bytes : tie.MeasureT-bytes
-μ-bytes u v m passed₀ j₀ passed j = 40 - j
+μ-bytes m u v passed₀ j₀ passed j = 40 - j
 
 abbrev Inv-loop : tie.InvT-loop
-Inv-loop u v m passed₀ j q₀ passed q = Passed u v m q passed
+Inv-loop m u v passed₀ j q₀ passed q = Passed u v m q passed
 
 abbrev μ-loop : tie.MeasureT-loop
-μ-loop u v m passed₀ j q₀ passed q = 320 - q
+μ-loop m u v passed₀ j q₀ passed q = 320 - q
 
 bytes-holds : tie.Need-bytes-holds Inv-bytes μ-bytes Inv-loop μ-loop
 unfolding distance sumBelow
 bytes-holds c = (omega arith, refl, omega arith)
 
-element-copy-out-byte-unlike : tie.Need-element-copy-out-byte-unlike Inv-bytes μ-bytes Inv-loop μ-loop
-element-copy-out-byte-unlike c = search needs
+array-read-byte-unlike : tie.Need-array-read-byte-unlike Inv-bytes μ-bytes Inv-loop μ-loop
+array-read-byte-unlike c = search needs
 
-element-copy-out-byte-unlike-2 : tie.Need-element-copy-out-byte-unlike-2 Inv-bytes μ-bytes Inv-loop μ-loop
-element-copy-out-byte-unlike-2 c = search needs
+array-read-byte-unlike-2 : tie.Need-array-read-byte-unlike-2 Inv-bytes μ-bytes Inv-loop μ-loop
+array-read-byte-unlike-2 c = search needs
 
 byte-unlike-requires : tie.Need-byte-unlike-requires Inv-bytes μ-bytes Inv-loop μ-loop
 byte-unlike-requires c κs = search needs
 
 add-more : tie.Need-add-more Inv-bytes μ-bytes Inv-loop μ-loop
 add-more c =
-    let here = c .before .before .before .before in
+    let here = c .before .before in
     let args = here .before .args in
-    omega (arith, distance-le (8 * here .bytes .j) (place (args .u .now)) (place (args .v .now)))
+    omega (arith, distance-le (8 * here .bytes .j) (place (args .t1)) (place (args .t2)))
 
 add-j : tie.Need-add-j Inv-bytes μ-bytes Inv-loop μ-loop
 add-j c = search needs
@@ -59,9 +59,9 @@ bytes-less c = search needs
 
 bytes-again : tie.Need-bytes-again Inv-bytes μ-bytes Inv-loop μ-loop
 bytes-again c =
-    let here = c .before .before .before .before .before in
+    let here = c .before .before .before in
     let args = here .before .args in
-    (omega arith, omega (arith, distance-byte (args .u .now) (args .v .now) (here .bytes .j)), omega arith)
+    (omega arith, omega (arith, distance-byte (args .t1) (args .t2) (here .bytes .j)), omega arith)
 
 cast-q : tie.Need-cast-q Inv-bytes μ-bytes Inv-loop μ-loop
 cast-q c = search needs
@@ -81,11 +81,20 @@ inside c =
     (λ (l : loop .q < 320). l)
     (eq-or-lt-of-le (loop .inv .0))
 
-bit-at-requires : tie.Need-bit-at-requires Inv-bytes μ-bytes Inv-loop μ-loop
-bit-at-requires c κs = inside c
+cast-i : tie.Need-cast-i Inv-bytes μ-bytes Inv-loop μ-loop
+cast-i c = search needs
 
-bit-at-requires-2 : tie.Need-bit-at-requires-2 Inv-bytes μ-bytes Inv-loop μ-loop
-bit-at-requires-2 c κs = inside (c .before)
+array-read-bit-of : tie.Need-array-read-bit-of Inv-bytes μ-bytes Inv-loop μ-loop
+array-read-bit-of c = omega (arith, inside c)
+
+bit-of-requires : tie.Need-bit-of-requires Inv-bytes μ-bytes Inv-loop μ-loop
+bit-of-requires c κs = search needs
+
+array-read-bit-of-2 : tie.Need-array-read-bit-of-2 Inv-bytes μ-bytes Inv-loop μ-loop
+array-read-bit-of-2 c = omega (arith, inside (c .before))
+
+bit-of-requires-2 : tie.Need-bit-of-requires-2 Inv-bytes μ-bytes Inv-loop μ-loop
+bit-of-requires-2 c κs = search needs
 
 add-passed : tie.Need-add-passed Inv-bytes μ-bytes Inv-loop μ-loop
 add-passed c = search needs
@@ -103,10 +112,12 @@ loop-again : tie.Need-loop-again Inv-bytes μ-bytes Inv-loop μ-loop
 loop-again c =
     let in-loop = c .before .before in
     let loop = in-loop .before .loop in
-    let first = in-loop .before .before .before .before in
-    let one = distance-suc (loop .q) (place (first .args .u .now)) (place (first .args .v .now)) in (
+    let args = in-loop .before .before .before .before .args in
+    let one = distance-suc (loop .q) (place (args .t1)) (place (args .t2)) in
+    let old = c .before .bit-of .ensures .0 (args .t1) refl in
+    let new = c .bit-of2 .ensures .0 (args .t2) refl in (
       omega (arith, inside in-loop),
-      rw (add-one (loop .q), one, ← (loop .inv .1), c .before .bit-at .ensures .0, c .bit-at2 .ensures .0),
+      rw (add-one (loop .q), one, ← (loop .inv .1), old, new),
       omega arith,
     )
 
@@ -122,8 +133,8 @@ place-after-spec =
     Inv-loop
     μ-loop
     bytes-holds
-    element-copy-out-byte-unlike
-    element-copy-out-byte-unlike-2
+    array-read-byte-unlike
+    array-read-byte-unlike-2
     byte-unlike-requires
     add-more
     add-j
@@ -132,8 +143,11 @@ place-after-spec =
     cast-q
     mul-q
     loop-holds
-    bit-at-requires
-    bit-at-requires-2
+    cast-i
+    array-read-bit-of
+    bit-of-requires
+    array-read-bit-of-2
+    bit-of-requires-2
     add-passed
     add-passed-2
     add-q

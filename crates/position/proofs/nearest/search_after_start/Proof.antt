@@ -26,20 +26,19 @@ words c =
     (c .before .word-of .ensures) (c .word-of2 .ensures)
 
 none-passed : (c : tie.After-word-of2)
-    → PassedPlaces (meaning (c .before .before .args .code)) (c .before .before .args .p) (c .before .before .args .t2) 0 (c .before .before .args .s)
+    → PassedPlaces (meaning (c .before .before .args .code)) (c .before .before .args .p) (c .before .before .args .x) 0 (c .before .before .args .s)
 none-passed c =
     let first = c .before .before in
     passed-none (meaning (first .args .code)) (first .args .p) _ (first .args .s) (first .pre .2) (first .pre .3)
 
 pass-places-requires : tie.Need-pass-places-requires
 pass-places-requires c κs =
-    let there = c .before .before .before in
-    let first = there .before .before in
+    let first = c .before .before in
     record {
       code = meaning (first .args .code);
       block = first .args .p;
-      words = words there;
-      passed = none-passed there;
+      words = words c;
+      passed = none-passed c;
       forward = omega arith;
       room = omega arith;
     }
@@ -47,7 +46,7 @@ pass-places-requires c κs =
 returns : tie.Need-returns
 unfolding Passes
 returns c =
-    let there = c .before .before .before .before in
+    let there = c .before in
     let first = there .before .before in
     let C = meaning (first .args .code) in
     let passed = c .pass-places .ensures .1 C (first .args .p) (words there) (none-passed there) (omega arith) in

@@ -78,7 +78,7 @@ begin-requires c κs = search needs
 
 -- the search as it begins has passed the places below the first
 begun : (c : tie.After-begin)
-    → let there = c .before in PassedPlaces (C there) (i there) (first there .args .t2) (first there .args .at) (c .begin .result)
+    → let there = c .before in PassedPlaces (C there) (i there) (first there .args .x) (first there .args .at) (c .begin .result)
 unfolding Begun
 begun c =
     let there = c .before in
@@ -94,13 +94,12 @@ begun c =
 
 pass-places-requires : tie.Need-pass-places-requires
 pass-places-requires c κs =
-    let at-first = c .before .before .before in
-    let there = at-first .before in
+    let there = c .before in
     record {
       code = C there;
       block = i there;
       words = words there;
-      passed = begun at-first;
+      passed = begun c;
       forward = first there .pre .3;
       room = first there .pre .4;
     }
@@ -108,7 +107,7 @@ pass-places-requires c κs =
 returns : tie.Need-returns
 unfolding Passes
 returns c =
-    let at-first = c .before .before .before .before in
+    let at-first = c .before in
     let there = at-first .before in (
       c .pass-places .ensures .0 ∙ at-first .begin .ensures .0 ∙ low there,
       c .pass-places .ensures .1 (C there) (i there) (words there) (begun at-first) (first there .pre .4),

@@ -11,10 +11,10 @@ use Rattle.position.proofs.places.bits_at.Statement.{statement}
 use Rattle.position.proofs.places.bits_at.Tie as tie
 
 abbrev Inv-loop : tie.InvT-loop
-Inv-loop w at n value₀ p₀ value p = (p ≤ n + 8) × Gathered (from at (place w)) p value
+Inv-loop at n w value₀ p₀ value p = (p ≤ n + 8) × Gathered (from at (place w)) p value
 
 abbrev μ-loop : tie.MeasureT-loop
-μ-loop w at n value₀ p₀ value p = n - p
+μ-loop at n w value₀ p₀ value p = n - p
 
 loop-holds : tie.Need-loop-holds Inv-loop μ-loop
 loop-holds c = (omega arith, none-gathered _)
@@ -25,8 +25,8 @@ add-q c = search needs
 cast-j : tie.Need-cast-j Inv-loop μ-loop
 cast-j c = search needs
 
-element-copy-out-moved-to : tie.Need-element-copy-out-moved-to Inv-loop μ-loop
-element-copy-out-moved-to c = search needs
+array-read-moved-to : tie.Need-array-read-moved-to Inv-loop μ-loop
+array-read-moved-to c = search needs
 
 moved-to-requires : tie.Need-moved-to-requires Inv-loop μ-loop
 moved-to-requires c κs = search needs
@@ -42,11 +42,11 @@ loop-less c = search needs
 
 loop-again : tie.Need-loop-again Inv-loop μ-loop
 loop-again c =
-    let loop = c .before .before .before .loop in
-    let args = c .before .before .before .before .args in (
+    let loop = c .before .before .loop in
+    let args = c .before .before .before .args in (
       omega arith,
       rw (c .moved-to .ensures .0)
-          (places-gathered (args .w .now) (args .at) (loop .p) (loop .value) (c .moved-to .ensures .1) (loop .inv .1)),
+          (places-gathered (args .t1) (args .at) (loop .p) (loop .value) (c .moved-to .ensures .1) (loop .inv .1)),
     )
 
 low-bits-requires : tie.Need-low-bits-requires Inv-loop μ-loop
@@ -66,7 +66,7 @@ bits-at-spec =
     loop-holds
     add-q
     cast-j
-    element-copy-out-moved-to
+    array-read-moved-to
     moved-to-requires
     sub-p
     add-p

@@ -11,8 +11,8 @@ use Rattle.position.proofs.reading.chunk_reading.Tie as tie
 
 bits-at-requires : tie.Need-bits-at-requires
 bits-at-requires c κs =
-    let sound = c .before .pre .0 in
-    (omega (arith, c .before .pre .1, word-bits-bound (meaning (c .before .args .code)) sound), sound .n-high)
+    let sound = c .pre .0 in
+    (omega (arith, c .pre .1, word-bits-bound (meaning (c .args .code)) sound), sound .n-high)
 
 read-chunk-requires : tie.Need-read-chunk-requires
 read-chunk-requires c κs = search needs
@@ -20,7 +20,7 @@ read-chunk-requires c κs = search needs
 returns : tie.Need-returns
 returns c =
     c .read-chunk .ensures
-    ∙ chunkReading-ext (meaning (c .before .before .before .args .code)) _ _ (c .before .bits-at .ensures .1)
+    ∙ chunkReading-ext (meaning (c .before .before .args .code)) _ _ (c .before .bits-at .ensures .1)
 
 pub chunk-reading-spec : {M : Type 1} → statement M
 chunk-reading-spec = tie.close (tie.spec bits-at-requires read-chunk-requires returns)

@@ -13,14 +13,14 @@ use Rattle.position.proofs.reading.named_rule.Tie as tie
 
 -- what the three separators read: each is where the layout says, the first at place 0
 separators : (c : tie.After-separator-at3)
-    → let second = c .before .before in
-    let first = second .before .before in
-    let args = first .before .before .before .args in
-    SeparatorsRead (meaning (args .code)) (place (args .t2)) (first .separator-at .result) (second .separator-at2 .result) (c .separator-at3 .result)
+    → let second = c .before in
+    let first = second .before in
+    let args = first .before .before .args in
+    SeparatorsRead (meaning (args .code)) (place (args .x)) (first .separator-at .result) (second .separator-at2 .result) (c .separator-at3 .result)
 separators c =
-    let second = c .before .before in
-    let first = second .before .before in
-    let at = first .before .before .layout-of .ensures in
+    let second = c .before in
+    let first = second .before in
+    let at = first .before .layout-of .ensures in
     record {
       first = sym (first .separator-at .ensures ∙ ap (majority _) (from-zero _));
       second = sym (rw (at .separator₂-at) at (second .separator-at2 .ensures));

@@ -36,11 +36,11 @@ rule c = c .named-rule .ensures .0 ∙ ap (ruleNamed _) (held (c .before .before
 
 -- the count of ones is that of the spare bits
 spare-ones : (c : tie.After-ones-from)
-    → let got = c .before .before .before .before in
+    → let got = c .before .before .before in
     let C = meaning (got .before .before .before .before .args .code) in
     c .ones-from .result ≡ sumBelow (from (wordBits C) (place (got .received .result))) (8 * wordLength C - wordBits C)
 spare-ones c =
-    let laid = c .before .before .before in
+    let laid = c .before .before in
     let sized = laid .before .before .before in
     rw (laid .layout-of .ensures .bits-are, sized .word-length .ensures .0) at (c .ones-from .ensures .0)
 
@@ -50,7 +50,7 @@ module _ (c : tie.After-first-of) where
   counted = c .before .before .before
 
   abbrev named : tie.After-named-rule
-  named = counted .before .before
+  named = counted .before
 
   abbrev got : tie.After-received
   got = named .before .before
@@ -140,7 +140,7 @@ by-rule-requires c κs =
 returns-3 : tie.Need-returns-3
 returns-3 c =
     let chosen = c .before .before in
-    let named = chosen .before .before .before .before .before in
+    let named = chosen .before .before .before .before in
     rw (held (named .before .before), rule named) at (c .by-rule .ensures)
     ∙ read-by-rule (C chosen) (received chosen) (whole chosen) (neither (c .before) .0)
 

@@ -14,10 +14,10 @@ use Rattle.position.proofs.scan.pass_places.Statement.{statement}
 use Rattle.position.proofs.scan.pass_places.Tie as tie
 
 abbrev Inv-loop : tie.InvT-loop
-Inv-loop u v x at to q₀ state₀ q state = (q ≤ to) × (state .low ≡ state₀ .low) × Passes u v x q₀ q state₀ state
+Inv-loop at to u v x q₀ state₀ q state = (q ≤ to) × (state .low ≡ state₀ .low) × Passes u v x q₀ q state₀ state
 
 abbrev μ-loop : tie.MeasureT-loop
-μ-loop u v x at to q₀ state₀ q state = to - q
+μ-loop at to u v x q₀ state₀ q state = to - q
 
 loop-holds : tie.Need-loop-holds Inv-loop μ-loop
 unfolding Passes
@@ -26,7 +26,7 @@ loop-holds c = (c .pre .forward, refl, λ C i words passed room. passed)
 -- what the search has passed in the code and block that it is ready for
 passed : (c : tie.In-loop Inv-loop μ-loop)
     → let ready = c .before .before .pre in
-    PassedPlaces (ready .code) (ready .block) (c .before .before .args .x .now) (c .before .loop .q) (c .before .loop .state)
+    PassedPlaces (ready .code) (ready .block) (c .before .before .args .t3) (c .before .loop .q) (c .before .loop .state)
 unfolding Passes
 passed c =
     let ready = c .before .before .pre in
@@ -36,14 +36,26 @@ below-320 : (c : tie.In-loop Inv-loop μ-loop) → c .before .loop .q < 320
 below-320 c =
     let ready = c .before .before .pre in omega (arith, word-bits-bound (ready .code) (ready .words .sound))
 
-bit-at-requires : tie.Need-bit-at-requires Inv-loop μ-loop
-bit-at-requires c κs = below-320 c
+cast-j : tie.Need-cast-j Inv-loop μ-loop
+cast-j c = search needs
 
-bit-at-requires-2 : tie.Need-bit-at-requires-2 Inv-loop μ-loop
-bit-at-requires-2 c κs = below-320 (c .before)
+array-read-bit-of : tie.Need-array-read-bit-of Inv-loop μ-loop
+array-read-bit-of c = omega (arith, below-320 c)
 
-bit-at-requires-3 : tie.Need-bit-at-requires-3 Inv-loop μ-loop
-bit-at-requires-3 c κs = below-320 (c .before .before .before)
+bit-of-requires : tie.Need-bit-of-requires Inv-loop μ-loop
+bit-of-requires c κs = search needs
+
+array-read-bit-of-2 : tie.Need-array-read-bit-of-2 Inv-loop μ-loop
+array-read-bit-of-2 c = omega (arith, below-320 (c .before))
+
+bit-of-requires-2 : tie.Need-bit-of-requires-2 Inv-loop μ-loop
+bit-of-requires-2 c κs = search needs
+
+array-read-bit-of-3 : tie.Need-array-read-bit-of-3 Inv-loop μ-loop
+array-read-bit-of-3 c = omega (arith, below-320 (c .before .before .before))
+
+bit-of-requires-3 : tie.Need-bit-of-requires-3 Inv-loop μ-loop
+bit-of-requires-3 c κs = search needs
 
 next-residual-requires : tie.Need-next-residual-requires Inv-loop μ-loop
 next-residual-requires c κs =
@@ -53,15 +65,17 @@ next-residual-requires c κs =
     let ready = first .pre in
     let loop = in-loop .before .loop in
     let here = passed in-loop in
-    let old = bits .before .bit-at in
-    let new = bits .bit-at2 in
-    let differ = rw (old .ensures .0, new .ensures .0) at (c .before .if1 .taken) in (
-      omega (arith, residual-bound (ready .code) (ready .words .sound) (place (first .args .x .now)) (loop .state .position)),
-      new .ensures .1,
-      c .bit-at3 .ensures .1,
+    let args = first .args in
+    let old = bits .before .bit-of .ensures .0 (args .t1) refl in
+    let new = bits .bit-of2 .ensures .0 (args .t2) refl in
+    let received = c .bit-of3 .ensures .0 (args .t3) refl in
+    let differ = rw (old, new) at (c .before .if1 .taken) in (
+      omega (arith, residual-bound (ready .code) (ready .words .sound) (place (args .t3)) (loop .state .position)),
+      bits .bit-of2 .ensures .1,
+      c .bit-of3 .ensures .1,
       λ e.
           residual-positive (ready .code) (ready .block) _ _ _ (ready .words) (loop .q) (loop .state) here (omega arith)
-          differ (rw (c .bit-at3 .ensures .0, new .ensures .0) at e),
+          differ (rw (received, new) at e),
     )
 
 advance-requires : tie.Need-advance-requires Inv-loop μ-loop
@@ -82,23 +96,24 @@ loop-less c = search needs
 loop-again : tie.Need-loop-again Inv-loop μ-loop
 loop-again c =
     let bits = c .before in
-    let old = bits .before .bit-at in
-    let new = bits .bit-at2 in
     let loop = bits .before .before .before .loop in
+    let args = bits .before .before .before .before .args in
+    let old = bits .before .bit-of .ensures .0 (args .t1) refl in
+    let new = bits .bit-of2 .ensures .0 (args .t2) refl in
     ⊎-elim
     (λ turned.
-    let differ = rw (old .ensures .0, new .ensures .0) at (turned .0 .taken) in
-    let received = turned .1 in
+    let differ = rw (old, new) at (turned .0 .taken) in
+    let received = turned .1 .ensures .0 (args .t3) refl in
     let residual = turned .2 in
     let advanced = turned .3 in
     rw (turned .4) (
       omega arith,
       advanced .ensures .0 .0 ∙ loop .inv .1,
       passes-differing _ _ _ _ (loop .q) _ (loop .state) (loop .inv .2) differ (residual .result)
-          (rw (new .ensures .0, received .ensures .0) at (residual .ensures)) (advanced .result) (advanced .ensures .0 .1) (advanced .ensures .1),
+          (rw (new, received) at (residual .ensures)) (advanced .result) (advanced .ensures .0 .1) (advanced .ensures .1),
     ))
     (λ alike.
-    let same = rw (old .ensures .0, new .ensures .0) at (alike .0 .left) in
+    let same = rw (old, new) at (alike .0 .left) in
     rw (alike .1) (omega arith, loop .inv .1, passes-alike _ _ _ _ (loop .q) _ (loop .state) (loop .inv .2) same))
     (c .if1 .came)
 
@@ -115,9 +130,13 @@ pass-places-spec =
     Inv-loop
     μ-loop
     loop-holds
-    bit-at-requires
-    bit-at-requires-2
-    bit-at-requires-3
+    cast-j
+    array-read-bit-of
+    bit-of-requires
+    array-read-bit-of-2
+    bit-of-requires-2
+    array-read-bit-of-3
+    bit-of-requires-3
     next-residual-requires
     advance-requires
     add-q

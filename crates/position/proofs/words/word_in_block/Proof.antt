@@ -28,14 +28,13 @@ word-of-requires-2 c κs = search needs
 -- there are m places to pass
 place-after-requires : tie.Need-place-after-requires
 place-after-requires c κs =
-    let words = c .before .before in
-    let first = words .before .before in
+    let first = c .before .before in
     let C = meaning (first .args .code) in
     let d = wordBits C in
     let u = word C (first .args .i) in
     let v = word C (first .args .i + 1) in
     let longer = distance-longer (cut d u) (cut d v) {a = d} {d = 320} (word-bits-bound C (first .pre .0 .0)) in
-    rw (fun-ext (words .before .word-of .ensures), fun-ext (words .word-of2 .ensures))
+    rw (fun-ext (c .before .word-of .ensures), fun-ext (c .word-of2 .ensures))
     (omega (arith, longer, distance-cut d d u v (omega arith)))
 
 spliced-requires : tie.Need-spliced-requires
@@ -43,7 +42,7 @@ spliced-requires c κs = search needs
 
 returns : tie.Need-returns
 returns c p =
-    let words = c .before .before .before .before in
+    let words = c .before .before in
     let first = words .before .before in
     let C = meaning (first .args .code) in
     c .spliced .ensures p
