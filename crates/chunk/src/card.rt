@@ -27,10 +27,10 @@ pub fn high_first(card: &[u8], at: usize, m: usize) -> u64
     ensures { λ r. ⌜ (r ≡ highFirst (now (card .entry)) at m) × (r < 256 ^ m) ⌝ }
 {
     let mut value: u64 = 0;
-    let mut j: usize = 0;
-    while j < m {
-        value = value * 256 + wide(card[at + j]);
-        j += 1;
+    let mut left = m;
+    while left > 0 {
+        value = value * 256 + wide(card[at + m - left]);
+        left -= 1;
     }
     value
 }
