@@ -1,3 +1,4 @@
+pub mod Statuses
 pub mod NumberAnswers
 pub mod Writing
 pub mod Reading

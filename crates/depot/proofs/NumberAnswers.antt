@@ -1,27 +1,50 @@
--- What the calls that ask for one number answer, one law for each way out of the code, from what decoding the card gave.
--- Assumes nothing.
-use mathlib.Core.Path.{_≡_, sym, _∙_}
-use mathlib.Core.List.{List}
+-- What the calls that ask for one number answer, one law for each way out of the code, from what decoding the card gave; the
+-- status and the values are those of the answer that the definition gives. Assumes nothing.
+use mathlib.Core.Path.{_≡_, refl, sym, _∙_}
+use mathlib.Core.List.{List, [], _∷_}
 use Prim.Native.Nat.{ℕ, _≤_, _<_}
 use borrow.Author.Tests.{eq-eqb, ne-eqb, lt-ltb, le-ltb}
-use Rattle.model.specs.Card.{cardRefusal, SoundCard}
+use Rattle.model.specs.Card.{cardRefusal, codeOf, SoundCard}
 use Rattle.model.specs.Decoded.{meaning}
 use Rattle.model.specs.Order.{lastCodeword, lastPosition, start}
 use Rattle.model.specs.Words.{millimetresOf}
-use Rattle.model.specs.Answers.{startAnswer, millimetresAnswer}
+use Rattle.model.specs.Answers.{startRefusal, startAnswer, millimetresRefusal, millimetresAnswer}
+use Rattle.model.specs.Numbers.{numberStatus, numberValues}
 use Rattle.model.specs.declared.Decoded.{Decoded}
+use Rattle.model.specs.declared.NumberAnswer.{NumberAnswer}
 use Rattle.model.specs.declared.NumberAnswer.the-variants.{Number, Refused}
 use Rattle.chunk.specs.DecodedFrom.{DecodedFrom}
+use Rattle.depot.proofs.Statuses.{Told, start-told, millimetres-told}
+
+-- what the contracts say of the answers
+abbrev StartMeets : (card : List ℕ) (block : ℕ) → NumberAnswer → Type 0
+StartMeets card block answer =
+    (answer ≡ startAnswer card block)
+    × Told numberStatus numberValues (startRefusal card block) (start (codeOf card) block ∷ []) answer
+
+start-meets : (card : List ℕ) (block : ℕ) (answer : NumberAnswer) → answer ≡ startAnswer card block → StartMeets card block answer
+start-meets card block answer e = rw e (refl, start-told card block)
+
+abbrev MillimetresMeets : (card : List ℕ) (position : ℕ) → NumberAnswer → Type 0
+MillimetresMeets card position answer =
+    (answer ≡ millimetresAnswer card position)
+    × Told numberStatus numberValues (millimetresRefusal card position) (millimetresOf position ∷ []) answer
+
+millimetres-meets : (card : List ℕ) (position : ℕ) (answer : NumberAnswer) → answer ≡ millimetresAnswer card position
+    → MillimetresMeets card position answer
+millimetres-meets card position answer e = rw e (refl, millimetres-told card position)
 
 -- a card that is refused
 module _ (card : List ℕ) (decoded : Decoded) (from : DecodedFrom card decoded) (refused : decoded .refusal ≡ 0 → ⊥) where
-  pub start-refused : (block : ℕ) → Refused (decoded .refusal) ≡ startAnswer card block
+  pub start-refused : (block : ℕ) → StartMeets card block (Refused (decoded .refusal))
   unfolding startAnswer
-  start-refused block = rw (← (from .refusal), ne-eqb (decoded .refusal) 0 refused)
+  start-refused block =
+      start-meets card block (Refused (decoded .refusal)) (rw (← (from .refusal), ne-eqb (decoded .refusal) 0 refused))
 
-  pub millimetres-refused : (position : ℕ) → Refused (decoded .refusal) ≡ millimetresAnswer card position
+  pub millimetres-refused : (position : ℕ) → MillimetresMeets card position (Refused (decoded .refusal))
   unfolding millimetresAnswer
-  millimetres-refused position = rw (← (from .refusal), ne-eqb (decoded .refusal) 0 refused)
+  millimetres-refused position =
+      millimetres-meets card position (Refused (decoded .refusal)) (rw (← (from .refusal), ne-eqb (decoded .refusal) 0 refused))
 
 -- a sound card
 module _ (card : List ℕ) (decoded : Decoded) (from : DecodedFrom card decoded) (sound : decoded .refusal ≡ 0) where
@@ -29,24 +52,28 @@ module _ (card : List ℕ) (decoded : Decoded) (from : DecodedFrom card decoded)
   is-sound = sym (from .refusal) ∙ sound
 
   pub start-above : (last block : ℕ) → last ≡ lastCodeword (meaning (decoded .code)) → last < block
-      → Refused 7 ≡ startAnswer card block
+      → StartMeets card block (Refused 7)
   unfolding startAnswer
-  start-above last block is h = rw (eq-eqb (cardRefusal card) 0 is-sound, ← (from .code sound), ← is, lt-ltb last block h)
+  start-above last block is h =
+      start-meets card block (Refused 7) (rw (eq-eqb (cardRefusal card) 0 is-sound, ← (from .code sound), ← is, lt-ltb last block h))
 
   pub start-within : (last block answer : ℕ) → last ≡ lastCodeword (meaning (decoded .code)) → block ≤ last
-      → answer ≡ start (meaning (decoded .code)) block → Number answer ≡ startAnswer card block
+      → answer ≡ start (meaning (decoded .code)) block → StartMeets card block (Number answer)
   unfolding startAnswer
   start-within last block answer is h e =
-      rw (eq-eqb (cardRefusal card) 0 is-sound, ← (from .code sound), ← is, ← e, le-ltb last block h)
+      start-meets card block (Number answer)
+      (rw (eq-eqb (cardRefusal card) 0 is-sound, ← (from .code sound), ← is, ← e, le-ltb last block h))
 
   pub millimetres-above : (last position : ℕ) → last ≡ lastPosition (meaning (decoded .code)) → last < position
-      → Refused 7 ≡ millimetresAnswer card position
+      → MillimetresMeets card position (Refused 7)
   unfolding millimetresAnswer
   millimetres-above last position is h =
-      rw (eq-eqb (cardRefusal card) 0 is-sound, ← (from .code sound), ← is, lt-ltb last position h)
+      millimetres-meets card position (Refused 7)
+      (rw (eq-eqb (cardRefusal card) 0 is-sound, ← (from .code sound), ← is, lt-ltb last position h))
 
   pub millimetres-within : (last position : ℕ) → last ≡ lastPosition (meaning (decoded .code)) → position ≤ last
-      → Number (millimetresOf position) ≡ millimetresAnswer card position
+      → MillimetresMeets card position (Number (millimetresOf position))
   unfolding millimetresAnswer
   millimetres-within last position is h =
-      rw (eq-eqb (cardRefusal card) 0 is-sound, ← (from .code sound), ← is, le-ltb last position h)
+      millimetres-meets card position (Number (millimetresOf position))
+      (rw (eq-eqb (cardRefusal card) 0 is-sound, ← (from .code sound), ← is, le-ltb last position h))

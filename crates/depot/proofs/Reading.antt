@@ -1,33 +1,44 @@
--- What a read answers, one law for each way out of the code; the theorems of demands 2 and 3 hold of the answer that the
--- definition gives. Assumes nothing.
+-- What a read answers, one law for each way out of the code; the status and the values are those of the answer that the
+-- definition gives, and the theorems of demands 2 and 3 hold of it. Assumes nothing.
 use mathlib.Core.Path.{_≡_, refl, sym, _∙_}
 use mathlib.Core.List.{List}
 use Prim.Native.Nat.{ℕ}
 use borrow.Author.Tests.{ne-eqb}
 use Rattle.model.specs.Decoded.{meaning}
-use Rattle.model.specs.Answers.{readWord, readAnswer}
+use Rattle.model.specs.Answers.{readWord, readAnswer, readRefusal, readFigures}
+use Rattle.model.specs.Numbers.{ifServed, readStatus, readValues}
 use Rattle.model.specs.declared.Decoded.{Decoded}
 use Rattle.model.specs.declared.ReadAnswer.{ReadAnswer}
 use Rattle.model.specs.declared.ReadAnswer.the-variants.{Refused}
 use Rattle.position_theory.specs.Demands.{NearestOfAllowed, OffByAtMostTwiceTurned, OffByAtMostTurnedAndResidual}
 use Rattle.position_theory.proofs.Demands.{read-sound, nearest-of-allowed, off-by-at-most-twice-turned, off-by-at-most-turned-and-residual}
 use Rattle.chunk.specs.DecodedFrom.{DecodedFrom}
+use Rattle.depot.proofs.Statuses.{read-told}
 
 module _ (card received : List ℕ) where
   -- what the contract of the read says of its answer
   abbrev ReadMeets : ReadAnswer → Type 0
   ReadMeets answer =
       (answer ≡ readAnswer card received)
+      × ((readStatus answer ≡ readRefusal card received)
+      × ((readValues answer ≡ ifServed (readStatus answer) (readFigures card received))
       × (OffByAtMostTwiceTurned card received answer
-      × (OffByAtMostTurnedAndResidual card received answer × NearestOfAllowed card received answer))
+      × (OffByAtMostTurnedAndResidual card received answer × NearestOfAllowed card received answer))))
 
   read-meets : (answer : ReadAnswer) → answer ≡ readAnswer card received → ReadMeets answer
   read-meets answer e =
+      let (status, values) = read-told card received in
       (rw e (
         refl,
         (
-          off-by-at-most-twice-turned card received,
-          (off-by-at-most-turned-and-residual card received, nearest-of-allowed card received),
+          status,
+          (
+            values,
+            (
+              off-by-at-most-twice-turned card received,
+              (off-by-at-most-turned-and-residual card received, nearest-of-allowed card received),
+            ),
+          ),
         ),
       ))
 

@@ -1,8 +1,9 @@
--- What a write answers and what it leaves in the lent word, one law for each way out of the code. A refusal leaves the lent bytes;
--- where the word is written, demand 2 holds of what the lent word then holds. Assumes nothing.
+-- What a write answers and what it leaves in the lent word, one law for each way out of the code. The status is that of the
+-- answer that the definition gives. A refusal leaves the lent bytes; where the word is written, demand 2 holds of what the lent
+-- word then holds. Assumes nothing.
 use mathlib.Core.Path.{_≡_, sym, _∙_}
 use mathlib.Core.Bool.{cond, not}
-use mathlib.Core.List.{List}
+use mathlib.Core.List.{List, []}
 use Prim.Native.Nat.{ℕ, _≤_}
 use borrow.Author.Tests.{eq-eqb, ne-eqb, eqb-true, ltb-false, not-false}
 use native.Mathlib.Omega.{arith}
@@ -13,6 +14,7 @@ use Rattle.model.specs.Decoded.{meaning}
 use Rattle.model.specs.Order.{lastPosition}
 use Rattle.model.specs.Words.{wordBytes}
 use Rattle.model.specs.Answers.{wordLength, writeRefusal, writeAnswer, lentAfterWrite}
+use Rattle.model.specs.Numbers.{writeStatus, writeValues}
 use Rattle.model.specs.declared.Decoded.{Decoded}
 use Rattle.model.specs.declared.WriteAnswer.{WriteAnswer}
 use Rattle.model.specs.declared.WriteAnswer.the-variants.{Written, Refused}
@@ -22,33 +24,42 @@ use Rattle.position_theory.proofs.Writing.{written-if-servable, unchanged-if-re
 use Rattle.chunk.specs.FirstRefusal.{refusalIf, firstOf}
 use Rattle.chunk.proofs.FirstRefusal.{first-by-tests, none-by-tests}
 use Rattle.chunk.specs.DecodedFrom.{DecodedFrom}
+use Rattle.depot.proofs.Statuses.{write-status, no-write-values}
 
 module _ (card : List ℕ) (position : ℕ) (lent : List ℕ) where
   -- what the contract of the write says of its answer and of the lent word as the write leaves it
   abbrev WriteMeets : WriteAnswer → List ℕ → Type 0
   WriteMeets answer left =
       (answer ≡ writeAnswer card position lent)
+      × ((writeStatus answer ≡ writeRefusal card position lent)
+      × ((writeValues answer ≡ [])
       × ((left ≡ lentAfterWrite card position lent)
       × (WrittenIfServable card position lent answer
       × (UnchangedIfRefused lent left answer
       × ((answer ≡ Written → NeighboursDifferInOneBit card position left)
-      × (answer ≡ Written → NoOtherPositionsWord card position left)))))
+      × (answer ≡ Written → NoOtherPositionsWord card position left)))))))
 
   write-meets : (answer : WriteAnswer) (left : List ℕ) → answer ≡ writeAnswer card position lent
       → left ≡ lentAfterWrite card position lent → WriteMeets answer left
   write-meets answer left e f = (
     e,
     (
-      f,
+      rw e (write-status card position lent),
       (
-        rw e (written-if-servable card position lent),
+        no-write-values answer,
         (
-          rw (e, f) (unchanged-if-refused card position lent),
+          f,
           (
-            λ w. let means = written-means card position lent (sym e ∙ w) in
-                rw (f ∙ means .2) (neighbours-differ-in-one-bit card position (means .0) (means .1)),
-            λ w. let means = written-means card position lent (sym e ∙ w) in
-                rw (f ∙ means .2) (no-other-positions-word card position (means .0) (means .1)),
+            rw e (written-if-servable card position lent),
+            (
+              rw (e, f) (unchanged-if-refused card position lent),
+              (
+                λ w. let means = written-means card position lent (sym e ∙ w) in
+                    rw (f ∙ means .2) (neighbours-differ-in-one-bit card position (means .0) (means .1)),
+                λ w. let means = written-means card position lent (sym e ∙ w) in
+                    rw (f ∙ means .2) (no-other-positions-word card position (means .0) (means .1)),
+              ),
+            ),
           ),
         ),
       ),

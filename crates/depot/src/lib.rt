@@ -1,9 +1,18 @@
 // The public calls. Each takes a card's bytes, checks them itself, and answers every input: the card's bytes may be any list of
-// bytes, and a number any number of its type. What an answer means is said by the definitions that the contracts name.
+// bytes, and a number any number of its type. What an answer means is said by the definitions that the contracts name: its status
+// is the refusal's number in document 01, or 0 where the call is served; its values are those named, or none where it is refused.
 ghost use mathlib.Core.Path.{_≡_};
+ghost use mathlib.Core.List.{[], _∷_};
+ghost use Rattle.model.specs.Card.{cardRefusal, codeOf};
+ghost use Rattle.model.specs.Order.{start};
+ghost use Rattle.model.specs.Words.{millimetresOf};
 ghost use Rattle.model.specs.Answers.{cardAnswer, writeAnswer, lentAfterWrite, readAnswer, startAnswer, millimetresAnswer};
+ghost use Rattle.model.specs.Answers.{cardFigures, writeRefusal, readRefusal, readFigures, startRefusal, millimetresRefusal};
+ghost use Rattle.model.specs.Numbers.{ifServed, cardStatus, cardValues, writeStatus, writeValues};
+ghost use Rattle.model.specs.Numbers.{readStatus, readValues, numberStatus, numberValues};
 ghost use Rattle.model.specs.declared.WriteAnswer.the-variants.{Written};
-ghost use Rattle.position_theory.specs.Demands.{WrittenIfServable, UnchangedIfRefused, NeighboursDifferInOneBit, NoOtherPositionsWord, NearestOfAllowed, OffByAtMostTwiceTurned, OffByAtMostTurnedAndResidual};
+ghost use Rattle.position_theory.specs.Demands.{WrittenIfServable, UnchangedIfRefused, NeighboursDifferInOneBit, NoOtherPositionsWord};
+ghost use Rattle.position_theory.specs.Demands.{NearestOfAllowed, OffByAtMostTwiceTurned, OffByAtMostTurnedAndResidual};
 use chunk::decode;
 use chunk::refusal;
 use model::CardAnswer;
@@ -19,6 +28,8 @@ use position::words;
 // Checks a card. A sound card is answered with its n, k, track, D, t, d and last position; any other with its refusal, 1 to 5.
 pub fn check_card(card: &[u8]) -> CardAnswer
     ensures answer { λ r. ⌜ r ≡ cardAnswer (now (card .entry)) ⌝ }
+    ensures status { λ r. ⌜ cardStatus r ≡ cardRefusal (now (card .entry)) ⌝ }
+    ensures values { λ r. ⌜ cardValues r ≡ ifServed (cardStatus r) (cardFigures (now (card .entry))) ⌝ }
 {
     summary::card_answer(decode::decode(card))
 }
@@ -28,6 +39,8 @@ pub fn check_card(card: &[u8]) -> CardAnswer
 // is written differs in just one bit from the word of each neighbouring position, and is the word of no other position.
 pub fn write_word(card: &[u8], position: u32, word: &mut [u8]) -> WriteAnswer
     ensures answer { λ r. ⌜ r ≡ writeAnswer (now (card .entry)) position (now (word .entry)) ⌝ }
+    ensures status { λ r. ⌜ writeStatus r ≡ writeRefusal (now (card .entry)) position (now (word .entry)) ⌝ }
+    ensures values { λ r. ⌜ writeValues r ≡ [] ⌝ }
     ensures left { λ r. ⌜ now (word .exit) ≡ lentAfterWrite (now (card .entry)) position (now (word .entry)) ⌝ }
     ensures served { λ r. ⌜ WrittenIfServable (now (card .entry)) position (now (word .entry)) r ⌝ }
     ensures unchanged { λ r. ⌜ UnchangedIfRefused (now (word .entry)) (now (word .exit)) r ⌝ }
@@ -57,6 +70,8 @@ pub fn write_word(card: &[u8], position: u32, word: &mut [u8]) -> WriteAnswer
 // that is read, it is the nearest of the positions that the rule allows.
 pub fn read_word(card: &[u8], word: &[u8]) -> ReadAnswer
     ensures answer { λ r. ⌜ r ≡ readAnswer (now (card .entry)) (now (word .entry)) ⌝ }
+    ensures status { λ r. ⌜ readStatus r ≡ readRefusal (now (card .entry)) (now (word .entry)) ⌝ }
+    ensures values { λ r. ⌜ readValues r ≡ ifServed (readStatus r) (readFigures (now (card .entry)) (now (word .entry))) ⌝ }
     ensures bounded { λ r. ⌜ OffByAtMostTwiceTurned (now (card .entry)) (now (word .entry)) r ⌝ }
     ensures sharper { λ r. ⌜ OffByAtMostTurnedAndResidual (now (card .entry)) (now (word .entry)) r ⌝ }
     ensures nearest { λ r. ⌜ NearestOfAllowed (now (card .entry)) (now (word .entry)) r ⌝ }
@@ -71,6 +86,8 @@ pub fn read_word(card: &[u8], word: &[u8]) -> ReadAnswer
 // The position at which a block starts. Refused: the card, 1 to 5, or a block above 2^k - 1, 7.
 pub fn block_start(card: &[u8], block: u32) -> NumberAnswer
     ensures answer { λ r. ⌜ r ≡ startAnswer (now (card .entry)) block ⌝ }
+    ensures status { λ r. ⌜ numberStatus r ≡ startRefusal (now (card .entry)) block ⌝ }
+    ensures values { λ r. ⌜ numberValues r ≡ ifServed (numberStatus r) (start (codeOf (now (card .entry))) block ∷ []) ⌝ }
 {
     let decoded = decode::decode(card);
     if decoded.refusal != 0 {
@@ -86,6 +103,8 @@ pub fn block_start(card: &[u8], block: u32) -> NumberAnswer
 // The distance of a position from the buffer face, in millimetres. Refused: the card, 1 to 5, or a position above the last, 7.
 pub fn millimetres(card: &[u8], position: u32) -> NumberAnswer
     ensures answer { λ r. ⌜ r ≡ millimetresAnswer (now (card .entry)) position ⌝ }
+    ensures status { λ r. ⌜ numberStatus r ≡ millimetresRefusal (now (card .entry)) position ⌝ }
+    ensures values { λ r. ⌜ numberValues r ≡ ifServed (numberStatus r) (millimetresOf position ∷ []) ⌝ }
 {
     let decoded = decode::decode(card);
     if decoded.refusal != 0 {

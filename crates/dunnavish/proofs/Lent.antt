@@ -11,7 +11,7 @@ use Rattle.dunnavish.specs.Crossing.{wrongCount, statusFor, leftBy, Unch
 
 module _ (count : ℕ) (lent : List ℕ) where
   -- what the contract of a call says of its status and of what it leaves, where the answer's status is `answered`
-  abbrev Crosses : (answered : ℕ) (values : List ℕ) (status : ℕ) (left : List ℕ) → Type 0
+  abbrev pub Crosses : (answered : ℕ) (values : List ℕ) (status : ℕ) (left : List ℕ) → Type 0
   Crosses answered values status left =
       (status ≡ statusFor count lent answered)
       × ((left ≡ leftBy status values lent) × UnchangedUnlessZero lent status left)

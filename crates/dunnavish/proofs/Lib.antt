@@ -1,2 +1,3 @@
 pub mod Lent
 pub mod NonzeroRefusals
+pub mod ReadDemands

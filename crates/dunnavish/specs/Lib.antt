@@ -1,1 +1,2 @@
 pub mod Crossing
+pub mod Demands

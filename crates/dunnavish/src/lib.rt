@@ -6,6 +6,7 @@ ghost use mathlib.Core.Path.{_≡_};
 ghost use Rattle.model.specs.Answers.{cardAnswer, writeAnswer, lentAfterWrite, readAnswer, startAnswer, millimetresAnswer};
 ghost use Rattle.model.specs.Numbers.{cardStatus, cardValues, writeStatus, readStatus, readValues, numberStatus, numberValues};
 ghost use Rattle.dunnavish.specs.Crossing.{cardCount, readCount, numberCount, statusFor, leftBy, UnchangedUnlessZero};
+ghost use Rattle.dunnavish.specs.Demands.{ServedWithinTwiceTurned, ServedWithinTurnedAndResidual};
 use model::CardAnswer;
 use model::NumberAnswer;
 use model::ReadAnswer;
@@ -54,12 +55,16 @@ pub extern "C" fn dunnavish_write_word(card: &[u8], position: u32, word: &mut [u
     }
 }
 
-// Reads a received word: position, residual and rule into three numbers.
+// Reads a received word: position, residual and rule into three numbers. Of the word of any position on the track, with at most t
+// bits turned in each chunk, the status is 0 where three numbers are lent, and the position put into the first of them is at most
+// twice as many steps off as bits are turned, and at most as many as bits are turned and the residual, the second, together.
 #[no_mangle]
 pub extern "C" fn dunnavish_read_word(card: &[u8], word: &[u8], values: &mut [u32]) -> u32
     ensures status { λ r. ⌜ r ≡ statusFor readCount (now (values .entry)) (readStatus (readAnswer (now (card .entry)) (now (word .entry)))) ⌝ }
     ensures left { λ r. ⌜ now (values .exit) ≡ leftBy r (readValues (readAnswer (now (card .entry)) (now (word .entry)))) (now (values .entry)) ⌝ }
     ensures unchanged { λ r. ⌜ UnchangedUnlessZero (now (values .entry)) r (now (values .exit)) ⌝ }
+    ensures bounded { λ r. ⌜ ServedWithinTwiceTurned (now (card .entry)) (now (word .entry)) (now (values .entry)) r (now (values .exit)) ⌝ }
+    ensures sharper { λ r. ⌜ ServedWithinTurnedAndResidual (now (card .entry)) (now (word .entry)) (now (values .entry)) r (now (values .exit)) ⌝ }
 {
     if values.len() != 3 {
         return WRONG_COUNT;

@@ -1,17 +1,21 @@
 -- Document 01, "Where a call can be turned down": what each of the five public calls answers, for every list of bytes and
 -- every number. The refusals stand in the table's order, as far as the call has the thing, and the first that holds is the
--- answer. Assumes nothing.
-use mathlib.Core.Bool.{Bool, cond, not}
-use mathlib.Core.List.{List}
+-- answer. Beside each answer stand the number of its refusal, 0 where the call is served, and its values where it is; that the
+-- answer's status and values, by Numbers.antt, are these is part of the calls' contracts. Assumes nothing.
+use mathlib.Core.Bool.{Bool, cond, not, _&&_, _||_}
+use mathlib.Core.List.{List, [], _∷_}
 use Prim.Native.Nat.{ℕ, _+_, _-_, _*_}
 use lib.Dec.{ltb, eqb}
-use lib.ListN.{length}
+use lib.ListN.{length, getD}
 use Rattle.bits.specs.Places.{bytesFor, place}
-use Rattle.bits.specs.Searches.{anyBelow}
+use Rattle.bits.specs.Searches.{anyBelow, leastAt}
 use Rattle.model.specs.Card.{Code, cardRefusal, codeOf, radius, trackOf}
 use Rattle.model.specs.Order.{lastCodeword, lastPosition, start}
 use Rattle.model.specs.Words.{wordBits, wordBytes, millimetresOf}
-use Rattle.model.specs.Reading.{reading}
+use Rattle.model.specs.Reading.{chunk₁, chunk₂, chunkReading, ruleNamed}
+use Rattle.model.specs.Reading.{Allowed, fromTo, refusedBy, allowed, residual, reading}
+use Rattle.model.specs.Numbers.{chunkStatus, chunkValues}
+use Rattle.model.specs.declared.Chunk.{Chunk}
 use Rattle.model.specs.declared.CardSummary.{CardSummary}
 use Rattle.model.specs.declared.CardAnswer.{CardAnswer}
 use Rattle.model.specs.declared.CardAnswer.the-variants.{Sound, Refused as CardRefused}
@@ -45,6 +49,11 @@ unfoldable pub cardAnswer : List ℕ → CardAnswer
 cardAnswer b =
     cond (not (eqb (cardRefusal b) 0)) (CardRefused (cardRefusal b))
     (Sound (summaryOf b))
+
+-- the values of a sound card: n, k, track, D, t, d and the last position
+unfoldable pub cardFigures : List ℕ → List ℕ
+cardFigures b =
+    let C : Code = codeOf b in C .n ∷ C .k ∷ trackOf b ∷ C .D ∷ radius C ∷ wordBits C ∷ lastPosition C ∷ []
 
 -- write: the refusal's number, or 0 where the word is written
 unfoldable pub writeRefusal : (card : List ℕ) (position : ℕ) (lent : List ℕ) → ℕ
@@ -83,12 +92,64 @@ readAnswer card received =
     cond (not (eqb (cardRefusal card) 0)) (ReadRefused (cardRefusal card))
     (readWord (codeOf card) received)
 
+-- whether a chunk read as no codeword, and the number of the codeword that any other read as
+abbrev pub unreadable : Chunk → Bool
+unreadable read = not (eqb (chunkStatus read) 0)
+
+abbrev pub codewordNumber : Chunk → ℕ
+codewordNumber read = getD (chunkValues read) 0 0
+
+-- refusals 9 to 12, or 0, of a word whose separators name this rule (0 for none) and whose chunks read so
+unfoldable pub refusalByRule : Code → (rule : ℕ) (read₁ read₂ : Chunk) → ℕ
+refusalByRule C rule read₁ read₂ =
+    cond (eqb rule 0) 9
+    (cond ((eqb rule 1 || eqb rule 3) && unreadable read₁ || (eqb rule 2 || eqb rule 3) && unreadable read₂) 10
+    (cond (eqb rule 3 && not (eqb (codewordNumber read₁) (codewordNumber read₂))) 11
+    (cond (eqb rule 1 && eqb (codewordNumber read₁) 0 || eqb rule 2 && eqb (codewordNumber read₂) (lastCodeword C)) 12
+    0)))
+
+-- read: the refusal's number, or 0 where the word is read
+unfoldable pub readRefusal : (card received : List ℕ) → ℕ
+readRefusal card received =
+    let C : Code = codeOf card in
+    let x : ℕ → ℕ = place received in
+    cond (not (eqb (cardRefusal card) 0)) (cardRefusal card)
+    (cond (not (eqb (length received) (wordLength C))) 6
+    (cond (spareSet C received) 8
+    (refusalByRule C (ruleNamed C x) (chunkReading C (chunk₁ C x)) (chunkReading C (chunk₂ C x)))))
+
+-- the allowed position whose word has fewest bits unlike x, the smallest on a tie (0 where none is allowed, which means nothing)
+unfoldable pub nearestPosition : Code → (x : ℕ → ℕ) → Allowed → ℕ
+nearestPosition C x (fromTo rule low high) = leastAt (residual C x) low (high - low)
+nearestPosition C x (refusedBy refusal) = 0
+
+-- the values of a word that is read: the nearest allowed position, its residual, and the rule that the separators name
+unfoldable pub readFigures : (card received : List ℕ) → List ℕ
+readFigures card received =
+    let C : Code = codeOf card in
+    let x : ℕ → ℕ = place received in
+    let position : ℕ = nearestPosition C x (allowed C x) in position ∷ residual C x position ∷ ruleNamed C x ∷ []
+
+-- block start: the refusal's number, or 0
+unfoldable pub startRefusal : (card : List ℕ) (block : ℕ) → ℕ
+startRefusal card block =
+    cond (not (eqb (cardRefusal card) 0)) (cardRefusal card)
+    (cond (ltb (lastCodeword (codeOf card)) block) 7
+    0)
+
 -- block start: r(block)
 unfoldable pub startAnswer : (card : List ℕ) (block : ℕ) → NumberAnswer
 startAnswer card block =
     cond (not (eqb (cardRefusal card) 0)) (NumberRefused (cardRefusal card))
     (cond (ltb (lastCodeword (codeOf card)) block) (NumberRefused 7)
     (Number (start (codeOf card) block)))
+
+-- millimetres: the refusal's number, or 0
+unfoldable pub millimetresRefusal : (card : List ℕ) (position : ℕ) → ℕ
+millimetresRefusal card position =
+    cond (not (eqb (cardRefusal card) 0)) (cardRefusal card)
+    (cond (ltb (lastPosition (codeOf card)) position) 7
+    0)
 
 -- millimetres: the distance of a position from the buffer face
 unfoldable pub millimetresAnswer : (card : List ℕ) (position : ℕ) → NumberAnswer

@@ -1,8 +1,12 @@
--- What the answers stand for in document 01's words, for every case of each answer's enum: its status, which is 0 where the call
--- is served and the refusal's number in the table where it is turned down, and its values. A refusal carries its number alone.
--- Assumes nothing.
+-- What the answers, and what a code chunk reads as, stand for in document 01's words, for every case of each enum: its status,
+-- which is 0 where the call is served and the refusal's number in the table where it is turned down, and its values. A refusal
+-- carries its number alone. Assumes nothing.
+use mathlib.Core.Bool.{cond}
 use mathlib.Core.List.{List, [], _∷_}
 use Prim.Native.Nat.{ℕ}
+use lib.Dec.{eqb}
+use Rattle.model.specs.declared.Chunk.{Chunk}
+use Rattle.model.specs.declared.Chunk.the-variants.{Codeword, Unreadable}
 use Rattle.model.specs.declared.CardAnswer.{CardAnswer}
 use Rattle.model.specs.declared.CardAnswer.the-variants.{Sound, Refused as CardRefused}
 use Rattle.model.specs.declared.WriteAnswer.{WriteAnswer}
@@ -11,6 +15,19 @@ use Rattle.model.specs.declared.ReadAnswer.{ReadAnswer}
 use Rattle.model.specs.declared.ReadAnswer.the-variants.{At, Refused as ReadRefused}
 use Rattle.model.specs.declared.NumberAnswer.{NumberAnswer}
 use Rattle.model.specs.declared.NumberAnswer.the-variants.{Number, Refused as NumberRefused}
+
+-- the values of an answer with this status: these where it is 0, and none of a refusal
+unfoldable pub ifServed : (status : ℕ) (values : List ℕ) → List ℕ
+ifServed status values = cond (eqb status 0) values []
+
+-- a code chunk: the number of its codeword, and in how many bits the two differ; 10 where no codeword lies within the radius
+unfoldable pub chunkStatus : Chunk → ℕ
+chunkStatus (Codeword number unlike) = 0
+chunkStatus Unreadable = 10
+
+unfoldable pub chunkValues : Chunk → List ℕ
+chunkValues (Codeword number unlike) = number ∷ unlike ∷ []
+chunkValues Unreadable = []
 
 -- a check of a card: n, k, track, D, t, d and the last position
 unfoldable pub cardStatus : CardAnswer → ℕ

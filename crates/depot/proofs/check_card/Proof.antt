@@ -1,6 +1,7 @@
 -- `depot::check_card` meets its contract: `card_answer` answers for every card that decodes to its argument, and this card does.
--- Assumes nothing.
+-- The status and the values are those of that answer. Assumes nothing.
 use borrow.Author.Needs.{needs}
+use Rattle.depot.proofs.Statuses.{card-told}
 use Rattle.depot.proofs.check_card.Statement.{statement}
 use Rattle.depot.proofs.check_card.Tie as tie
 
@@ -11,7 +12,7 @@ card-answer-requires : tie.Need-card-answer-requires
 card-answer-requires c κs = search needs
 
 returns : tie.Need-returns
-returns c = c .card-answer .ensures _ (c .before .decode .ensures)
+returns c = let e = c .card-answer .ensures _ (c .before .decode .ensures) in (e, rw e (card-told _))
 
 pub check-card-spec : {M : Type 1} → statement M
 check-card-spec = tie.close (tie.spec decode-requires card-answer-requires returns)

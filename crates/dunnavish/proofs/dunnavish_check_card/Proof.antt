@@ -49,7 +49,7 @@ returns-2 : tie.Need-returns-2
 unfolding cardStatus cardValues
 returns-2 c =
     let asked = c .before .before .before in
-    let refused = sym (asked .check-card .ensures) ∙ c .before .answer .given .1 in
+    let refused = sym (asked .check-card .ensures .0) ∙ c .before .answer .given .1 in
     rw refused (refusal-changes-nothing cardCount _ (asked .before .if1 .left) _ (card-refusal-nonzero _ refused) _)
 
 same-length : tie.Need-same-length
@@ -60,7 +60,7 @@ unfolding cardStatus cardValues
 returns-3 c =
     let asked = c .before .before .before in
     let alike = asked .before .if1 .left in
-    rw (sym (asked .check-card .ensures) ∙ c .before .answer2 .given .1, all-stored (_ ∷ _ ∷ _ ∷ _ ∷ _ ∷ _ ∷ _ ∷ []) _ alike)
+    rw (sym (asked .check-card .ensures .0) ∙ c .before .answer2 .given .1, all-stored (_ ∷ _ ∷ _ ∷ _ ∷ _ ∷ _ ∷ _ ∷ []) _ alike)
     (values-are-left cardCount _ alike _)
 
 pub dunnavish-check-card-spec : {M : Type 1} → statement M

@@ -1,17 +1,18 @@
--- `dunnavish::dunnavish_read_word` meets its contract: the count of the lent numbers, then what the library answered.
--- Assumes nothing.
+-- `dunnavish::dunnavish_read_word` meets its contract: the count of the lent numbers, then what the library answered; the bounds
+-- are those of the library's own contract. Assumes nothing.
 use mathlib.Core.Path.{sym, _∙_}
 use mathlib.Core.List.{[], _∷_}
 use borrow.Author.Needs.{needs}
 use Rattle.model.specs.Numbers.{readStatus, readValues}
 use Rattle.dunnavish.specs.Crossing.{readCount}
-use Rattle.dunnavish.proofs.Lent.{wrong-count-changes-nothing, refusal-changes-nothing, values-are-left, all-stored}
+use Rattle.dunnavish.proofs.Lent.{refusal-changes-nothing, values-are-left, all-stored}
 use Rattle.dunnavish.proofs.NonzeroRefusals.{read-refusal-nonzero}
+use Rattle.dunnavish.proofs.ReadDemands.{wrong-count-claims-nothing, bounds-cross}
 use Rattle.dunnavish.proofs.dunnavish_read_word.Statement.{statement}
 use Rattle.dunnavish.proofs.dunnavish_read_word.Tie as tie
 
 returns : tie.Need-returns
-returns c = wrong-count-changes-nothing readCount _ (c .if1 .taken) _ _
+returns c = wrong-count-claims-nothing _ _ _ (c .if1 .taken)
 
 read-word-requires : tie.Need-read-word-requires
 read-word-requires c κs = search needs
@@ -35,8 +36,10 @@ returns-2 : tie.Need-returns-2
 unfolding readStatus readValues
 returns-2 c =
     let asked = c .before .before .before in
-    let refused = sym (asked .read-word .ensures .0) ∙ c .before .answer .given .1 in
-    rw refused (refusal-changes-nothing readCount _ (asked .before .if1 .left) _ (read-refusal-nonzero _ _ refused) _)
+    let answered = asked .read-word .ensures in
+    let told = c .before .answer .given .1 in
+    bounds-cross _ _ _ (asked .read-word .result) (answered .0) (answered .1 .1 .1 .0) (answered .1 .1 .1 .1 .0) _ _
+    (rw told (refusal-changes-nothing readCount _ (asked .before .if1 .left) _ (read-refusal-nonzero _ _ (sym (answered .0) ∙ told)) _))
 
 same-length : tie.Need-same-length
 same-length c = search needs
@@ -45,9 +48,10 @@ returns-3 : tie.Need-returns-3
 unfolding readStatus readValues
 returns-3 c =
     let asked = c .before .before .before in
+    let answered = asked .read-word .ensures in
     let alike = asked .before .if1 .left in
-    rw (sym (asked .read-word .ensures .0) ∙ c .before .answer2 .given .1, all-stored (_ ∷ _ ∷ _ ∷ []) _ alike)
-    (values-are-left readCount _ alike _)
+    bounds-cross _ _ _ (asked .read-word .result) (answered .0) (answered .1 .1 .1 .0) (answered .1 .1 .1 .1 .0) _ _
+    (rw (c .before .answer2 .given .1, all-stored (_ ∷ _ ∷ _ ∷ []) _ alike) (values-are-left readCount _ alike _))
 
 pub dunnavish-read-word-spec : {M : Type 1} → statement M
 dunnavish-read-word-spec =

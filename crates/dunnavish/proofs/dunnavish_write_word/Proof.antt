@@ -33,7 +33,7 @@ returns c =
     let asked = c .before .before .before .before .before in
     let refused = c .before .answer .given .1 in (
       rw (sym (asked .write-word .ensures .0) ∙ refused),
-      (asked .write-word .ensures .1 .0, λ _. asked .write-word .ensures .1 .1 .1 .0 (refused-is-not-written _ _ refused)),
+      (asked .write-word .ensures .1 .1 .1 .0, λ _. asked .write-word .ensures .1 .1 .1 .1 .1 .0 (refused-is-not-written _ _ refused)),
     )
 
 same-length-2 : tie.Need-same-length-2
@@ -44,7 +44,7 @@ unfolding writeStatus UnchangedUnlessZero
 returns-2 c =
     let asked = c .before .before .before .before in (
       rw (sym (asked .write-word .ensures .0) ∙ c .enum-told .given .1),
-      (asked .write-word .ensures .1 .0, λ nonzero. absurd (nonzero refl)),
+      (asked .write-word .ensures .1 .1 .1 .0, λ nonzero. absurd (nonzero refl)),
     )
 
 pub dunnavish-write-word-spec : {M : Type 1} → statement M

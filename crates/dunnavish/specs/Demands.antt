@@ -1,0 +1,38 @@
+-- Demand 3 of the reading call for C, over its status and the three numbers that it leaves: position, residual and rule. The
+-- premises on card, position and word are those of the library's reading call; the caller lends three numbers besides.
+-- Assumes nothing.
+use mathlib.Core.Path.{_≡_}
+use mathlib.Core.List.{List}
+use Prim.Native.Nat.{ℕ, _+_, _*_, _≤_}
+use lib.ListN.{length, getD}
+use Rattle.model.specs.Card.{codeOf, SoundCard}
+use Rattle.model.specs.Order.{lastPosition}
+use Rattle.position_theory.specs.Damage.{WithinRadius, turned}
+use Rattle.dunnavish.specs.Crossing.{readCount}
+
+-- the position and the residual among the numbers that a read leaves
+abbrev pub positionLeft : (left : List ℕ) → ℕ
+positionLeft left = getD left 0 0
+
+abbrev pub residualLeft : (left : List ℕ) → ℕ
+residualLeft left = getD left 1 0
+
+-- the status is 0, and the position left is at most e steps from this one
+unfoldable pub ServedNear : (status : ℕ) (left : List ℕ) (position e : ℕ) → Type 0
+ServedNear status left position e = (status ≡ 0) × (positionLeft left ≤ position + e) × (position ≤ positionLeft left + e)
+
+-- Demand 3, where three numbers are lent: for a sound card, every position on its track and whichever bits of that position's
+-- word are turned, at most t in each of the five chunks: the status is 0, and the position left is no further off than twice the
+-- bits turned
+unfoldable pub ServedWithinTwiceTurned : (card received lent : List ℕ) (status : ℕ) (left : List ℕ) → Type 0
+ServedWithinTwiceTurned card received lent status left =
+    length lent ≡ readCount → (position : ℕ) → SoundCard card → position ≤ lastPosition (codeOf card)
+    → WithinRadius (codeOf card) position received
+    → ServedNear status left position (2 * turned (codeOf card) position received)
+
+-- The sharper bound, under the same premises: no further off than the bits turned and the residual left together
+unfoldable pub ServedWithinTurnedAndResidual : (card received lent : List ℕ) (status : ℕ) (left : List ℕ) → Type 0
+ServedWithinTurnedAndResidual card received lent status left =
+    length lent ≡ readCount → (position : ℕ) → SoundCard card → position ≤ lastPosition (codeOf card)
+    → WithinRadius (codeOf card) position received
+    → ServedNear status left position (turned (codeOf card) position received + residualLeft left)
