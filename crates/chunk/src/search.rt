@@ -2,8 +2,10 @@
 ghost use mathlib.Core.Path.{_≡_};
 ghost use Prim.Native.Nat.{_^_, _<_};
 ghost use Rattle.bits.specs.Places.{bit};
+ghost use Rattle.model.specs.Answers.{chunkRefusal, chunkFigures};
 ghost use Rattle.model.specs.Card.{radius};
 ghost use Rattle.model.specs.Decoded.{meaning};
+ghost use Rattle.model.specs.Numbers.{ifServed, chunkStatus, chunkValues};
 ghost use Rattle.model.specs.Reading.{chunkReading};
 ghost use Rattle.code_theory.specs.Promise.{Sound};
 use super::powers;
@@ -18,13 +20,16 @@ pub fn radius_of(code: DecodedCode) -> u32
     (code.distance - 1) / 2
 }
 
-// The codeword within the radius of the chunk `x`, with the count of places in which the two differ.
+// The codeword within the radius of the chunk `x`, with the count of places in which the two differ: the status is 0, and the
+// values are the codeword's number and the count; the status is 10 where there is no such codeword.
 // Document 01 names the form: nested loops, over codewords and, inside, over bits. A label leaves the bit loop once the radius
 // is passed, and the loop over codewords yields its value by `break`. The bits met are those in which codeword and chunk
 // differ: each turn counts one and, unless the radius is passed, clears the lowest of them.
 pub fn read_chunk(code: DecodedCode, x: u64) -> Chunk
     requires { ⌜ Sound (meaning code) × (x < 2 ^ code .n) ⌝ }
-    ensures { λ r. ⌜ r ≡ chunkReading (meaning code) (bit x) ⌝ }
+    ensures answer { λ r. ⌜ r ≡ chunkReading (meaning code) (bit x) ⌝ }
+    ensures status { λ r. ⌜ chunkStatus r ≡ chunkRefusal (meaning code) (bit x) ⌝ }
+    ensures values { λ r. ⌜ chunkValues r ≡ ifServed (chunkStatus r) (chunkFigures (meaning code) (bit x)) ⌝ }
 {
     let k = code.k;
     let rows = code.rows;

@@ -4,15 +4,15 @@
 -- answer's status and values, by Numbers.antt, are these is part of the calls' contracts. Assumes nothing.
 use mathlib.Core.Bool.{Bool, cond, not, _&&_, _||_}
 use mathlib.Core.List.{List, [], _∷_}
-use Prim.Native.Nat.{ℕ, _+_, _-_, _*_}
-use lib.Dec.{ltb, eqb}
+use Prim.Native.Nat.{ℕ, _+_, _-_, _*_, _^_}
+use lib.Dec.{leb, ltb, eqb}
 use lib.ListN.{length, getD}
 use Rattle.bits.specs.Places.{bytesFor, place}
-use Rattle.bits.specs.Searches.{anyBelow, leastAt}
+use Rattle.bits.specs.Searches.{anyBelow, first, leastAt}
 use Rattle.model.specs.Card.{Code, cardRefusal, codeOf, radius, trackOf}
 use Rattle.model.specs.Order.{lastCodeword, lastPosition, start}
 use Rattle.model.specs.Words.{wordBits, wordBytes, millimetresOf}
-use Rattle.model.specs.Reading.{chunk₁, chunk₂, chunkReading, ruleNamed}
+use Rattle.model.specs.Reading.{chunk₁, chunk₂, chunkDistance, chunkReading, ruleNamed}
 use Rattle.model.specs.Reading.{Allowed, fromTo, refusedBy, allowed, residual, reading}
 use Rattle.model.specs.Numbers.{chunkStatus, chunkValues}
 use Rattle.model.specs.declared.Chunk.{Chunk}
@@ -91,6 +91,18 @@ unfoldable pub readAnswer : (card received : List ℕ) → ReadAnswer
 readAnswer card received =
     cond (not (eqb (cardRefusal card) 0)) (ReadRefused (cardRefusal card))
     (readWord (codeOf card) received)
+
+-- the number of the first codeword within the radius of a chunk, or 2^k
+abbrev pub firstWithin : Code → (x : ℕ → ℕ) → ℕ
+firstWithin C x = first (λ i. leb (chunkDistance C x i) (radius C)) (2 ^ C .k)
+
+-- a chunk: the refusal's number, or 0 where some codeword lies within the radius
+unfoldable pub chunkRefusal : Code → (x : ℕ → ℕ) → ℕ
+chunkRefusal C x = cond (ltb (firstWithin C x) (2 ^ C .k)) 0 10
+
+-- the values of a chunk that is read: the codeword's number, and in how many bits the two differ
+unfoldable pub chunkFigures : Code → (x : ℕ → ℕ) → List ℕ
+chunkFigures C x = firstWithin C x ∷ chunkDistance C x (firstWithin C x) ∷ []
 
 -- whether a chunk read as no codeword, and the number of the codeword that any other read as
 abbrev pub unreadable : Chunk → Bool

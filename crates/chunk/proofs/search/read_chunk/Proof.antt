@@ -1,21 +1,49 @@
 -- `read_chunk` meets its contract. The loop over codewords keeps what `AtCandidate` says, the loop over bits that the bits counted
--- and those left are all that differ; both ways out of the bit loop tell whether the codeword lies within the radius.
--- Assumes nothing.
-use mathlib.Core.Path.{_≡_}
+-- and those left are all that differ; both ways out of the bit loop tell whether the codeword lies within the radius. The status
+-- and the values are those of the reading. Assumes nothing.
+use mathlib.Core.Path.{_≡_, refl}
+use mathlib.Core.Bool.{Bool, true, false, cond}
 use mathlib.Core.Logic.{⊎-elim}
-use Prim.Native.Nat.{_+_, _-_, _≤_, _<_}
+use Prim.Native.Nat.{ℕ, _+_, _-_, _^_, _≤_, _<_}
 use native.Mathlib.Omega.{arith}
 use borrow.Author.Needs.{needs}
 use lib.Bits.{bitXor, and-le-r}
 use lib.Count.{ones, trailingZeros}
+use lib.Dec.{ltb}
 use lib.ListN.{getD}
 use lib.Pow.{pow-pos}
+use Rattle.model.specs.Answers.{firstWithin, chunkRefusal, chunkFigures}
+use Rattle.model.specs.Card.{Code}
 use Rattle.model.specs.Decoded.{meaning}
+use Rattle.model.specs.Numbers.{ifServed, chunkStatus, chunkValues}
+use Rattle.model.specs.Reading.{chunkDistance, chunkReading}
+use Rattle.model.specs.declared.Chunk.{Chunk}
+use Rattle.model.specs.declared.Chunk.the-variants.{Codeword, Unreadable}
 use Rattle.chunk.proofs.GrayStep.{row-of-twelve}
 use Rattle.chunk.proofs.ChunkSearch.{Counted, one-counted, counted-all, counted-past}
 use Rattle.chunk.proofs.ChunkSearch.{AtCandidate, search-starts, search-goes-on, search-found, search-failed}
 use Rattle.chunk.proofs.search.read_chunk.Statement.{statement}
 use Rattle.chunk.proofs.search.read_chunk.Tie as tie
+
+-- what the contract says of the status and the values of a chunk
+abbrev ChunkTold : (refusal : ℕ) (code : Code) (x : ℕ → ℕ) → Chunk → Type 0
+ChunkTold refusal code x read = (chunkStatus read ≡ refusal) × (chunkValues read ≡ ifServed (chunkStatus read) (chunkFigures code x))
+
+chunk-told : (code : Code) (x : ℕ → ℕ) → ChunkTold (chunkRefusal code x) code x (chunkReading code x)
+unfolding chunkReading chunkRefusal chunkFigures chunkStatus chunkValues ifServed
+chunk-told code x = by-within (ltb (firstWithin code x) (2 ^ code .k))
+  where
+    p : ℕ
+    p = firstWithin code x
+
+    by-within : (t : Bool) → ChunkTold (cond t 0 10) code x (cond t (Codeword p (chunkDistance code x p)) Unreadable)
+    by-within true = (refl, refl)
+    by-within false = (refl, refl)
+
+-- and so of a chunk that is the reading
+meets : (code : Code) (x : ℕ → ℕ) (read : Chunk) → read ≡ chunkReading code x
+    → (read ≡ chunkReading code x) × ChunkTold (chunkRefusal code x) code x read
+meets code x read e = rw e (refl, chunk-told code x)
 
 abbrev Inv-bits : tie.InvT-bits
 Inv-bits x k rows radius last word i rest₀ unlike₀ rest unlike = (unlike ≤ radius) × (unlike + ones rest ≡ ones (bitXor word x))
@@ -97,15 +125,17 @@ returns : tie.Need-returns Inv-bits μ-bits Inv-loop μ-loop
 returns c =
     let at = c .before .before .before in
     let first = at .before .before .before .before in
-    search-found (meaning (first .args .code)) (first .pre .0) _ (first .pre .1) _ (at .before .before .radius-of .ensures) _ _ _ (at .loop .inv)
-    _ (counted (c .before) .whole (c .if2 .taken)) (c .if2 .taken)
+    meets _ _ _
+    (search-found (meaning (first .args .code)) (first .pre .0) _ (first .pre .1) _ (at .before .before .radius-of .ensures) _ _ _ (at .loop .inv)
+    _ (counted (c .before) .whole (c .if2 .taken)) (c .if2 .taken))
 
 returns-2 : tie.Need-returns-2 Inv-bits μ-bits Inv-loop μ-loop
 returns-2 c =
     let at = c .before .before .before .before in
     let first = at .before .before .before .before in
-    search-failed (meaning (first .args .code)) (first .pre .0) _ (first .pre .1) _ (at .before .before .radius-of .ensures) _ _ _ (at .loop .inv)
-    (c .if3 .taken) (counted (c .before .before) .past (c .before .if2 .left))
+    meets _ _ _
+    (search-failed (meaning (first .args .code)) (first .pre .0) _ (first .pre .1) _ (at .before .before .radius-of .ensures) _ _ _ (at .loop .inv)
+    (c .if3 .taken) (counted (c .before .before) .past (c .before .if2 .left)))
 
 pub read-chunk-spec : {M : Type 1} → statement M
 read-chunk-spec =

@@ -19,7 +19,7 @@ read-chunk-requires c κs = search needs
 
 returns : tie.Need-returns
 returns c =
-    c .read-chunk .ensures
+    c .read-chunk .ensures .0
     ∙ chunkReading-ext (meaning (c .before .before .args .code)) _ _ (c .before .bits-at .ensures .1)
 
 pub chunk-reading-spec : {M : Type 1} → statement M
