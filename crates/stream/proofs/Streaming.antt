@@ -19,7 +19,7 @@ use Rattle.report.specs.Puts.{Puts}
 use Rattle.report.specs.Report.{answerAt, wordLines, readCount, wordsRead, wordsReport}
 use Rattle.stream.specs.declared.turn.Progress.{Progress}
 use Rattle.stream.specs.declared.turn.Taken.{Taken}
-use Rattle.stream.specs.Streamed.{Streamed, Reached, Follows, Completes}
+use Rattle.stream.specs.Streamed.{Streamed, Follows, Completes}
 use Rattle.stream.specs.TakenIn.{TakenIn, wholeWords}
 use Rattle.stream.proofs.Pieces.{lines-of-first, lines-in-pieces, read-of-first, read-in-pieces}
 
@@ -118,27 +118,3 @@ pub completes : (p : Progress) {out out′ : List ℕ} {next : ℕ}
     → Puts out 0 (shortLine (p .held) ++ lastLine (p .met) (p .read)) out′ next → Completes p (take next out′)
 unfolding Completes
 completes p put C all text input s = rw (text-at-front put) (report-streamed C s)
-
--- What has been reached: before the first turn, where bytes behind those held are written over, and after a turn.
-pub reached-nothing : (C : Code) (input : List ℕ) {p : Progress} → p .held ≡ 0 → p .met ≡ 0 → p .read ≡ 0 → Reached C input p
-reached-nothing C input held met read = record { all = []; text = []; streamed = streamed-nothing C input held met read }
-
-pub reached-still : {C : Code} {input input′ : List ℕ} {p : Progress} → take (p .held) input′ ≡ take (p .held) input → Reached C input p
-    → Reached C input′ p
-reached-still same reached =
-    let s = reached .streamed in
-    record {
-      all = reached .all;
-      text = reached .text;
-      streamed = record { met = s .met; read = s .read; held = s .held; kept = same ∙ s .kept; lines = s .lines };
-    }
-
-pub reached-turn : (C : Code) (input : List ℕ) (n : ℕ) (p : Progress) (lines input′ : List ℕ) (p′ : Progress)
-    → Follows C input n p lines input′ p′ → Reached C input p → Reached C input′ p′
-unfolding Follows
-reached-turn C input n p lines input′ p′ follows reached =
-    record {
-      all = reached .all ++ drop (p .held) (take n input);
-      text = reached .text ++ lines;
-      streamed = follows (reached .all) (reached .text) (reached .streamed);
-    }

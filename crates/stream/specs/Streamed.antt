@@ -17,12 +17,6 @@ pub record Streamed (C : Code) (all text input : List ℕ) (p : Progress) : Type
   pub kept : take (p .held) input ≡ drop (p .met * wordLength C) all
   pub lines : text ≡ wordLines C all 0 (p .met)
 
--- a standing that some input leads to: what has come in, and the lines put out for it
-pub record Reached (C : Code) (input : List ℕ) (p : Progress) : Type 0 where
-  pub all : List ℕ
-  pub text : List ℕ
-  pub streamed : Streamed C all text input p
-
 -- A turn from p to p′, in which the first n bytes of `input` are taken in and `lines` is put out: whatever had come in and been put
 -- out before, the bytes behind those held have come in too, and the lines follow the text.
 unfoldable pub Follows : Code → (input : List ℕ) (n : ℕ) (p : Progress) (lines input′ : List ℕ) (p′ : Progress) → Type 0

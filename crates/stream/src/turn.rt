@@ -9,7 +9,7 @@ ghost use Rattle.model.specs.Decoded.{meaning};
 ghost use Rattle.code_theory.specs.Promise.{Sound};
 ghost use Rattle.report.specs.Lines.{shortLine, lastLine, lineRoom};
 ghost use Rattle.report.specs.Puts.{Puts};
-ghost use Rattle.stream.specs.Streamed.{Reached, Follows, Completes};
+ghost use Rattle.stream.specs.Streamed.{Follows, Completes};
 ghost use Rattle.stream.specs.TakenIn.{TakenIn};
 use super::tail;
 use super::words;
@@ -51,8 +51,7 @@ pub fn take_in(
     before: Progress,
 ) -> Taken
     requires { ⌜ Sound (meaning code) ⌝ }
-    requires { ⌜ Reached (meaning code) (now input) before ⌝ }
-    requires { ⌜ (before .held ≤ n) × (n ≤ length (now input)) ⌝ }
+    requires { ⌜ (before .held ≤ n) × (n ≤ length (now input)) × (before .read ≤ before .met) ⌝ }
     requires { ⌜ n / wordLength (meaning code) * lineRoom ≤ length (now out) ⌝ }
     requires { ⌜ before .met + n / wordLength (meaning code) < 2 ^ 64 ⌝ }
     ensures taken { λ r. ⌜ TakenIn (meaning code) (take n (now (input .entry))) before (now (input .exit)) (now (out .entry)) (now (out .exit)) r ⌝ }

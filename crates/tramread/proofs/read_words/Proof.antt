@@ -1,8 +1,8 @@
--- `tramread::read_words` meets its contract. The loop's invariant: some bytes that came in, and the lines put out for them, lead to how
--- the reader stands (`Reached`), and the numbers of words still fit when all turns have been taken, each with at most 1,600 words.
--- Each turn adds what it received and its lines (`reached-turn`), and the end completes the report. The measure is the turns that
--- are left. Assumes nothing.
-use Prim.Native.Nat.{_+_, _*_, _/_, _≤_, _<_}
+-- `tramread::read_words` meets its contract. The loop's invariant: some bytes that came in, at least one with each turn taken, and the
+-- lines put out for them lead to how the reader stands (`Reached`), and the numbers of words still fit when all turns have been
+-- taken, each with at most 1,600 words. Each turn adds what it received and its lines (`reached-turn`), and the end completes the
+-- report. The measure is the turns that are left. Assumes nothing.
+use Prim.Native.Nat.{_+_, _-_, _*_, _/_, _≤_, _<_}
 use mathlib.Core.Path.{_≡_, sym, _∙_}
 use mathlib.Core.Logic.{⊎-elim}
 use native.Mathlib.Nat.{div-le-of-le-mul}
@@ -12,9 +12,10 @@ use lib.ListN.{length, take}
 use lib.Seq.{length-take-le}
 use Rattle.model.specs.Decoded.{meaning}
 use Rattle.model.specs.Answers.{wordLength}
-use Rattle.stream.specs.Streamed.{Reached, Follows, Completes}
-use Rattle.stream.proofs.Streaming.{few-held, reached-nothing, reached-still, reached-turn}
+use Rattle.stream.specs.Streamed.{Follows, Completes}
+use Rattle.stream.proofs.Streaming.{few-held, few-read}
 use Rattle.tramread.specs.Parts.{LastPart}
+use Rattle.tramread.proofs.Reached.{Reached, reached-first, reached-still, reached-turn}
 use Rattle.tramread.proofs.Parts.{turn-lines-part}
 use Rattle.tramread.proofs.read_words.Statement.{statement}
 use Rattle.tramread.proofs.read_words.Tie as tie
@@ -22,7 +23,7 @@ use Rattle.tramread.proofs.read_words.Tie as tie
 abbrev Inv-loop : tie.InvT-loop
 Inv-loop code input₀ out₀ full progress₀ turns₀ input out progress turns =
     (length input ≡ 64000) × (length out ≡ 204800) × (progress .met + 1600 * turns ≤ 14411518807585587200)
-    × Reached (meaning code) input progress
+    × (turns ≤ 9007199254740992) × Reached (meaning code) input progress (9007199254740992 - turns)
 
 abbrev μ-loop : tie.MeasureT-loop
 μ-loop code input₀ out₀ full progress₀ turns₀ input out progress turns = turns
@@ -44,13 +45,13 @@ first c = measured c .before .before .before
 loop-holds : tie.Need-loop-holds Inv-loop μ-loop
 loop-holds c =
     let begun = c .nothing-yet .ensures in
-    (omega arith, omega arith, omega arith, reached-nothing _ _ (begun .0) (begun .1) (begun .2))
+    (omega arith, omega arith, omega arith, omega arith, reached-first _ _ (begun .0) (begun .1) (begun .2))
 
 -- fewer bytes are held than a word has
 held-short : (c : tie.At-loop Inv-loop μ-loop) → c .loop .progress .held < measured c .word-length .result
 held-short c =
     let length-of = measured c .word-length in
-    rw (length-of .ensures .0) (few-held (meaning (first c .args .code)) (c .loop .inv .3 .streamed) (rw (length-of .ensures .0) at (length-of .ensures .1)))
+    rw (length-of .ensures .0) (few-held (meaning (first c .args .code)) (c .loop .inv .4 .streamed) (rw (length-of .ensures .0) at (length-of .ensures .1)))
 
 receive-requires : tie.Need-receive-requires Inv-loop μ-loop
 receive-requires c κs = let short = held-short (c .before .before) in (omega arith, omega arith)
@@ -62,15 +63,17 @@ few c =
     rw (← (length-of .ensures .0)) (div-le-of-le-mul (length-of .result) (omega arith))
 
 -- what is held is still there, with what was received behind it
-reached-again : (c : tie.After-receive Inv-loop μ-loop) → Reached (meaning (first (head c) .args .code)) (c .receive .last .0) (head c .loop .progress)
-reached-again c = reached-still (c .receive .ensures .1) (head c .loop .inv .3)
+reached-again : (c : tie.After-receive Inv-loop μ-loop)
+    → let loop = head c .loop in
+    Reached (meaning (first (head c) .args .code)) (c .receive .last .0) (loop .progress) (9007199254740992 - loop .turns)
+reached-again c = reached-still (c .receive .ensures .1) (head c .loop .inv .4)
 
 take-in-requires : tie.Need-take-in-requires Inv-loop μ-loop
 take-in-requires c κs =
     let come = c .before .before .before .before .before .before in
     let words = few come in (
       first (head come) .pre .0,
-      (reached-again come, ((omega arith, omega arith), (omega arith, omega arith))),
+      ((omega arith, omega arith, few-read _ (head come .loop .inv .4 .streamed)), (omega arith, omega arith)),
     )
 
 -- what a turn gives, in numbers
@@ -96,9 +99,11 @@ put-out-requires : tie.Need-put-out-requires Inv-loop μ-loop
 unfolding Follows
 put-out-requires c κs =
     let turn = c .before .before .before .before .before in
-    let reached = reached-again (received turn) in
+    let come = received turn in
+    let reached = reached-again come in
     let streamed = turn .take-in .ensures .1 (reached .all) (reached .text) (reached .streamed) in
-    (omega (arith, turned turn .1, received turn .receive .ensures .0, still-long turn .1), turn-lines-part _ (first (head (received turn)) .pre .1 .0) (reached .text) _ streamed)
+    let long = still-long turn .1 in
+    (omega (arith, turned turn .1), turn-lines-part _ (first (head come) .pre .1 .0) (reached .text) _ streamed)
 
 returns : tie.Need-returns Inv-loop μ-loop
 unfolding LastPart
@@ -120,12 +125,11 @@ returns-2 c = tt
 
 loop-again : tie.Need-loop-again Inv-loop μ-loop
 loop-again c =
-    let turn = c .before .before .before .before .before .before .before .before in (
-      still-long turn .0,
-      still-long turn .1,
-      omega (arith, turned turn .0),
-      reached-turn _ _ _ _ _ _ _ (turn .take-in .ensures .1) (reached-again (received turn)),
-    )
+    let turn = c .before .before .before .before .before .before .before .before in
+    let come = received turn in
+    let taken : 9007199254740992 - (head come .loop .turns - 1) ≡ 9007199254740992 - head come .loop .turns + 1 = omega arith in
+    let reached = reached-turn _ _ _ _ _ _ _ (turn .take-in .ensures .1) (omega arith) (omega arith) (reached-again come) in
+    (still-long turn .0, still-long turn .1, omega (arith, turned turn .0), omega arith, rw taken reached)
 
 same-length-5 : tie.Need-same-length-5 Inv-loop μ-loop
 same-length-5 c =
@@ -139,7 +143,7 @@ returns-3 : tie.Need-returns-3 Inv-loop μ-loop
 unfolding LastPart Completes
 returns-3 c =
     let end = c .before .before in
-    let reached = end .before .before .before .loop .inv .3 in (
+    let reached = end .before .before .before .loop .inv .4 in (
       omega arith,
       record {
         came = reached .all;

@@ -11,7 +11,7 @@ use lib.Seq.{length-take-le}
 use Rattle.model.specs.Decoded.{meaning}
 use Rattle.model.specs.Answers.{wordLength}
 use Rattle.stream.proofs.Pieces.{tail-behind-words}
-use Rattle.stream.proofs.Streaming.{few-read, follows}
+use Rattle.stream.proofs.Streaming.{follows}
 use Rattle.stream.proofs.turn.take_in.Statement.{statement}
 use Rattle.stream.proofs.turn.take_in.Tie as tie
 
@@ -27,7 +27,7 @@ first c = c .before .before .before
 
 -- n bytes have come in
 arrived : (c : tie.After-word-length) → length (take (first c .args .n) (first c .args .input .now)) ≡ first c .args .n
-arrived c = length-take-le _ _ (first c .pre .1 .1 .0 .1)
+arrived c = length-take-le _ _ (first c .pre .1 .0 .1)
 
 -- the measured length is that of the code's words
 each : (c : tie.After-word-length) → wordLength (meaning (first c .args .code)) ≡ c .word-length .result
@@ -35,7 +35,7 @@ each c = sym (c .word-length .ensures .0)
 
 -- the words met still fit
 met-fits : (c : tie.After-word-length) → first c .args .before .met + first c .args .n / c .word-length .result < 2 ^ 64
-met-fits c = rw (each c) at (first c .pre .1 .1 .1 .1)
+met-fits c = rw (each c) at (first c .pre .1 .1 .1)
 
 slice-aggregate-put-words : tie.Need-slice-aggregate-put-words
 slice-aggregate-put-words c = sym (arrived (c .before .before))
@@ -49,7 +49,7 @@ put-words-requires c κs =
       pre .0,
       (
         rw (each length-of, arrived length-of) (div-mul-le-self (args .n) w),
-        rw (zero-add, ← (each length-of)) (pre .1 .1 .1 .0),
+        rw (zero-add, ← (each length-of)) (pre .1 .1 .0),
         omega (arith, met-fits length-of),
       ),
     )
@@ -62,7 +62,7 @@ mul-keep-tail c =
 keep-tail-requires : tie.Need-keep-tail-requires
 keep-tail-requires c κs =
     let length-of = c .before .before .before .before .before .before in
-    (div-mul-le-self _ _, first length-of .pre .1 .1 .0 .1)
+    (div-mul-le-self _ _, first length-of .pre .1 .0 .1)
 
 add-t19 : tie.Need-add-t19
 add-t19 c = omega (arith, met-fits (measured (put (c .before .before .before))))
@@ -71,8 +71,7 @@ add-t20 : tie.Need-add-t20
 add-t20 c =
     let words = put (c .before .before .before .before .before) in
     let length-of = measured words in
-    let reached = first length-of .pre .1 .0 in
-    omega (arith, met-fits length-of, few-read _ (reached .streamed), words .put-words .ensures .1 .1 .1)
+    omega (arith, met-fits length-of, first length-of .pre .1 .0 .2, words .put-words .ensures .1 .1 .1)
 
 returns : tie.Need-returns
 returns c =
@@ -83,7 +82,7 @@ returns c =
     let n = args .n in
     let w = length-of .word-length .result in
     let is-length = length-of .word-length .ensures .0 in
-    let within = first length-of .pre .1 .1 .0 in
+    let within = first length-of .pre .1 .0 in
     follows (meaning (args .code)) (args .input .now) n (rw (each length-of) (length-of .word-length .ensures .1)) (within .0)
     record {
       met = rw (arrived length-of, ← is-length);
