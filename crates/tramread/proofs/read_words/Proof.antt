@@ -51,7 +51,8 @@ loop-holds c =
 held-short : (c : tie.At-loop Inv-loop μ-loop) → c .loop .progress .held < measured c .word-length .result
 held-short c =
     let length-of = measured c .word-length in
-    rw (length-of .ensures .0) (few-held (meaning (first c .args .code)) (c .loop .inv .4 .streamed) (rw (length-of .ensures .0) at (length-of .ensures .1)))
+    let some : 1 ≤ wordLength (meaning (first c .args .code)) = rw (length-of .ensures .0) at (length-of .ensures .1) in
+    rw (length-of .ensures .0) (few-held (meaning (first c .args .code)) (c .loop .inv .4 .streamed) some)
 
 receive-requires : tie.Need-receive-requires Inv-loop μ-loop
 receive-requires c κs = let short = held-short (c .before .before) in (omega arith, omega arith)
