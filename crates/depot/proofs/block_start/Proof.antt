@@ -11,9 +11,6 @@ use Rattle.depot.proofs.block_start.Tie as tie
 sound : (c : tie.Else1) → Sound (meaning (c .before .before .decode .result .code))
 sound c = c .before .before .decode .ensures .sound (c .if1 .left)
 
-decode-requires : tie.Need-decode-requires
-decode-requires c κs = search needs
-
 returns : tie.Need-returns
 returns c = start-refused _ _ (c .before .before .decode .ensures) (c .if1 .taken) _
 
@@ -41,7 +38,7 @@ pub block-start-spec : {M : Type 1} → statement M
 block-start-spec =
     tie.close
     (tie.spec
-    decode-requires
+    (λ c κs. search needs)
     returns
     last-codeword-requires
     returns-2

@@ -5,14 +5,8 @@ use Rattle.depot.proofs.Statuses.{card-told}
 use Rattle.depot.proofs.check_card.Statement.{statement}
 use Rattle.depot.proofs.check_card.Tie as tie
 
-decode-requires : tie.Need-decode-requires
-decode-requires c κs = search needs
-
-card-answer-requires : tie.Need-card-answer-requires
-card-answer-requires c κs = search needs
-
 returns : tie.Need-returns
 returns c = let e = c .card-answer .ensures _ (c .before .decode .ensures) in (e, rw e (card-told _))
 
 pub check-card-spec : {M : Type 1} → statement M
-check-card-spec = tie.close (tie.spec decode-requires card-answer-requires returns)
+check-card-spec = tie.close (tie.spec (λ c κs. search needs) (λ c κs. search needs) returns)

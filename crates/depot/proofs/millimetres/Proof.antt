@@ -13,9 +13,6 @@ use Rattle.depot.proofs.millimetres.Tie as tie
 sound : (c : tie.Else1) → Sound (meaning (c .before .before .decode .result .code))
 sound c = c .before .before .decode .ensures .sound (c .if1 .left)
 
-decode-requires : tie.Need-decode-requires
-decode-requires c κs = search needs
-
 returns : tie.Need-returns
 returns c = millimetres-refused _ _ (c .before .before .decode .ensures) (c .if1 .taken) _
 
@@ -40,4 +37,4 @@ returns-3 c =
 
 pub millimetres-spec : {M : Type 1} → statement M
 millimetres-spec =
-    tie.close (tie.spec decode-requires returns last-position-requires returns-2 mul-t5 returns-3)
+    tie.close (tie.spec (λ c κs. search needs) returns last-position-requires returns-2 mul-t5 returns-3)

@@ -6,9 +6,6 @@ use Rattle.depot.proofs.Reading.{read-card-refused, word-read}
 use Rattle.depot.proofs.read_word.Statement.{statement}
 use Rattle.depot.proofs.read_word.Tie as tie
 
-decode-requires : tie.Need-decode-requires
-decode-requires c κs = search needs
-
 returns : tie.Need-returns
 returns c =
     let first = c .before .before .before .before .before in
@@ -24,4 +21,4 @@ returns-2 c =
     word-read _ (first .args .word .now) _ (passed .before .before .decode .ensures) (passed .if1 .left) _ (c .read .ensures)
 
 pub read-word-spec : {M : Type 1} → statement M
-read-word-spec = tie.close (tie.spec decode-requires returns read-requires returns-2)
+read-word-spec = tie.close (tie.spec (λ c κs. search needs) returns read-requires returns-2)

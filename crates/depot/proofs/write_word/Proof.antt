@@ -36,9 +36,6 @@ measured c =
       is-first = rw (ended .before .refusal-if .ensures, c .before .refusal-if2 .ensures) at (c .first-of .ensures);
     }
 
-decode-requires : tie.Need-decode-requires
-decode-requires c κs = search needs
-
 returns : tie.Need-returns
 returns c =
     let first = c .before .before .before .before .before in
@@ -47,17 +44,8 @@ returns c =
 word-length-requires : tie.Need-word-length-requires
 word-length-requires c κs = sound (c .before)
 
-refusal-if-requires : tie.Need-refusal-if-requires
-refusal-if-requires c κs = search needs
-
 last-position-requires : tie.Need-last-position-requires
 last-position-requires c κs = let passed = c .before .before .before in sound passed
-
-refusal-if-requires-2 : tie.Need-refusal-if-requires-2
-refusal-if-requires-2 c κs = search needs
-
-first-of-requires : tie.Need-first-of-requires
-first-of-requires c κs = search needs
 
 returns-2 : tie.Need-returns-2
 returns-2 c = word-refused (measured (c .before)) (c .if2 .taken)
@@ -68,9 +56,6 @@ write-requires c κs =
     let (on-track, right-length) = servable (measured tested) (c .before .if2 .left) in
     ((sound (card-passed tested), on-track), right-length)
 
-same-length : tie.Need-same-length
-same-length c = search needs
-
 returns-3 : tie.Need-returns-3
 returns-3 c =
     let served = c .before .before .before .before in
@@ -80,14 +65,14 @@ pub write-word-spec : {M : Type 1} → statement M
 write-word-spec =
     tie.close
     (tie.spec
-    decode-requires
+    (λ c κs. search needs)
     returns
     word-length-requires
-    refusal-if-requires
+    (λ c κs. search needs)
     last-position-requires
-    refusal-if-requires-2
-    first-of-requires
+    (λ c κs. search needs)
+    (λ c κs. search needs)
     returns-2
     write-requires
-    same-length
+    (λ c. search needs)
     returns-3)

@@ -15,24 +15,6 @@ use Rattle.dunnavish.proofs.dunnavish_check_card.Tie as tie
 returns : tie.Need-returns
 returns c = wrong-count-changes-nothing cardCount _ (c .if1 .taken) _ _
 
-check-card-requires : tie.Need-check-card-requires
-check-card-requires c κs = search needs
-
-enum-known-answer : tie.Need-enum-known-answer
-enum-known-answer c = search needs
-
-enum-known-answer-2 : tie.Need-enum-known-answer-2
-enum-known-answer-2 c = search needs
-
-slice-write-values : tie.Need-slice-write-values
-slice-write-values c = search needs
-
-slice-write-values-2 : tie.Need-slice-write-values-2
-slice-write-values-2 c = search needs
-
-slice-write-values-3 : tie.Need-slice-write-values-3
-slice-write-values-3 c = search needs
-
 slice-write-values-4 : tie.Need-slice-write-values-4
 slice-write-values-4 c = simp length-set (omega arith)
 
@@ -52,9 +34,6 @@ returns-2 c =
     let refused = sym (asked .check-card .ensures .0) ∙ c .before .answer .given .1 in
     rw refused (refusal-changes-nothing cardCount _ (asked .before .if1 .left) _ (card-refusal-nonzero _ refused) _)
 
-same-length : tie.Need-same-length
-same-length c = search needs
-
 returns-3 : tie.Need-returns-3
 unfolding cardStatus cardValues
 returns-3 c =
@@ -68,16 +47,16 @@ dunnavish-check-card-spec =
     tie.close
     (tie.spec
     returns
-    check-card-requires
-    enum-known-answer
-    enum-known-answer-2
-    slice-write-values
-    slice-write-values-2
-    slice-write-values-3
+    (λ c κs. search needs)
+    (λ c. search needs)
+    (λ c. search needs)
+    (λ c. search needs)
+    (λ c. search needs)
+    (λ c. search needs)
     slice-write-values-4
     slice-write-values-5
     slice-write-values-6
     slice-write-values-7
     returns-2
-    same-length
+    (λ c. search needs)
     returns-3)

@@ -14,24 +14,6 @@ use Rattle.dunnavish.proofs.dunnavish_read_word.Tie as tie
 returns : tie.Need-returns
 returns c = wrong-count-claims-nothing _ _ _ (c .if1 .taken)
 
-read-word-requires : tie.Need-read-word-requires
-read-word-requires c κs = search needs
-
-enum-known-answer : tie.Need-enum-known-answer
-enum-known-answer c = search needs
-
-enum-known-answer-2 : tie.Need-enum-known-answer-2
-enum-known-answer-2 c = search needs
-
-slice-write-values : tie.Need-slice-write-values
-slice-write-values c = search needs
-
-slice-write-values-2 : tie.Need-slice-write-values-2
-slice-write-values-2 c = search needs
-
-slice-write-values-3 : tie.Need-slice-write-values-3
-slice-write-values-3 c = search needs
-
 returns-2 : tie.Need-returns-2
 unfolding readStatus readValues
 returns-2 c =
@@ -40,9 +22,6 @@ returns-2 c =
     let told = c .before .answer .given .1 in
     bounds-cross _ _ _ (asked .read-word .result) (answered .0) (answered .1 .1 .1 .0) (answered .1 .1 .1 .1 .0) _ _
     (rw told (refusal-changes-nothing readCount _ (asked .before .if1 .left) _ (read-refusal-nonzero _ _ (sym (answered .0) ∙ told)) _))
-
-same-length : tie.Need-same-length
-same-length c = search needs
 
 returns-3 : tie.Need-returns-3
 unfolding readStatus readValues
@@ -58,12 +37,12 @@ dunnavish-read-word-spec =
     tie.close
     (tie.spec
     returns
-    read-word-requires
-    enum-known-answer
-    enum-known-answer-2
-    slice-write-values
-    slice-write-values-2
-    slice-write-values-3
+    (λ c κs. search needs)
+    (λ c. search needs)
+    (λ c. search needs)
+    (λ c. search needs)
+    (λ c. search needs)
+    (λ c. search needs)
     returns-2
-    same-length
+    (λ c. search needs)
     returns-3)

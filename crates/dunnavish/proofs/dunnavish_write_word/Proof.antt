@@ -15,18 +15,6 @@ use Rattle.dunnavish.proofs.dunnavish_write_word.Tie as tie
 refused-is-not-written : (answer : WriteAnswer) (refusal : ℕ) → answer ≡ Refused refusal → answer ≡ Written → ⊥
 refused-is-not-written answer refusal refused written = let clash : _≡_ {A = ℕ} 0 1 = cc in omega arith
 
-write-word-requires : tie.Need-write-word-requires
-write-word-requires c κs = search needs
-
-enum-known-answer : tie.Need-enum-known-answer
-enum-known-answer c = search needs
-
-enum-told : tie.Need-enum-told
-enum-told c = search needs
-
-same-length : tie.Need-same-length
-same-length c = search needs
-
 returns : tie.Need-returns
 unfolding writeStatus UnchangedUnlessZero UnchangedIfRefused
 returns c =
@@ -35,9 +23,6 @@ returns c =
       rw (sym (asked .write-word .ensures .0) ∙ refused),
       (asked .write-word .ensures .1 .1 .1 .0, λ _. asked .write-word .ensures .1 .1 .1 .1 .1 .0 (refused-is-not-written _ _ refused)),
     )
-
-same-length-2 : tie.Need-same-length-2
-same-length-2 c = search needs
 
 returns-2 : tie.Need-returns-2
 unfolding writeStatus UnchangedUnlessZero
@@ -51,10 +36,10 @@ pub dunnavish-write-word-spec : {M : Type 1} → statement M
 dunnavish-write-word-spec =
     tie.close
     (tie.spec
-    write-word-requires
-    enum-known-answer
-    enum-told
-    same-length
+    (λ c κs. search needs)
+    (λ c. search needs)
+    (λ c. search needs)
+    (λ c. search needs)
     returns
-    same-length-2
+    (λ c. search needs)
     returns-2)

@@ -7,9 +7,6 @@ use Rattle.model.specs.Card.{byte}
 use Rattle.chunk.proofs.card.byte_at.Statement.{statement}
 use Rattle.chunk.proofs.card.byte_at.Tie as tie
 
-shared-slice-read-result : tie.Need-shared-slice-read-result
-shared-slice-read-result c = search needs
-
 small : (c : tie.After-shared-slice-known) → byte (c .before .args .card .now) (c .before .args .i) < 256
 small c = omega (arith, c .shared-slice-known .given (c .before .args .i))
 
@@ -20,4 +17,4 @@ returns : tie.Need-returns
 returns c = (refl, small c)
 
 pub byte-at-spec : {M : Type 1} → statement M
-byte-at-spec = tie.close (tie.spec shared-slice-read-result cast-result returns)
+byte-at-spec = tie.close (tie.spec (λ c. search needs) cast-result returns)

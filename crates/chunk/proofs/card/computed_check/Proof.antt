@@ -29,15 +29,6 @@ loop-holds c =
     (λ w. rw (w .1) (omega arith, ends-at-used card (sym (first .pre .1) ∙ w .0 .left), refl, omega arith))
     (c .if1 .came)
 
-cast-total : tie.Need-cast-total Inv-loop μ-loop
-cast-total c = search needs
-
-add-total : tie.Need-add-total Inv-loop μ-loop
-add-total c = search needs
-
-byte-at-requires : tie.Need-byte-at-requires Inv-loop μ-loop
-byte-at-requires c κs = search needs
-
 -- what this turn adds
 added : (c : tie.After-byte-at Inv-loop μ-loop) → (c .before .before .loop .p + 1) * c .byte-at .result ≤ 130050
 added c = summand-most (c .before .before .loop .p) (c .byte-at .result) (omega arith) (c .byte-at .ensures .1)
@@ -47,12 +38,6 @@ mul-total c = omega (arith, added c)
 
 add-total-2 : tie.Need-add-total-2 Inv-loop μ-loop
 add-total-2 c = omega (arith, added c)
-
-add-p : tie.Need-add-p Inv-loop μ-loop
-add-p c = search needs
-
-loop-less : tie.Need-loop-less Inv-loop μ-loop
-loop-less c = search needs
 
 loop-again : tie.Need-loop-again Inv-loop μ-loop
 loop-again c =
@@ -73,12 +58,12 @@ computed-check-spec =
     Inv-loop
     μ-loop
     loop-holds
-    cast-total
-    add-total
-    byte-at-requires
+    (λ c. search needs)
+    (λ c. search needs)
+    (λ c κs. search needs)
     mul-total
     add-total-2
-    add-p
-    loop-less
+    (λ c. search needs)
+    (λ c. search needs)
     loop-again
     returns)

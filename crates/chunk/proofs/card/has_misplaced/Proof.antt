@@ -8,14 +8,8 @@ use Rattle.model.specs.Card.{rowTooWide}
 use Rattle.chunk.proofs.card.has_misplaced.Statement.{statement}
 use Rattle.chunk.proofs.card.has_misplaced.Tie as tie
 
-row-too-wide-requires : tie.Need-row-too-wide-requires
-row-too-wide-requires c κs = search needs
-
 returns : tie.Need-returns
 returns c = rw (sym (c .before .row-too-wide .ensures) ∙ c .if1 .taken)
-
-unused-row-set-requires : tie.Need-unused-row-set-requires
-unused-row-set-requires c κs = search needs
 
 -- past the first test
 none-too-wide : (c : tie.Else1) → let asked = c .before .before .args in rowTooWide (asked .n) (λ z. getD (asked .rows) z 0) ≡ false
@@ -29,4 +23,4 @@ returns-3 c = rw (none-too-wide (c .before .before), sym (c .before .unused-row-
 
 pub has-misplaced-spec : {M : Type 1} → statement M
 has-misplaced-spec =
-    tie.close (tie.spec row-too-wide-requires returns unused-row-set-requires returns-2 returns-3)
+    tie.close (tie.spec (λ c κs. search needs) returns (λ c κs. search needs) returns-2 returns-3)

@@ -22,26 +22,11 @@ abbrev μ-loop : tie.MeasureT-loop
 loop-holds : tie.Need-loop-holds Inv-loop μ-loop
 loop-holds c = (omega arith, below-none _)
 
-mul-too-wide : tie.Need-mul-too-wide Inv-loop μ-loop
-mul-too-wide c = search needs
-
-array-read-too-wide : tie.Need-array-read-too-wide Inv-loop μ-loop
-array-read-too-wide c = search needs
-
-too-wide-requires : tie.Need-too-wide-requires Inv-loop μ-loop
-too-wide-requires c κs = search needs
-
 returns : tie.Need-returns Inv-loop μ-loop
 unfolding rowTooWide
 returns c =
     let turn = c .before .before in
     sym (any-some _ 12 (turn .before .loop .z) (turn .loop-test .taken) (sym (c .before .too-wide .ensures) ∙ c .if1 .taken))
-
-add-z : tie.Need-add-z Inv-loop μ-loop
-add-z c = search needs
-
-loop-less : tie.Need-loop-less Inv-loop μ-loop
-loop-less c = search needs
 
 loop-again : tie.Need-loop-again Inv-loop μ-loop
 loop-again c =
@@ -59,11 +44,11 @@ row-too-wide-spec =
     Inv-loop
     μ-loop
     loop-holds
-    mul-too-wide
-    array-read-too-wide
-    too-wide-requires
+    (λ c. search needs)
+    (λ c. search needs)
+    (λ c κs. search needs)
     returns
-    add-z
-    loop-less
+    (λ c. search needs)
+    (λ c. search needs)
     loop-again
     returns-2)

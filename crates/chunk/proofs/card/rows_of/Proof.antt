@@ -18,30 +18,6 @@ Inv-loop card rows₀ z₀ rows z =
 abbrev μ-loop : tie.MeasureT-loop
 μ-loop card rows₀ z₀ rows z = 12 - z
 
-loop-holds : tie.Need-loop-holds Inv-loop μ-loop
-loop-holds c = search needs
-
-mul-high-first : tie.Need-mul-high-first Inv-loop μ-loop
-mul-high-first c = search needs
-
-add-high-first : tie.Need-add-high-first Inv-loop μ-loop
-add-high-first c = search needs
-
-high-first-requires : tie.Need-high-first-requires Inv-loop μ-loop
-high-first-requires c κs = search needs
-
-mul-rows : tie.Need-mul-rows Inv-loop μ-loop
-mul-rows c = search needs
-
-array-write-rows : tie.Need-array-write-rows Inv-loop μ-loop
-array-write-rows c = search needs
-
-add-z : tie.Need-add-z Inv-loop μ-loop
-add-z c = search needs
-
-loop-less : tie.Need-loop-less Inv-loop μ-loop
-loop-less c = search needs
-
 loop-again : tie.Need-loop-again Inv-loop μ-loop
 loop-again c =
     let first = c .before .before .before .before in
@@ -60,13 +36,13 @@ rows-of-spec =
     (tie.spec
     Inv-loop
     μ-loop
-    loop-holds
-    mul-high-first
-    add-high-first
-    high-first-requires
-    mul-rows
-    array-write-rows
-    add-z
-    loop-less
+    (λ c. search needs)
+    (λ c. search needs)
+    (λ c. search needs)
+    (λ c κs. search needs)
+    (λ c. search needs)
+    (λ c. search needs)
+    (λ c. search needs)
+    (λ c. search needs)
     loop-again
     returns)

@@ -14,11 +14,8 @@ returns c =
     let first = c .before in
     sym (lt-leb _ _ (lt-of-lt-of-le (first .fits .row .fits) (pow-mono {i = 64} {j = first .args .n} (c .if1 .taken))))
 
-shr-result : tie.Need-shr-result
-shr-result c = search needs
-
 returns-2 : tie.Need-returns-2
 returns-2 c = wide-by-shift (c .before .args .n) (c .before .args .row)
 
 pub too-wide-spec : {M : Type 1} → statement M
-too-wide-spec = tie.close (tie.spec returns shr-result returns-2)
+too-wide-spec = tie.close (tie.spec returns (λ c. search needs) returns-2)

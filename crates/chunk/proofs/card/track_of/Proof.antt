@@ -4,15 +4,9 @@ use Rattle.model.specs.Card.{trackOf}
 use Rattle.chunk.proofs.card.track_of.Statement.{statement}
 use Rattle.chunk.proofs.card.track_of.Tie as tie
 
-high-first-requires : tie.Need-high-first-requires
-high-first-requires c κs = search needs
-
-cast-result : tie.Need-cast-result
-cast-result c = search needs
-
 returns : tie.Need-returns
 unfolding trackOf
 returns c = c .high-first .ensures .0
 
 pub track-of-spec : {M : Type 1} → statement M
-track-of-spec = tie.close (tie.spec high-first-requires cast-result returns)
+track-of-spec = tie.close (tie.spec (λ c κs. search needs) (λ c. search needs) returns)

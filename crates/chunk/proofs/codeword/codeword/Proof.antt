@@ -20,36 +20,15 @@ Inv-loop i k rows gray word₀ z₀ word z = (z ≤ k) × (word ≡ sumOfRows (�
 abbrev μ-loop : tie.MeasureT-loop
 μ-loop i k rows gray word₀ z₀ word z = k - z
 
-gray-number-requires : tie.Need-gray-number-requires Inv-loop μ-loop
-gray-number-requires c κs = search needs
-
 loop-holds : tie.Need-loop-holds Inv-loop μ-loop
 unfolding sumOfRows
 loop-holds c = search needs
-
-cast-row : tie.Need-cast-row Inv-loop μ-loop
-cast-row c = search needs
-
-mul-row : tie.Need-mul-row Inv-loop μ-loop
-mul-row c = search needs
-
-array-read-row : tie.Need-array-read-row Inv-loop μ-loop
-array-read-row c = search needs
-
-bit-of-requires : tie.Need-bit-of-requires Inv-loop μ-loop
-bit-of-requires c κs = search needs
 
 mul-word : tie.Need-mul-word Inv-loop μ-loop
 mul-word c =
     let turn = c .before .before in
     let sound = turn .before .before .before .pre in
     record { fits = row-fits (c .bit-of .result) _ _ (c .bit-of .ensures .1) (sound .narrow (turn .loop .z) (omega arith)) (sound .n-high) }
-
-add-z : tie.Need-add-z Inv-loop μ-loop
-add-z c = search needs
-
-loop-less : tie.Need-loop-less Inv-loop μ-loop
-loop-less c = search needs
 
 loop-again : tie.Need-loop-again Inv-loop μ-loop
 loop-again c = (omega arith, rw (rows-more, ← (c .before .before .loop .inv .1), c .bit-of .ensures .0))
@@ -70,14 +49,14 @@ codeword-spec =
     (tie.spec
     Inv-loop
     μ-loop
-    gray-number-requires
+    (λ c κs. search needs)
     loop-holds
-    cast-row
-    mul-row
-    array-read-row
-    bit-of-requires
+    (λ c. search needs)
+    (λ c. search needs)
+    (λ c. search needs)
+    (λ c κs. search needs)
     mul-word
-    add-z
-    loop-less
+    (λ c. search needs)
+    (λ c. search needs)
     loop-again
     returns)

@@ -66,23 +66,8 @@ is-misplaced c =
     misplaced-of-card _ _ _ _ _ _ (is-n limited) (is-k limited) (c .before .before .rows-of .ensures)
     (summed .before .before .unused-byte-set .ensures) (c .has-misplaced .ensures)
 
-refused-requires : tie.Need-refused-requires
-refused-requires c κs = search needs
-
 returns : tie.Need-returns
 returns c = refused-from _ _ 1 (c .refused .ensures) (refusal-1 _ (c .before .if1 .taken)) (λ e. omega arith)
-
-unused-byte-set-requires : tie.Need-unused-byte-set-requires
-unused-byte-set-requires c κs = search needs
-
-stored-check-requires : tie.Need-stored-check-requires
-stored-check-requires c κs = search needs
-
-computed-check-requires : tie.Need-computed-check-requires
-computed-check-requires c κs = search needs
-
-refused-requires-2 : tie.Need-refused-requires-2
-refused-requires-2 c κs = search needs
 
 returns-2 : tie.Need-returns-2
 returns-2 c =
@@ -93,18 +78,6 @@ returns-2 c =
     (λ e. c .before .if2 .taken (summed .before .stored-check .ensures ∙ e ∙ sym (summed .computed-check .ensures))))
     (λ e. omega arith)
 
-byte-at-requires : tie.Need-byte-at-requires
-byte-at-requires c κs = search needs
-
-byte-at-requires-2 : tie.Need-byte-at-requires-2
-byte-at-requires-2 c κs = search needs
-
-within-limits-requires : tie.Need-within-limits-requires
-within-limits-requires c κs = search needs
-
-refused-requires-3 : tie.Need-refused-requires-3
-refused-requires-3 c κs = search needs
-
 returns-3 : tie.Need-returns-3
 returns-3 c =
     let limited = c .before .before in
@@ -112,29 +85,11 @@ returns-3 c =
     let outside = sym (limits limited) ∙ not-true _ (c .before .if3 .taken) in
     refused-from _ _ 3 (c .refused3 .ensures) (refusal-3 _ (whole second) (checked second) outside) (λ e. omega arith)
 
-rows-of-requires : tie.Need-rows-of-requires
-rows-of-requires c κs = search needs
-
 least-weight-requires : tie.Need-least-weight-requires
 least-weight-requires c κs =
     let limited = c .before .before in
     let bounds = limits-of-test _ _ (within (c .before)) in
     rw (is-n limited, is-k limited) (bounds .1, bounds .3)
-
-has-misplaced-requires : tie.Need-has-misplaced-requires
-has-misplaced-requires c κs = search needs
-
-refusal-if-requires : tie.Need-refusal-if-requires
-refusal-if-requires c κs = search needs
-
-refusal-if-requires-2 : tie.Need-refusal-if-requires-2
-refusal-if-requires-2 c κs = search needs
-
-first-of-requires : tie.Need-first-of-requires
-first-of-requires c κs = search needs
-
-track-of-requires : tie.Need-track-of-requires
-track-of-requires c κs = search needs
 
 returns-4 : tie.Need-returns-4
 returns-4 c =
@@ -156,23 +111,23 @@ pub decode-spec : {M : Type 1} → statement M
 decode-spec =
     tie.close
     (tie.spec
-    refused-requires
+    (λ c κs. search needs)
     returns
-    unused-byte-set-requires
-    stored-check-requires
-    computed-check-requires
-    refused-requires-2
+    (λ c κs. search needs)
+    (λ c κs. search needs)
+    (λ c κs. search needs)
+    (λ c κs. search needs)
     returns-2
-    byte-at-requires
-    byte-at-requires-2
-    within-limits-requires
-    refused-requires-3
+    (λ c κs. search needs)
+    (λ c κs. search needs)
+    (λ c κs. search needs)
+    (λ c κs. search needs)
     returns-3
-    rows-of-requires
+    (λ c κs. search needs)
     least-weight-requires
-    has-misplaced-requires
-    refusal-if-requires
-    refusal-if-requires-2
-    first-of-requires
-    track-of-requires
+    (λ c κs. search needs)
+    (λ c κs. search needs)
+    (λ c κs. search needs)
+    (λ c κs. search needs)
+    (λ c κs. search needs)
     returns-4)

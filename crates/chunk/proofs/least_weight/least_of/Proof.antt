@@ -22,21 +22,6 @@ abbrev μ-loop : tie.MeasureT-loop
 loop-holds : tie.Need-loop-holds Inv-loop μ-loop
 loop-holds c = (omega arith, omega arith, least-of-none _ _ _)
 
-mul-ones-of : tie.Need-mul-ones-of Inv-loop μ-loop
-mul-ones-of c = search needs
-
-element-copy-out-ones-of : tie.Need-element-copy-out-ones-of Inv-loop μ-loop
-element-copy-out-ones-of c = search needs
-
-ones-of-requires : tie.Need-ones-of-requires Inv-loop μ-loop
-ones-of-requires c κs = search needs
-
-add-j : tie.Need-add-j Inv-loop μ-loop
-add-j c = search needs
-
-loop-less : tie.Need-loop-less Inv-loop μ-loop
-loop-less c = search needs
-
 loop-again : tie.Need-loop-again Inv-loop μ-loop
 loop-again c =
     let loop = c .before .before .before .before .loop in
@@ -62,10 +47,10 @@ least-of-spec =
     Inv-loop
     μ-loop
     loop-holds
-    mul-ones-of
-    element-copy-out-ones-of
-    ones-of-requires
-    add-j
-    loop-less
+    (λ c. search needs)
+    (λ c. search needs)
+    (λ c κs. search needs)
+    (λ c. search needs)
+    (λ c. search needs)
     loop-again
     returns)

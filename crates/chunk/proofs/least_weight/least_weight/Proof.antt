@@ -25,21 +25,6 @@ filled c = c .before .before .before
 abbrev parted : tie.After-two-to2 Inv-loop μ-loop → tie.After-low-rows Inv-loop μ-loop
 parted c = filled c .before .before
 
-low-rows-requires : tie.Need-low-rows-requires Inv-loop μ-loop
-low-rows-requires c κs = search needs
-
-two-to-requires : tie.Need-two-to-requires Inv-loop μ-loop
-two-to-requires c κs = search needs
-
-cast-size : tie.Need-cast-size Inv-loop μ-loop
-cast-size c = search needs
-
-low-sums-requires : tie.Need-low-sums-requires Inv-loop μ-loop
-low-sums-requires c κs = search needs
-
-cast-least-of : tie.Need-cast-least-of Inv-loop μ-loop
-cast-least-of c = search needs
-
 -- the table has room for the sums of the low rows
 room : (c : tie.After-two-to Inv-loop μ-loop) → c .two-to .result ≤ 32
 room c = let low = c .before .low-rows in omega (arith, pow-mono {i = low .result} {j = 5} (low .ensures .0))
@@ -48,12 +33,6 @@ least-of-requires : tie.Need-least-of-requires Inv-loop μ-loop
 least-of-requires c κs =
     let sized = c .before .before in
     (omega (arith, pow-pos (sized .before .low-rows .result)), room sized)
-
-sub-two-to : tie.Need-sub-two-to Inv-loop μ-loop
-sub-two-to c = search needs
-
-two-to-requires-2 : tie.Need-two-to-requires-2 Inv-loop μ-loop
-two-to-requires-2 c κs = search needs
 
 sub-last : tie.Need-sub-last Inv-loop μ-loop
 sub-last c = omega (arith, pow-pos (parted c .before .args .k - parted c .low-rows .result))
@@ -64,9 +43,6 @@ loop-holds c =
     let found = c .before .least-of .ensures in
     at-start (table .low-sums .result) (table .low-sums .ensures) (c .two-to2 .ensures) (table .before .two-to .ensures)
     (found .0, found .1 .0, found .1 .1)
-
-add-set : tie.Need-add-set Inv-loop μ-loop
-add-set c = search needs
 
 -- the number of the row that is added
 row : (c : tie.In-loop Inv-loop μ-loop) → parted (c .before .before) .low-rows .result + trailingZeros 32 (c .before .loop .set + 1) < 12
@@ -87,9 +63,6 @@ array-read-word c = row c
 least-of-requires-2 : tie.Need-least-of-requires-2 Inv-loop μ-loop
 least-of-requires-2 c κs = let turn = c .before in (omega arith, room (filled (turn .before .before) .before))
 
-loop-less : tie.Need-loop-less Inv-loop μ-loop
-loop-less c = search needs
-
 loop-again : tie.Need-loop-again Inv-loop μ-loop
 loop-again c =
     let turn = c .before .before in
@@ -97,9 +70,6 @@ loop-again c =
     let found = c .least-of2 .ensures in
     at-next (omega arith) (table .low-sums .result) (table .low-sums .ensures) (table .before .two-to .ensures)
     (turn .before .loop .inv) (turn .loop-test .taken) (found .0, found .1 .0, found .1 .1)
-
-cast-result : tie.Need-cast-result Inv-loop μ-loop
-cast-result c = search needs
 
 returns : tie.Need-returns Inv-loop μ-loop
 returns c =
@@ -112,23 +82,23 @@ least-weight-spec =
     (tie.spec
     Inv-loop
     μ-loop
-    low-rows-requires
-    two-to-requires
-    cast-size
-    low-sums-requires
-    cast-least-of
+    (λ c κs. search needs)
+    (λ c κs. search needs)
+    (λ c. search needs)
+    (λ c κs. search needs)
+    (λ c. search needs)
     least-of-requires
-    sub-two-to
-    two-to-requires-2
+    (λ c. search needs)
+    (λ c κs. search needs)
     sub-last
     loop-holds
-    add-set
+    (λ c. search needs)
     add-z
     cast-z
     mul-word
     array-read-word
     least-of-requires-2
-    loop-less
+    (λ c. search needs)
     loop-again
-    cast-result
+    (λ c. search needs)
     returns)

@@ -19,17 +19,11 @@ Inv-loop low rows sums₀ last sum₀ i₀ sums sum i = AtSum low (λ z. getD ro
 abbrev μ-loop : tie.MeasureT-loop
 μ-loop low rows sums₀ last sum₀ i₀ sums sum i = last - i
 
-two-to-requires : tie.Need-two-to-requires Inv-loop μ-loop
-two-to-requires c κs = search needs
-
 sub-last : tie.Need-sub-last Inv-loop μ-loop
 sub-last c = omega (arith, pow-pos (c .before .args .low))
 
 loop-holds : tie.Need-loop-holds Inv-loop μ-loop
 loop-holds c = sum-start (c .two-to .ensures) refl refl
-
-add-i : tie.Need-add-i Inv-loop μ-loop
-add-i c = search needs
 
 -- the number of the row that is added
 row : (c : tie.In-loop Inv-loop μ-loop) → trailingZeros 32 (c .before .loop .i + 1) < 12
@@ -48,17 +42,8 @@ mul-sum c = omega (arith, row c)
 array-read-sum : tie.Need-array-read-sum Inv-loop μ-loop
 array-read-sum c = row c
 
-cast-sums : tie.Need-cast-sums Inv-loop μ-loop
-cast-sums c = search needs
-
-mul-sums : tie.Need-mul-sums Inv-loop μ-loop
-mul-sums c = search needs
-
 array-write-sums : tie.Need-array-write-sums Inv-loop μ-loop
 array-write-sums c = room c
-
-loop-less : tie.Need-loop-less Inv-loop μ-loop
-loop-less c = search needs
 
 loop-again : tie.Need-loop-again Inv-loop μ-loop
 loop-again c =
@@ -73,16 +58,16 @@ low-sums-spec =
     (tie.spec
     Inv-loop
     μ-loop
-    two-to-requires
+    (λ c κs. search needs)
     sub-last
     loop-holds
-    add-i
+    (λ c. search needs)
     cast-z
     mul-sum
     array-read-sum
-    cast-sums
-    mul-sums
+    (λ c. search needs)
+    (λ c. search needs)
     array-write-sums
-    loop-less
+    (λ c. search needs)
     loop-again
     returns)

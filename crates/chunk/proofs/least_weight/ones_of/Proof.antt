@@ -8,8 +8,5 @@ use Rattle.chunk.proofs.least_weight.ones_of.Tie as tie
 cast-result : tie.Need-cast-result
 cast-result c = omega (arith, ones-le 64 (c .args .word) (omega arith))
 
-returns : tie.Need-returns
-returns c = search needs
-
 pub ones-of-spec : {M : Type 1} → statement M
-ones-of-spec = tie.close (tie.spec cast-result returns)
+ones-of-spec = tie.close (tie.spec cast-result (λ c. search needs))

@@ -8,11 +8,8 @@ use lib.Pow.{shl-exact}
 use Rattle.chunk.proofs.powers.two_to.Statement.{statement}
 use Rattle.chunk.proofs.powers.two_to.Tie as tie
 
-shl-result : tie.Need-shl-result
-shl-result c = search needs
-
 returns : tie.Need-returns
 returns c = shl-exact {a = 1} 1 (c .args .k) 32 (omega arith) (omega arith) ∙ one-mul _
 
 pub two-to-spec : {M : Type 1} → statement M
-two-to-spec = tie.close (tie.spec shl-result returns)
+two-to-spec = tie.close (tie.spec (λ c. search needs) returns)

@@ -57,12 +57,6 @@ Inv-loop x k rows radius last word₀ i₀ word i = AtCandidate k (λ z. getD ro
 abbrev μ-loop : tie.MeasureT-loop
 μ-loop x k rows radius last word₀ i₀ word i = last - i
 
-radius-of-requires : tie.Need-radius-of-requires Inv-bits μ-bits Inv-loop μ-loop
-radius-of-requires c κs = search needs
-
-two-to-requires : tie.Need-two-to-requires Inv-bits μ-bits Inv-loop μ-loop
-two-to-requires c κs = search needs
-
 sub-last : tie.Need-sub-last Inv-bits μ-bits Inv-loop μ-loop
 sub-last c = omega (arith, c .two-to .ensures, pow-pos (c .before .before .before .args .code .k))
 
@@ -71,12 +65,6 @@ loop-holds c = search-starts _ _ _ _ _ (c .two-to .ensures)
 
 bits-holds : tie.Need-bits-holds Inv-bits μ-bits Inv-loop μ-loop
 bits-holds c = (omega arith, omega arith)
-
-sub-rest : tie.Need-sub-rest Inv-bits μ-bits Inv-loop μ-loop
-sub-rest c = search needs
-
-add-unlike : tie.Need-add-unlike Inv-bits μ-bits Inv-loop μ-loop
-add-unlike c = search needs
 
 bits-less : tie.Need-bits-less Inv-bits μ-bits Inv-loop μ-loop
 bits-less c = omega (arith, and-le-r (c .before .before .bits .rest) (c .before .before .bits .rest - 1))
@@ -100,9 +88,6 @@ row c =
     let first = at .before .before .before .before in
     row-of-twelve (first .pre .0 .k-high) (at .loop .inv .at) (omega (arith, at .loop .inv .at .within))
 
-add-i : tie.Need-add-i Inv-bits μ-bits Inv-loop μ-loop
-add-i c = search needs
-
 cast-z : tie.Need-cast-z Inv-bits μ-bits Inv-loop μ-loop
 cast-z c = omega (arith, row c)
 
@@ -111,9 +96,6 @@ mul-word c = omega (arith, row c)
 
 array-read-word : tie.Need-array-read-word Inv-bits μ-bits Inv-loop μ-loop
 array-read-word c = row c
-
-loop-less : tie.Need-loop-less Inv-bits μ-bits Inv-loop μ-loop
-loop-less c = search needs
 
 loop-again : tie.Need-loop-again Inv-bits μ-bits Inv-loop μ-loop
 loop-again c =
@@ -145,20 +127,20 @@ read-chunk-spec =
     μ-bits
     Inv-loop
     μ-loop
-    radius-of-requires
-    two-to-requires
+    (λ c κs. search needs)
+    (λ c κs. search needs)
     sub-last
     loop-holds
     bits-holds
-    add-unlike
-    sub-rest
+    (λ c. search needs)
+    (λ c. search needs)
     bits-less
     bits-again
-    add-i
+    (λ c. search needs)
     cast-z
     mul-word
     array-read-word
-    loop-less
+    (λ c. search needs)
     loop-again
     returns
     returns-2)

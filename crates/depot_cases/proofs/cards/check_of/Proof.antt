@@ -17,35 +17,11 @@ abbrev μ-loop : tie.MeasureT-loop
 term : (p d : ℕ) → p < 510 → d < 256 → (p + 1) * d ≤ 130050
 term p d h k = mul-le-mul {n₁ = p + 1} {n₂ = 510} {m₂ = 255} (omega arith) (le-of-suc-le-suc k)
 
-loop-holds : tie.Need-loop-holds Inv-loop μ-loop
-loop-holds c = search needs
-
-add-total : tie.Need-add-total Inv-loop μ-loop
-add-total c = search needs
-
-array-read-wide : tie.Need-array-read-wide Inv-loop μ-loop
-array-read-wide c = search needs
-
-wide-requires : tie.Need-wide-requires Inv-loop μ-loop
-wide-requires c κs = search needs
-
 mul-total : tie.Need-mul-total Inv-loop μ-loop
 mul-total c = omega (arith, term (c .before .before .loop .place) (c .wide .result) (omega arith) (c .wide .ensures))
 
 add-total-2 : tie.Need-add-total-2 Inv-loop μ-loop
 add-total-2 c = omega (arith, term (c .before .before .loop .place) (c .wide .result) (omega arith) (c .wide .ensures))
-
-add-place : tie.Need-add-place Inv-loop μ-loop
-add-place c = search needs
-
-loop-less : tie.Need-loop-less Inv-loop μ-loop
-loop-less c = search needs
-
-loop-again : tie.Need-loop-again Inv-loop μ-loop
-loop-again c = search needs
-
-returns : tie.Need-returns Inv-loop μ-loop
-returns c = search needs
 
 pub check-of-spec : {M : Type 1} → statement M
 check-of-spec =
@@ -53,13 +29,13 @@ check-of-spec =
     (tie.spec
     Inv-loop
     μ-loop
-    loop-holds
-    add-total
-    array-read-wide
-    wide-requires
+    (λ c. search needs)
+    (λ c. search needs)
+    (λ c. search needs)
+    (λ c κs. search needs)
     mul-total
     add-total-2
-    add-place
-    loop-less
-    loop-again
-    returns)
+    (λ c. search needs)
+    (λ c. search needs)
+    (λ c. search needs)
+    (λ c. search needs))

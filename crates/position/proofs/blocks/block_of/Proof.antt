@@ -16,12 +16,6 @@ Inv-loop code position weights low₀ high₀ low high = BlockBetween (meaning c
 abbrev μ-loop : tie.MeasureT-loop
 μ-loop code position weights low₀ high₀ low high = high - low
 
-row-weights-requires : tie.Need-row-weights-requires Inv-loop μ-loop
-row-weights-requires c κs = search needs
-
-last-codeword-requires : tie.Need-last-codeword-requires Inv-loop μ-loop
-last-codeword-requires c κs = search needs
-
 loop-holds : tie.Need-loop-holds Inv-loop μ-loop
 loop-holds c =
     let args = c .before .before .args in rw (c .last-codeword .ensures) (on-the-track (meaning (args .code)) (args .position))
@@ -35,22 +29,10 @@ add-middle-2 : tie.Need-add-middle-2 Inv-loop μ-loop
 add-middle-2 c =
     let first = c .before .before .before .before in omega (arith, last-codeword-bound _ (first .pre))
 
-start-by-requires : tie.Need-start-by-requires Inv-loop μ-loop
-start-by-requires c κs = search needs
-
-loop-less : tie.Need-loop-less Inv-loop μ-loop
-loop-less c = search needs
-
 loop-again : tie.Need-loop-again Inv-loop μ-loop
 loop-again c =
     let loop = c .before .before .before .loop in
     from-middle _ _ (loop .low) (loop .high) _ (loop .inv) (omega arith) (rw (c .before .start-by .ensures) at (c .if1 .taken))
-
-sub-high : tie.Need-sub-high Inv-loop μ-loop
-sub-high c = search needs
-
-loop-less-2 : tie.Need-loop-less-2 Inv-loop μ-loop
-loop-less-2 c = search needs
 
 loop-again-2 : tie.Need-loop-again-2 Inv-loop μ-loop
 loop-again-2 c =
@@ -69,15 +51,15 @@ block-of-spec =
     (tie.spec
     Inv-loop
     μ-loop
-    row-weights-requires
-    last-codeword-requires
+    (λ c κs. search needs)
+    (λ c κs. search needs)
     loop-holds
     add-middle
     add-middle-2
-    start-by-requires
-    loop-less
+    (λ c κs. search needs)
+    (λ c. search needs)
     loop-again
-    sub-high
-    loop-less-2
+    (λ c. search needs)
+    (λ c. search needs)
     loop-again-2
     returns)

@@ -6,9 +6,6 @@ use Rattle.model.specs.Order.{lastCodeword}
 use Rattle.position.proofs.blocks.last_codeword.Statement.{statement}
 use Rattle.position.proofs.blocks.last_codeword.Tie as tie
 
-two-to-requires : tie.Need-two-to-requires
-two-to-requires c κs = search needs
-
 sub-result : tie.Need-sub-result
 sub-result c = omega (arith, pow-pos (c .before .args .code .k))
 
@@ -17,4 +14,4 @@ unfolding lastCodeword
 returns c = rw (c .two-to .ensures)
 
 pub last-codeword-spec : {M : Type 1} → statement M
-last-codeword-spec = tie.close (tie.spec two-to-requires sub-result returns)
+last-codeword-spec = tie.close (tie.spec (λ c κs. search needs) sub-result returns)

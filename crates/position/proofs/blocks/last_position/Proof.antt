@@ -4,15 +4,9 @@ use Rattle.model.specs.Order.{lastPosition}
 use Rattle.position.proofs.blocks.last_position.Statement.{statement}
 use Rattle.position.proofs.blocks.last_position.Tie as tie
 
-last-codeword-requires : tie.Need-last-codeword-requires
-last-codeword-requires c κs = search needs
-
-block-start-requires : tie.Need-block-start-requires
-block-start-requires c κs = search needs
-
 returns : tie.Need-returns
 unfolding lastPosition
 returns c = rw (← (c .before .last-codeword .ensures)) (c .block-start .ensures)
 
 pub last-position-spec : {M : Type 1} → statement M
-last-position-spec = tie.close (tie.spec last-codeword-requires block-start-requires returns)
+last-position-spec = tie.close (tie.spec (λ c κs. search needs) (λ c κs. search needs) returns)

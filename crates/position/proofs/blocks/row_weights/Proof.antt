@@ -23,30 +23,6 @@ abbrev μ-loop : tie.MeasureT-loop
 loop-holds : tie.Need-loop-holds Inv-loop μ-loop
 loop-holds c = (omega arith, search needs, below-none _)
 
-cast-if1 : tie.Need-cast-if1 Inv-loop μ-loop
-cast-if1 c = search needs
-
-mul-row-weight : tie.Need-mul-row-weight Inv-loop μ-loop
-mul-row-weight c = search needs
-
-array-read-row-weight : tie.Need-array-read-row-weight Inv-loop μ-loop
-array-read-row-weight c = search needs
-
-row-weight-requires : tie.Need-row-weight-requires Inv-loop μ-loop
-row-weight-requires c κs = search needs
-
-mul-weights : tie.Need-mul-weights Inv-loop μ-loop
-mul-weights c = search needs
-
-array-write-weights : tie.Need-array-write-weights Inv-loop μ-loop
-array-write-weights c = search needs
-
-add-z : tie.Need-add-z Inv-loop μ-loop
-add-z c = search needs
-
-loop-less : tie.Need-loop-less Inv-loop μ-loop
-loop-less c = search needs
-
 loop-again : tie.Need-loop-again Inv-loop μ-loop
 loop-again c =
     let loop = c .before .before .before .loop in
@@ -65,13 +41,13 @@ row-weights-spec =
     Inv-loop
     μ-loop
     loop-holds
-    cast-if1
-    mul-row-weight
-    array-read-row-weight
-    row-weight-requires
-    mul-weights
-    array-write-weights
-    add-z
-    loop-less
+    (λ c. search needs)
+    (λ c. search needs)
+    (λ c. search needs)
+    (λ c κs. search needs)
+    (λ c. search needs)
+    (λ c. search needs)
+    (λ c. search needs)
+    (λ c. search needs)
     loop-again
     returns)

@@ -57,18 +57,6 @@ mul-begin-2 c = omega (arith, separators-fit (c .before))
 loop-holds : tie.Need-loop-holds Inv-loop μ-loop
 loop-holds c = (omega arith, sym (up-to-none (meaning (c .before .args .code)) (c .before .args .i)))
 
-cast-begin : tie.Need-cast-begin Inv-loop μ-loop
-cast-begin c = search needs
-
-mul-begin-3 : tie.Need-mul-begin-3 Inv-loop μ-loop
-mul-begin-3 c = search needs
-
-array-read-begin : tie.Need-array-read-begin Inv-loop μ-loop
-array-read-begin c = search needs
-
-times-added-requires : tie.Need-times-added-requires Inv-loop μ-loop
-times-added-requires c κs = search needs
-
 mul-begin-4 : tie.Need-mul-begin-4 Inv-loop μ-loop
 mul-begin-4 c = omega (arith, next-fits c)
 
@@ -77,12 +65,6 @@ mul-begin-5 c = omega (arith, next-fits c)
 
 add-begin : tie.Need-add-begin Inv-loop μ-loop
 add-begin c = omega (arith, next-fits c)
-
-add-z : tie.Need-add-z Inv-loop μ-loop
-add-z c = search needs
-
-loop-less : tie.Need-loop-less Inv-loop μ-loop
-loop-less c = search needs
 
 loop-again : tie.Need-loop-again Inv-loop μ-loop
 loop-again c = (omega arith, next c)
@@ -103,14 +85,14 @@ start-by-spec =
     mul-begin
     mul-begin-2
     loop-holds
-    cast-begin
-    mul-begin-3
-    array-read-begin
-    times-added-requires
+    (λ c. search needs)
+    (λ c. search needs)
+    (λ c. search needs)
+    (λ c κs. search needs)
     mul-begin-4
     mul-begin-5
     add-begin
-    add-z
-    loop-less
+    (λ c. search needs)
+    (λ c. search needs)
     loop-again
     returns)

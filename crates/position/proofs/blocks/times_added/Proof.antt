@@ -9,17 +9,8 @@ use Rattle.position.proofs.StartSum.{not-added, added-again}
 use Rattle.position.proofs.blocks.times_added.Statement.{statement}
 use Rattle.position.proofs.blocks.times_added.Tie as tie
 
-two-to-requires : tie.Need-two-to-requires
-two-to-requires c κs = search needs
-
 returns : tie.Need-returns
 returns c = not-added _ _ (rw (c .before .two-to .ensures) at (c .if1 .taken))
-
-add-result : tie.Need-add-result
-add-result c = search needs
-
-shr-result : tie.Need-shr-result
-shr-result c = search needs
 
 add-result-2 : tie.Need-add-result-2
 add-result-2 c =
@@ -34,4 +25,4 @@ returns-2 c =
 
 pub times-added-spec : {M : Type 1} → statement M
 times-added-spec =
-    tie.close (tie.spec two-to-requires returns add-result shr-result add-result-2 returns-2)
+    tie.close (tie.spec (λ c κs. search needs) returns (λ c. search needs) (λ c. search needs) add-result-2 returns-2)

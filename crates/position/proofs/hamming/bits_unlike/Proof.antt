@@ -22,26 +22,11 @@ loop-holds : tie.Need-loop-holds Inv-loop μ-loop
 unfolding distance sumBelow
 loop-holds c = (omega arith, refl)
 
-array-read-byte-unlike : tie.Need-array-read-byte-unlike Inv-loop μ-loop
-array-read-byte-unlike c = search needs
-
-array-read-byte-unlike-2 : tie.Need-array-read-byte-unlike-2 Inv-loop μ-loop
-array-read-byte-unlike-2 c = search needs
-
-byte-unlike-requires : tie.Need-byte-unlike-requires Inv-loop μ-loop
-byte-unlike-requires c κs = search needs
-
 add-unlike : tie.Need-add-unlike Inv-loop μ-loop
 add-unlike c =
     let loop = c .before .before .loop in
     let args = c .before .before .before .args in
     omega (arith, distance-le (8 * loop .j) (place (args .t1)) (place (args .t2)))
-
-add-j : tie.Need-add-j Inv-loop μ-loop
-add-j c = search needs
-
-loop-less : tie.Need-loop-less Inv-loop μ-loop
-loop-less c = search needs
 
 loop-again : tie.Need-loop-again Inv-loop μ-loop
 loop-again c =
@@ -62,11 +47,11 @@ bits-unlike-spec =
     Inv-loop
     μ-loop
     loop-holds
-    array-read-byte-unlike
-    array-read-byte-unlike-2
-    byte-unlike-requires
+    (λ c. search needs)
+    (λ c. search needs)
+    (λ c κs. search needs)
     add-unlike
-    add-j
-    loop-less
+    (λ c. search needs)
+    (λ c. search needs)
     loop-again
     returns)

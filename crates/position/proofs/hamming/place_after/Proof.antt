@@ -36,38 +36,17 @@ bytes-holds : tie.Need-bytes-holds Inv-bytes μ-bytes Inv-loop μ-loop
 unfolding distance sumBelow
 bytes-holds c = (omega arith, refl, omega arith)
 
-array-read-byte-unlike : tie.Need-array-read-byte-unlike Inv-bytes μ-bytes Inv-loop μ-loop
-array-read-byte-unlike c = search needs
-
-array-read-byte-unlike-2 : tie.Need-array-read-byte-unlike-2 Inv-bytes μ-bytes Inv-loop μ-loop
-array-read-byte-unlike-2 c = search needs
-
-byte-unlike-requires : tie.Need-byte-unlike-requires Inv-bytes μ-bytes Inv-loop μ-loop
-byte-unlike-requires c κs = search needs
-
 add-more : tie.Need-add-more Inv-bytes μ-bytes Inv-loop μ-loop
 add-more c =
     let here = c .before .before in
     let args = here .before .args in
     omega (arith, distance-le (8 * here .bytes .j) (place (args .t1)) (place (args .t2)))
 
-add-j : tie.Need-add-j Inv-bytes μ-bytes Inv-loop μ-loop
-add-j c = search needs
-
-bytes-less : tie.Need-bytes-less Inv-bytes μ-bytes Inv-loop μ-loop
-bytes-less c = search needs
-
 bytes-again : tie.Need-bytes-again Inv-bytes μ-bytes Inv-loop μ-loop
 bytes-again c =
     let here = c .before .before .before in
     let args = here .before .args in
     (omega arith, omega (arith, distance-byte (args .t1) (args .t2) (here .bytes .j)), omega arith)
-
-cast-q : tie.Need-cast-q Inv-bytes μ-bytes Inv-loop μ-loop
-cast-q c = search needs
-
-mul-q : tie.Need-mul-q Inv-bytes μ-bytes Inv-loop μ-loop
-mul-q c = search needs
 
 loop-holds : tie.Need-loop-holds Inv-bytes μ-bytes Inv-loop μ-loop
 loop-holds c = c .before .bytes .inv
@@ -81,29 +60,11 @@ inside c =
     (λ (l : loop .q < 320). l)
     (eq-or-lt-of-le (loop .inv .0))
 
-cast-i : tie.Need-cast-i Inv-bytes μ-bytes Inv-loop μ-loop
-cast-i c = search needs
-
 array-read-bit-of : tie.Need-array-read-bit-of Inv-bytes μ-bytes Inv-loop μ-loop
 array-read-bit-of c = omega (arith, inside c)
 
-bit-of-requires : tie.Need-bit-of-requires Inv-bytes μ-bytes Inv-loop μ-loop
-bit-of-requires c κs = search needs
-
 array-read-bit-of-2 : tie.Need-array-read-bit-of-2 Inv-bytes μ-bytes Inv-loop μ-loop
 array-read-bit-of-2 c = omega (arith, inside (c .before))
-
-bit-of-requires-2 : tie.Need-bit-of-requires-2 Inv-bytes μ-bytes Inv-loop μ-loop
-bit-of-requires-2 c κs = search needs
-
-add-passed : tie.Need-add-passed Inv-bytes μ-bytes Inv-loop μ-loop
-add-passed c = search needs
-
-add-passed-2 : tie.Need-add-passed-2 Inv-bytes μ-bytes Inv-loop μ-loop
-add-passed-2 c = search needs
-
-add-q : tie.Need-add-q Inv-bytes μ-bytes Inv-loop μ-loop
-add-q c = search needs
 
 loop-less : tie.Need-loop-less Inv-bytes μ-bytes Inv-loop μ-loop
 loop-less c = omega (arith, inside (c .before .before))
@@ -133,24 +94,24 @@ place-after-spec =
     Inv-loop
     μ-loop
     bytes-holds
-    array-read-byte-unlike
-    array-read-byte-unlike-2
-    byte-unlike-requires
+    (λ c. search needs)
+    (λ c. search needs)
+    (λ c κs. search needs)
     add-more
-    add-j
-    bytes-less
+    (λ c. search needs)
+    (λ c. search needs)
     bytes-again
-    cast-q
-    mul-q
+    (λ c. search needs)
+    (λ c. search needs)
     loop-holds
-    cast-i
+    (λ c. search needs)
     array-read-bit-of
-    bit-of-requires
+    (λ c κs. search needs)
     array-read-bit-of-2
-    bit-of-requires-2
-    add-passed
-    add-passed-2
-    add-q
+    (λ c κs. search needs)
+    (λ c. search needs)
+    (λ c. search needs)
+    (λ c. search needs)
     loop-less
     loop-again
     returns)

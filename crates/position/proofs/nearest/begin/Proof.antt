@@ -7,9 +7,6 @@ use Rattle.position.proofs.Scanning.{scanned-first}
 use Rattle.position.proofs.nearest.begin.Statement.{statement}
 use Rattle.position.proofs.nearest.begin.Tie as tie
 
-bits-unlike-requires : tie.Need-bits-unlike-requires
-bits-unlike-requires c κs = search needs
-
 returns : tie.Need-returns
 unfolding Begun
 returns c = (
@@ -21,4 +18,4 @@ returns c = (
 )
 
 pub begin-spec : {M : Type 1} → statement M
-begin-spec = tie.close (tie.spec bits-unlike-requires returns)
+begin-spec = tie.close (tie.spec (λ c κs. search needs) returns)

@@ -6,15 +6,6 @@ use borrow.Author.Needs.{needs}
 use Rattle.position.proofs.nearest.nearest_after.Statement.{statement}
 use Rattle.position.proofs.nearest.nearest_after.Tie as tie
 
-layout-of-requires : tie.Need-layout-of-requires
-layout-of-requires c κs = search needs
-
-search-block-requires : tie.Need-search-block-requires
-search-block-requires c κs = search needs
-
-found-requires : tie.Need-found-requires
-found-requires c κs = search needs
-
 returns : tie.Need-returns
 returns c =
     let first = c .before .before .before in
@@ -26,4 +17,4 @@ returns c =
 
 pub nearest-after-spec : {M : Type 1} → statement M
 nearest-after-spec =
-    tie.close (tie.spec layout-of-requires search-block-requires found-requires returns)
+    tie.close (tie.spec (λ c κs. search needs) (λ c κs. search needs) (λ c κs. search needs) returns)

@@ -9,15 +9,6 @@ use borrow.Author.Needs.{needs}
 use Rattle.position.proofs.nearest.nearest_around.Statement.{statement}
 use Rattle.position.proofs.nearest.nearest_around.Tie as tie
 
-search-before-start-requires : tie.Need-search-before-start-requires
-search-before-start-requires c κs = search needs
-
-last-codeword-requires : tie.Need-last-codeword-requires
-last-codeword-requires c κs = search needs
-
-found-requires : tie.Need-found-requires
-found-requires c κs = search needs
-
 returns : tie.Need-returns
 returns c =
     let first = c .before .before .before .before in
@@ -26,12 +17,6 @@ returns c =
     c .found .ensures
     ∙ answer-of-search C _ 3 _ _ _ (search .2) (search .0)
     (search .1 ∙ track-ends C (first .args .p) (c .before .if1 .taken ∙ c .before .before .last-codeword .ensures))
-
-search-after-start-requires : tie.Need-search-after-start-requires
-search-after-start-requires c κs = search needs
-
-found-requires-2 : tie.Need-found-requires-2
-found-requires-2 c κs = search needs
 
 returns-2 : tie.Need-returns-2
 returns-2 c =
@@ -47,10 +32,10 @@ pub nearest-around-spec : {M : Type 1} → statement M
 nearest-around-spec =
     tie.close
     (tie.spec
-    search-before-start-requires
-    last-codeword-requires
-    found-requires
+    (λ c κs. search needs)
+    (λ c κs. search needs)
+    (λ c κs. search needs)
     returns
-    search-after-start-requires
-    found-requires-2
+    (λ c κs. search needs)
+    (λ c κs. search needs)
     returns-2)

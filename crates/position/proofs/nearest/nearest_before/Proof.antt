@@ -8,18 +8,6 @@ use borrow.Author.Needs.{needs}
 use Rattle.position.proofs.nearest.nearest_before.Statement.{statement}
 use Rattle.position.proofs.nearest.nearest_before.Tie as tie
 
-layout-of-requires : tie.Need-layout-of-requires
-layout-of-requires c κs = search needs
-
-sub-search-block : tie.Need-sub-search-block
-sub-search-block c = search needs
-
-search-block-requires : tie.Need-search-block-requires
-search-block-requires c κs = search needs
-
-found-requires : tie.Need-found-requires
-found-requires c κs = search needs
-
 returns : tie.Need-returns
 returns c =
     let first = c .before .before .before in
@@ -32,4 +20,4 @@ returns c =
 pub nearest-before-spec : {M : Type 1} → statement M
 nearest-before-spec =
     tie.close
-    (tie.spec layout-of-requires sub-search-block search-block-requires found-requires returns)
+    (tie.spec (λ c κs. search needs) (λ c. search needs) (λ c κs. search needs) (λ c κs. search needs) returns)

@@ -9,14 +9,8 @@ use borrow.Author.Needs.{needs}
 use Rattle.position.proofs.nearest.search_after_start.Statement.{statement}
 use Rattle.position.proofs.nearest.search_after_start.Tie as tie
 
-word-of-requires : tie.Need-word-of-requires
-word-of-requires c κs = search needs
-
 add-word-of : tie.Need-add-word-of
 add-word-of c = omega (arith, c .before .pre .1, last-codeword-bound (meaning (c .before .args .code)) (c .before .pre .0))
-
-word-of-requires-2 : tie.Need-word-of-requires-2
-word-of-requires-2 c κs = search needs
 
 words : (c : tie.After-word-of2)
     → BlockWords (meaning (c .before .before .args .code)) (c .before .before .args .p) (c .before .word-of .result) (c .word-of2 .result)
@@ -56,4 +50,4 @@ returns c =
 pub search-after-start-spec : {M : Type 1} → statement M
 search-after-start-spec =
     tie.close
-    (tie.spec word-of-requires add-word-of word-of-requires-2 pass-places-requires returns)
+    (tie.spec (λ c κs. search needs) add-word-of (λ c κs. search needs) pass-places-requires returns)

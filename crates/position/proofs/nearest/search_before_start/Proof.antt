@@ -13,12 +13,6 @@ use borrow.Author.Needs.{needs}
 use Rattle.position.proofs.nearest.search_before_start.Statement.{statement}
 use Rattle.position.proofs.nearest.search_before_start.Tie as tie
 
-word-of-requires : tie.Need-word-of-requires
-word-of-requires c κs = search needs
-
-begin-requires : tie.Need-begin-requires
-begin-requires c κs = search needs
-
 returns : tie.Need-returns
 unfolding Begun
 returns c =
@@ -29,15 +23,6 @@ returns c =
       c .begin .ensures .1 ∙ sym zero-start,
       c .begin .ensures .2 C (first .pre .0) (first-word C (first .pre .0) _ (c .before .word-of .ensures)) (first .pre .1),
     )
-
-layout-of-requires : tie.Need-layout-of-requires
-layout-of-requires c κs = search needs
-
-sub-search-block : tie.Need-sub-search-block
-sub-search-block c = search needs
-
-search-block-requires : tie.Need-search-block-requires
-search-block-requires c κs = search needs
 
 returns-2 : tie.Need-returns-2
 returns-2 c =
@@ -56,10 +41,10 @@ pub search-before-start-spec : {M : Type 1} → statement M
 search-before-start-spec =
     tie.close
     (tie.spec
-    word-of-requires
-    begin-requires
+    (λ c κs. search needs)
+    (λ c κs. search needs)
     returns
-    layout-of-requires
-    sub-search-block
-    search-block-requires
+    (λ c κs. search needs)
+    (λ c. search needs)
+    (λ c κs. search needs)
     returns-2)

@@ -18,24 +18,12 @@ use Rattle.position.proofs.FirstPosition.{steps-counted, splice-holds}
 use Rattle.position.proofs.nearest.search_block.Statement.{statement}
 use Rattle.position.proofs.nearest.search_block.Tie as tie
 
-word-of-requires : tie.Need-word-of-requires
-word-of-requires c κs = search needs
-
 add-word-of : tie.Need-add-word-of
 add-word-of c = omega (arith, c .before .pre .2, last-codeword-bound (meaning (c .before .args .code)) (c .before .pre .0))
-
-word-of-requires-2 : tie.Need-word-of-requires-2
-word-of-requires-2 c κs = search needs
 
 spliced-requires : tie.Need-spliced-requires
 spliced-requires c κs =
     let first = c .before .before in omega (arith, first .pre .3, first .pre .4, word-bits-bound (meaning (first .args .code)) (first .pre .0))
-
-block-start-requires : tie.Need-block-start-requires
-block-start-requires c κs = search needs
-
-bits-unlike-requires : tie.Need-bits-unlike-requires
-bits-unlike-requires c κs = search needs
 
 -- at the place where all is known of the two words and their splice
 module _ (c : tie.After-bits-unlike) where
@@ -72,9 +60,6 @@ add-begin : tie.Need-add-begin
 add-begin c =
     let first = first c in
     omega (arith, low c, passed-bound (C c) (first .pre .0) (i c) (first .pre .2) (first .args .at) (within c))
-
-begin-requires : tie.Need-begin-requires
-begin-requires c κs = search needs
 
 -- the search as it begins has passed the places below the first
 begun : (c : tie.After-begin)
@@ -117,13 +102,13 @@ pub search-block-spec : {M : Type 1} → statement M
 search-block-spec =
     tie.close
     (tie.spec
-    word-of-requires
+    (λ c κs. search needs)
     add-word-of
-    word-of-requires-2
+    (λ c κs. search needs)
     spliced-requires
-    block-start-requires
-    bits-unlike-requires
+    (λ c κs. search needs)
+    (λ c κs. search needs)
     add-begin
-    begin-requires
+    (λ c κs. search needs)
     pass-places-requires
     returns)

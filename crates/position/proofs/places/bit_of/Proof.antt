@@ -6,18 +6,9 @@ use Rattle.bits.specs.Places.{place}
 use Rattle.position.proofs.places.bit_of.Statement.{statement}
 use Rattle.position.proofs.places.bit_of.Tie as tie
 
-cast-result : tie.Need-cast-result
-cast-result c = search needs
-
-shr-result : tie.Need-shr-result
-shr-result c = search needs
-
-cast-result-2 : tie.Need-cast-result-2
-cast-result-2 c = search needs
-
 returns : tie.Need-returns
 unfolding place
 returns c = (λ w held. rw held, mod-lt _ (omega arith))
 
 pub bit-of-spec : {M : Type 1} → statement M
-bit-of-spec = tie.close (tie.spec cast-result shr-result cast-result-2 returns)
+bit-of-spec = tie.close (tie.spec (λ c. search needs) (λ c. search needs) (λ c. search needs) returns)

@@ -19,27 +19,6 @@ abbrev μ-loop : tie.MeasureT-loop
 loop-holds : tie.Need-loop-holds Inv-loop μ-loop
 loop-holds c = (omega arith, none-gathered _)
 
-add-q : tie.Need-add-q Inv-loop μ-loop
-add-q c = search needs
-
-cast-j : tie.Need-cast-j Inv-loop μ-loop
-cast-j c = search needs
-
-array-read-moved-to : tie.Need-array-read-moved-to Inv-loop μ-loop
-array-read-moved-to c = search needs
-
-moved-to-requires : tie.Need-moved-to-requires Inv-loop μ-loop
-moved-to-requires c κs = search needs
-
-sub-p : tie.Need-sub-p Inv-loop μ-loop
-sub-p c = search needs
-
-add-p : tie.Need-add-p Inv-loop μ-loop
-add-p c = search needs
-
-loop-less : tie.Need-loop-less Inv-loop μ-loop
-loop-less c = search needs
-
 loop-again : tie.Need-loop-again Inv-loop μ-loop
 loop-again c =
     let loop = c .before .before .loop in
@@ -48,9 +27,6 @@ loop-again c =
       rw (c .moved-to .ensures .0)
           (places-gathered (args .t1) (args .at) (loop .p) (loop .value) (c .moved-to .ensures .1) (loop .inv .1)),
     )
-
-low-bits-requires : tie.Need-low-bits-requires Inv-loop μ-loop
-low-bits-requires c κs = search needs
 
 returns : tie.Need-returns Inv-loop μ-loop
 returns c =
@@ -64,13 +40,13 @@ bits-at-spec =
     Inv-loop
     μ-loop
     loop-holds
-    add-q
-    cast-j
-    array-read-moved-to
-    moved-to-requires
-    sub-p
-    add-p
-    loop-less
+    (λ c. search needs)
+    (λ c. search needs)
+    (λ c. search needs)
+    (λ c κs. search needs)
+    (λ c. search needs)
+    (λ c. search needs)
+    (λ c. search needs)
     loop-again
-    low-bits-requires
+    (λ c κs. search needs)
     returns)

@@ -10,15 +10,6 @@ use Rattle.position.proofs.places.low_bits.Tie as tie
 returns : tie.Need-returns
 returns c = rw (c .if1 .taken) (omega arith)
 
-sub-result : tie.Need-sub-result
-sub-result c = search needs
-
-cast-result : tie.Need-cast-result
-cast-result c = search needs
-
-shr-result : tie.Need-shr-result
-shr-result c = search needs
-
 returns-2 : tie.Need-returns-2
 returns-2 c =
     let n = c .before .args .n in
@@ -26,4 +17,4 @@ returns-2 c =
     rw all at (all-ones-moved n (64 - n))
 
 pub low-bits-spec : {M : Type 1} → statement M
-low-bits-spec = tie.close (tie.spec returns sub-result cast-result shr-result returns-2)
+low-bits-spec = tie.close (tie.spec returns (λ c. search needs) (λ c. search needs) (λ c. search needs) returns-2)

@@ -7,21 +7,9 @@ use borrow.Author.Needs.{needs}
 use Rattle.position.proofs.places.moved_to.Statement.{statement}
 use Rattle.position.proofs.places.moved_to.Tie as tie
 
-cast-result : tie.Need-cast-result
-cast-result c = search needs
-
-shr-result : tie.Need-shr-result
-shr-result c = search needs
-
 cast-result-2 : tie.Need-cast-result-2
 cast-result-2 c =
     let less : c .args .byte / 2 ^ c .args .q ≤ c .args .byte = div-le-self _ _ in omega arith
 
-shl-result : tie.Need-shl-result
-shl-result c = search needs
-
-returns : tie.Need-returns
-returns c = search needs
-
 pub moved-to-spec : {M : Type 1} → statement M
-moved-to-spec = tie.close (tie.spec cast-result shr-result cast-result-2 shl-result returns)
+moved-to-spec = tie.close (tie.spec (λ c. search needs) (λ c. search needs) cast-result-2 (λ c. search needs) (λ c. search needs))

@@ -10,9 +10,6 @@ use Rattle.bits.proofs.Sums.{sum-ext}
 use Rattle.position.proofs.places.ones_from.Statement.{statement}
 use Rattle.position.proofs.places.ones_from.Tie as tie
 
-bits-at-requires : tie.Need-bits-at-requires
-bits-at-requires c κs = search needs
-
 returns : tie.Need-returns
 unfolding weight
 returns c =
@@ -22,4 +19,4 @@ returns c =
     (counted ∙ sum-ext len (c .bits-at .ensures .1), omega (arith, weight-le len number))
 
 pub ones-from-spec : {M : Type 1} → statement M
-ones-from-spec = tie.close (tie.spec bits-at-requires returns)
+ones-from-spec = tie.close (tie.spec (λ c κs. search needs) returns)

@@ -5,12 +5,6 @@ use borrow.Author.Needs.{needs}
 use Rattle.position.proofs.places.separator_at.Statement.{statement}
 use Rattle.position.proofs.places.separator_at.Tie as tie
 
-ones-from-requires : tie.Need-ones-from-requires
-ones-from-requires c κs = search needs
-
-mul-if1 : tie.Need-mul-if1
-mul-if1 c = search needs
-
 returns : tie.Need-returns
 unfolding majority
 returns c = rw (← (c .before .ones-from .ensures .0), lt-ltb _ _ (c .if1 .taken))
@@ -20,4 +14,4 @@ unfolding majority
 returns-2 c = rw (← (c .before .ones-from .ensures .0), le-ltb _ _ (c .if1 .left))
 
 pub separator-at-spec : {M : Type 1} → statement M
-separator-at-spec = tie.close (tie.spec ones-from-requires mul-if1 returns returns-2)
+separator-at-spec = tie.close (tie.spec (λ c κs. search needs) (λ c. search needs) returns returns-2)

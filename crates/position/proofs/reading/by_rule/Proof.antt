@@ -6,22 +6,13 @@ use Rattle.model.specs.Reading.{allowedBy}
 use Rattle.position.proofs.reading.by_rule.Statement.{statement}
 use Rattle.position.proofs.reading.by_rule.Tie as tie
 
-by-rule1-requires : tie.Need-by-rule1-requires
-by-rule1-requires c κs = search needs
-
 returns : tie.Need-returns
 unfolding allowedBy
 returns c = rw (c .before .if1 .taken) (c .by-rule1 .ensures)
 
-by-rule2-requires : tie.Need-by-rule2-requires
-by-rule2-requires c κs = search needs
-
 returns-2 : tie.Need-returns-2
 unfolding allowedBy
 returns-2 c = rw (c .before .if2 .taken) (c .by-rule2 .ensures)
-
-by-rule3-requires : tie.Need-by-rule3-requires
-by-rule3-requires c κs = search needs
 
 returns-3 : tie.Need-returns-3
 unfolding allowedBy
@@ -32,4 +23,4 @@ returns-3 c =
 pub by-rule-spec : {M : Type 1} → statement M
 by-rule-spec =
     tie.close
-    (tie.spec by-rule1-requires returns by-rule2-requires returns-2 by-rule3-requires returns-3)
+    (tie.spec (λ c κs. search needs) returns (λ c κs. search needs) returns-2 (λ c κs. search needs) returns-3)

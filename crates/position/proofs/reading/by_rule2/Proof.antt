@@ -29,18 +29,6 @@ codeword-read : (c : tie.After-number)
     chunkReading C (chunk₂ C (place (first .args .x))) ≡ Codeword (read .0) (read .1 .0)
 codeword-read c = sym (chunk-read (c .before .before)) ∙ c .number .given .1
 
-layout-of-requires : tie.Need-layout-of-requires
-layout-of-requires c κs = search needs
-
-chunk-reading-requires : tie.Need-chunk-reading-requires
-chunk-reading-requires c κs = search needs
-
-enum-known-number : tie.Need-enum-known-number
-enum-known-number c = search needs
-
-last-codeword-requires : tie.Need-last-codeword-requires
-last-codeword-requires c κs = search needs
-
 returns : tie.Need-returns
 unfolding nearest rule₂
 returns c = rw (codeword-read (c .before .before .before), eq-eqb _ _ (c .if1 .taken ∙ c .before .last-codeword .ensures))
@@ -51,9 +39,6 @@ nearest-after-requires c κs =
     let first = known .before .before .before .before in
     let bound = promise (meaning (first .args .code)) (first .pre .0) .chunks .within _ _ _ (codeword-read known) .0 in
     (first .pre .0, first .pre .1, omega (arith, c .if1 .left, c .before .last-codeword .ensures, bound))
-
-enum-told : tie.Need-enum-told
-enum-told c = search needs
 
 returns-2 : tie.Need-returns-2
 unfolding nearest rule₂
@@ -70,12 +55,12 @@ pub by-rule2-spec : {M : Type 1} → statement M
 by-rule2-spec =
     tie.close
     (tie.spec
-    layout-of-requires
-    chunk-reading-requires
-    enum-known-number
-    last-codeword-requires
+    (λ c κs. search needs)
+    (λ c κs. search needs)
+    (λ c. search needs)
+    (λ c κs. search needs)
     returns
     nearest-after-requires
-    enum-told
+    (λ c. search needs)
     returns-2
     returns-3)

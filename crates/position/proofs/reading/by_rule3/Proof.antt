@@ -43,29 +43,8 @@ codeword-read₂ : (c : tie.After-second)
     chunkReading C (chunk₂ C (place (start .args .x))) ≡ Codeword (read .0) (read .1 .0)
 codeword-read₂ c = sym (chunk-read₂ (c .before .before)) ∙ c .second .given .1
 
-layout-of-requires : tie.Need-layout-of-requires
-layout-of-requires c κs = search needs
-
-chunk-reading-requires : tie.Need-chunk-reading-requires
-chunk-reading-requires c κs = search needs
-
-enum-known-first : tie.Need-enum-known-first
-enum-known-first c = search needs
-
-enum-told : tie.Need-enum-told
-enum-told c = search needs
-
 returns : tie.Need-returns
 returns c = rw (sym (chunk-read₁ (c .before .before)) ∙ c .enum-told .given .1) (unreadable-first _ _ _)
-
-chunk-reading-requires-2 : tie.Need-chunk-reading-requires-2
-chunk-reading-requires-2 c κs = search needs
-
-enum-known-second : tie.Need-enum-known-second
-enum-known-second c = search needs
-
-enum-told-2 : tie.Need-enum-told-2
-enum-told-2 c = search needs
 
 returns-2 : tie.Need-returns-2
 unfolding nearest rule₃
@@ -98,14 +77,14 @@ pub by-rule3-spec : {M : Type 1} → statement M
 by-rule3-spec =
     tie.close
     (tie.spec
-    layout-of-requires
-    chunk-reading-requires
-    enum-known-first
-    enum-told
+    (λ c κs. search needs)
+    (λ c κs. search needs)
+    (λ c. search needs)
+    (λ c. search needs)
     returns
-    chunk-reading-requires-2
-    enum-known-second
-    enum-told-2
+    (λ c κs. search needs)
+    (λ c. search needs)
+    (λ c. search needs)
     returns-2
     returns-3
     nearest-around-requires

@@ -14,13 +14,10 @@ bits-at-requires c κs =
     let sound = c .pre .0 in
     (omega (arith, c .pre .1, word-bits-bound (meaning (c .args .code)) sound), sound .n-high)
 
-read-chunk-requires : tie.Need-read-chunk-requires
-read-chunk-requires c κs = search needs
-
 returns : tie.Need-returns
 returns c =
     c .read-chunk .ensures .0
     ∙ chunkReading-ext (meaning (c .before .before .args .code)) _ _ (c .before .bits-at .ensures .1)
 
 pub chunk-reading-spec : {M : Type 1} → statement M
-chunk-reading-spec = tie.close (tie.spec bits-at-requires read-chunk-requires returns)
+chunk-reading-spec = tie.close (tie.spec bits-at-requires (λ c κs. search needs) returns)

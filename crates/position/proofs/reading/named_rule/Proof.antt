@@ -27,18 +27,6 @@ separators c =
       third = sym (rw (at .separator₃-at) at (c .separator-at3 .ensures));
     }
 
-layout-of-requires : tie.Need-layout-of-requires
-layout-of-requires c κs = search needs
-
-separator-at-requires : tie.Need-separator-at-requires
-separator-at-requires c κs = search needs
-
-separator-at-requires-2 : tie.Need-separator-at-requires-2
-separator-at-requires-2 c κs = search needs
-
-separator-at-requires-3 : tie.Need-separator-at-requires-3
-separator-at-requires-3 c κs = search needs
-
 returns : tie.Need-returns
 returns c = (sym (names-rule₃ (separators (c .before .before)) (c .before .if1 .taken) (c .if2 .taken)), omega arith)
 
@@ -55,10 +43,10 @@ pub named-rule-spec : {M : Type 1} → statement M
 named-rule-spec =
     tie.close
     (tie.spec
-    layout-of-requires
-    separator-at-requires
-    separator-at-requires-2
-    separator-at-requires-3
+    (λ c κs. search needs)
+    (λ c κs. search needs)
+    (λ c κs. search needs)
+    (λ c κs. search needs)
     returns
     returns-2
     returns-3

@@ -75,44 +75,11 @@ module _ (c : tie.After-first-of) where
       (counted .ones-from .result) (named .named-rule .result) (c .first-of .ensures)
       (c .before .before .refusal-if .ensures) (c .before .refusal-if2 .ensures) spare (rule named)
 
-layout-of-requires : tie.Need-layout-of-requires
-layout-of-requires c κs = search needs
-
-word-length-requires : tie.Need-word-length-requires
-word-length-requires c κs = search needs
-
-cast-ones-from : tie.Need-cast-ones-from
-cast-ones-from c = search needs
-
 returns : tie.Need-returns
 unfolding readWord
 returns c =
     rw (ne-eqb (length (c .before .before .before .args .word .now)) (wordLength (meaning (c .before .before .before .args .code)))
     (λ e. c .if1 .taken (e ∙ sym (c .before .word-length .ensures .0))))
-
-received-requires : tie.Need-received-requires
-received-requires c κs = search needs
-
-named-rule-requires : tie.Need-named-rule-requires
-named-rule-requires c κs = search needs
-
-mul-ones-from : tie.Need-mul-ones-from
-mul-ones-from c = search needs
-
-sub-ones-from : tie.Need-sub-ones-from
-sub-ones-from c = search needs
-
-ones-from-requires : tie.Need-ones-from-requires
-ones-from-requires c κs = search needs
-
-refusal-if-requires : tie.Need-refusal-if-requires
-refusal-if-requires c κs = search needs
-
-refusal-if-requires-2 : tie.Need-refusal-if-requires-2
-refusal-if-requires-2 c κs = search needs
-
-first-of-requires : tie.Need-first-of-requires
-first-of-requires c κs = search needs
 
 returns-2 : tie.Need-returns-2
 returns-2 c =
@@ -148,18 +115,18 @@ pub read-spec : {M : Type 1} → statement M
 read-spec =
     tie.close
     (tie.spec
-    word-length-requires
+    (λ c κs. search needs)
     returns
-    received-requires
-    layout-of-requires
-    named-rule-requires
-    cast-ones-from
-    mul-ones-from
-    sub-ones-from
-    ones-from-requires
-    refusal-if-requires
-    refusal-if-requires-2
-    first-of-requires
+    (λ c κs. search needs)
+    (λ c κs. search needs)
+    (λ c κs. search needs)
+    (λ c. search needs)
+    (λ c. search needs)
+    (λ c. search needs)
+    (λ c κs. search needs)
+    (λ c κs. search needs)
+    (λ c κs. search needs)
+    (λ c κs. search needs)
     returns-2
     by-rule-requires
     returns-3)

@@ -6,9 +6,6 @@ use borrow.Author.Needs.{needs}
 use Rattle.position.proofs.scan.advance.Statement.{statement}
 use Rattle.position.proofs.scan.advance.Tie as tie
 
-add-position : tie.Need-add-position
-add-position c = search needs
-
 returns : tie.Need-returns
 returns c = (
   (refl, refl),
@@ -22,4 +19,4 @@ returns-2 c = (
 )
 
 pub advance-spec : {M : Type 1} → statement M
-advance-spec = tie.close (tie.spec add-position returns returns-2)
+advance-spec = tie.close (tie.spec (λ c. search needs) returns returns-2)

@@ -36,26 +36,14 @@ below-320 : (c : tie.In-loop Inv-loop μ-loop) → c .before .loop .q < 320
 below-320 c =
     let ready = c .before .before .pre in omega (arith, word-bits-bound (ready .code) (ready .words .sound))
 
-cast-j : tie.Need-cast-j Inv-loop μ-loop
-cast-j c = search needs
-
 array-read-bit-of : tie.Need-array-read-bit-of Inv-loop μ-loop
 array-read-bit-of c = omega (arith, below-320 c)
-
-bit-of-requires : tie.Need-bit-of-requires Inv-loop μ-loop
-bit-of-requires c κs = search needs
 
 array-read-bit-of-2 : tie.Need-array-read-bit-of-2 Inv-loop μ-loop
 array-read-bit-of-2 c = omega (arith, below-320 (c .before))
 
-bit-of-requires-2 : tie.Need-bit-of-requires-2 Inv-loop μ-loop
-bit-of-requires-2 c κs = search needs
-
 array-read-bit-of-3 : tie.Need-array-read-bit-of-3 Inv-loop μ-loop
 array-read-bit-of-3 c = omega (arith, below-320 (c .before .before .before))
-
-bit-of-requires-3 : tie.Need-bit-of-requires-3 Inv-loop μ-loop
-bit-of-requires-3 c κs = search needs
 
 next-residual-requires : tie.Need-next-residual-requires Inv-loop μ-loop
 next-residual-requires c κs =
@@ -85,12 +73,6 @@ advance-requires c κs =
     let here = passed in-loop in
     let words = ready .words in
     omega (arith, passed-bound (ready .code) (words .sound) (ready .block) (words .inside) (in-loop .before .loop .q) (here .within))
-
-add-q : tie.Need-add-q Inv-loop μ-loop
-add-q c = search needs
-
-loop-less : tie.Need-loop-less Inv-loop μ-loop
-loop-less c = search needs
 
 -- the body goes one of two ways: the bits differ, with what each call gave in turn and the new state; or they are alike
 loop-again : tie.Need-loop-again Inv-loop μ-loop
@@ -130,16 +112,16 @@ pass-places-spec =
     Inv-loop
     μ-loop
     loop-holds
-    cast-j
+    (λ c. search needs)
     array-read-bit-of
-    bit-of-requires
+    (λ c κs. search needs)
     array-read-bit-of-2
-    bit-of-requires-2
+    (λ c κs. search needs)
     array-read-bit-of-3
-    bit-of-requires-3
+    (λ c κs. search needs)
     next-residual-requires
     advance-requires
-    add-q
-    loop-less
+    (λ c. search needs)
+    (λ c. search needs)
     loop-again
     returns)

@@ -8,9 +8,6 @@ use Rattle.position.proofs.Splicing.{mixed-bits, mixed-fits}
 use Rattle.position.proofs.splice.mixed.Statement.{statement}
 use Rattle.position.proofs.splice.mixed.Tie as tie
 
-two-to-requires : tie.Need-two-to-requires
-two-to-requires c κs = search needs
-
 positive : (c : tie.After-two-to) → 0 < c .two-to .result
 positive c = rw (c .two-to .ensures) (pow-pos _)
 
@@ -43,4 +40,4 @@ returns c p h =
     let args = c .before .args in rw (c .two-to .ensures) (mixed-bits (args .q) (args .low) (args .high) p)
 
 pub mixed-spec : {M : Type 1} → statement M
-mixed-spec = tie.close (tie.spec two-to-requires div-result mul-result rem-result add-result cast-result returns)
+mixed-spec = tie.close (tie.spec (λ c κs. search needs) div-result mul-result rem-result add-result cast-result returns)

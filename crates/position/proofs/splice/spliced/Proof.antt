@@ -17,40 +17,13 @@ Inv-loop at u v whole word₀ j₀ word j = (j ≤ whole) × (length word ≡ 40
 abbrev μ-loop : tie.MeasureT-loop
 μ-loop at u v whole word₀ j₀ word j = whole - j
 
-cast-whole : tie.Need-cast-whole Inv-loop μ-loop
-cast-whole c = search needs
-
 loop-holds : tie.Need-loop-holds Inv-loop μ-loop
 loop-holds c = (omega arith, search needs, spliced-none _ _)
-
-array-read-word : tie.Need-array-read-word Inv-loop μ-loop
-array-read-word c = search needs
-
-array-write-word : tie.Need-array-write-word Inv-loop μ-loop
-array-write-word c = search needs
-
-add-j : tie.Need-add-j Inv-loop μ-loop
-add-j c = search needs
-
-loop-less : tie.Need-loop-less Inv-loop μ-loop
-loop-less c = search needs
 
 loop-again : tie.Need-loop-again Inv-loop μ-loop
 loop-again c =
     let loop = c .before .loop in
     (omega arith, simp length-set (loop .inv .1), spliced-whole _ _ _ (loop .j) (omega arith) (loop .inv .2))
-
-array-read-mixed : tie.Need-array-read-mixed Inv-loop μ-loop
-array-read-mixed c = search needs
-
-array-read-mixed-2 : tie.Need-array-read-mixed-2 Inv-loop μ-loop
-array-read-mixed-2 c = search needs
-
-mixed-requires : tie.Need-mixed-requires Inv-loop μ-loop
-mixed-requires c κs = search needs
-
-array-write-word-2 : tie.Need-array-write-word-2 Inv-loop μ-loop
-array-write-word-2 c = search needs
 
 returns : tie.Need-returns Inv-loop μ-loop
 returns c =
@@ -75,16 +48,16 @@ spliced-spec =
     (tie.spec
     Inv-loop
     μ-loop
-    cast-whole
+    (λ c. search needs)
     loop-holds
-    array-read-word
-    array-write-word
-    add-j
-    loop-less
+    (λ c. search needs)
+    (λ c. search needs)
+    (λ c. search needs)
+    (λ c. search needs)
     loop-again
-    array-read-mixed
-    array-read-mixed-2
-    mixed-requires
-    array-write-word-2
+    (λ c. search needs)
+    (λ c. search needs)
+    (λ c κs. search needs)
+    (λ c. search needs)
     returns
     returns-2)

@@ -23,36 +23,6 @@ abbrev μ-loop : tie.MeasureT-loop
 loop-holds : tie.Need-loop-holds Inv-loop μ-loop
 loop-holds c = (omega arith, search needs, chunk-none (c .args .at) (place (c .args .before)) (bit (c .args .value)) (c .pre .3))
 
-add-q : tie.Need-add-q Inv-loop μ-loop
-add-q c = search needs
-
-cast-j : tie.Need-cast-j Inv-loop μ-loop
-cast-j c = search needs
-
-cast-moved-up : tie.Need-cast-moved-up Inv-loop μ-loop
-cast-moved-up c = search needs
-
-shr-moved-up : tie.Need-shr-moved-up Inv-loop μ-loop
-shr-moved-up c = search needs
-
-moved-up-requires : tie.Need-moved-up-requires Inv-loop μ-loop
-moved-up-requires c κs = search needs
-
-array-read-word : tie.Need-array-read-word Inv-loop μ-loop
-array-read-word c = search needs
-
-array-write-word : tie.Need-array-write-word Inv-loop μ-loop
-array-write-word c = search needs
-
-sub-p : tie.Need-sub-p Inv-loop μ-loop
-sub-p c = search needs
-
-add-p : tie.Need-add-p Inv-loop μ-loop
-add-p c = search needs
-
-loop-less : tie.Need-loop-less Inv-loop μ-loop
-loop-less c = search needs
-
 loop-again : tie.Need-loop-again Inv-loop μ-loop
 loop-again c =
     let loop = c .before .before .loop in
@@ -75,15 +45,15 @@ put-chunk-spec =
     Inv-loop
     μ-loop
     loop-holds
-    add-q
-    cast-j
-    cast-moved-up
-    shr-moved-up
-    moved-up-requires
-    array-read-word
-    array-write-word
-    sub-p
-    add-p
-    loop-less
+    (λ c. search needs)
+    (λ c. search needs)
+    (λ c. search needs)
+    (λ c. search needs)
+    (λ c κs. search needs)
+    (λ c. search needs)
+    (λ c. search needs)
+    (λ c. search needs)
+    (λ c. search needs)
+    (λ c. search needs)
     loop-again
     returns)

@@ -12,9 +12,6 @@ use Rattle.position.proofs.words.separator.Tie as tie
 returns : tie.Need-returns
 returns c = (pow-pos _, λ p h. bit-zero p ∙ sym (c .if1 .taken))
 
-low-bits-requires : tie.Need-low-bits-requires
-low-bits-requires c κs = search needs
-
 returns-2 : tie.Need-returns-2
 returns-2 c =
     let args = c .before .before .args in
@@ -22,4 +19,4 @@ returns-2 c =
     rw (c .low-bits .ensures) (omega (arith, pow-pos (args .distance)), λ p h. bit-all-ones (args .distance) p h ∙ sym odd)
 
 pub separator-spec : {M : Type 1} → statement M
-separator-spec = tie.close (tie.spec returns low-bits-requires returns-2)
+separator-spec = tie.close (tie.spec returns (λ c κs. search needs) returns-2)

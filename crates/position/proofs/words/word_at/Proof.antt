@@ -12,9 +12,6 @@ use Rattle.position_theory.proofs.Blocks.{block-le, block-low, steps-in-block}
 use Rattle.position.proofs.words.word_at.Statement.{statement}
 use Rattle.position.proofs.words.word_at.Tie as tie
 
-block-of-requires : tie.Need-block-of-requires
-block-of-requires c κs = search needs
-
 -- the block is one of the track's, and it is a sound code's
 on-track : (c : tie.After-block-of)
     → let C = meaning (c .before .args .code) in Sound C × (c .block-of .result ≤ lastCodeword C)
@@ -46,7 +43,7 @@ pub word-at-spec : {M : Type 1} → statement M
 word-at-spec =
     tie.close
     (tie.spec
-    block-of-requires
+    (λ c κs. search needs)
     block-start-requires
     sub-word-in-block
     word-in-block-requires

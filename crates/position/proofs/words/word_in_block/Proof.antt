@@ -16,14 +16,8 @@ use Rattle.position_theory.proofs.Bounds.{word-bits-bound}
 use Rattle.position.proofs.words.word_in_block.Statement.{statement}
 use Rattle.position.proofs.words.word_in_block.Tie as tie
 
-word-of-requires : tie.Need-word-of-requires
-word-of-requires c κs = search needs
-
 add-word-of : tie.Need-add-word-of
 add-word-of c = omega (arith, last-codeword-bound _ (c .before .pre .0 .0))
-
-word-of-requires-2 : tie.Need-word-of-requires-2
-word-of-requires-2 c κs = search needs
 
 -- there are m places to pass
 place-after-requires : tie.Need-place-after-requires
@@ -36,9 +30,6 @@ place-after-requires c κs =
     let longer = distance-longer (cut d u) (cut d v) {a = d} {d = 320} (word-bits-bound C (first .pre .0 .0)) in
     rw (fun-ext (c .before .word-of .ensures), fun-ext (c .word-of2 .ensures))
     (omega (arith, longer, distance-cut d d u v (omega arith)))
-
-spliced-requires : tie.Need-spliced-requires
-spliced-requires c κs = search needs
 
 returns : tie.Need-returns
 returns c p =
@@ -54,9 +45,9 @@ pub word-in-block-spec : {M : Type 1} → statement M
 word-in-block-spec =
     tie.close
     (tie.spec
-    word-of-requires
+    (λ c κs. search needs)
     add-word-of
-    word-of-requires-2
+    (λ c κs. search needs)
     place-after-requires
-    spliced-requires
+    (λ c κs. search needs)
     returns)

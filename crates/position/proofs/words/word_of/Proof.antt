@@ -58,14 +58,8 @@ chunk₂-put c =
     let known = c .before .before .before .before in
     put-chunk₂ _ _ (laid known) _ _ (known .codeword .ensures .0) (separator₂-put (c .before)) (c .put-chunk4 .ensures)
 
-layout-of-requires : tie.Need-layout-of-requires
-layout-of-requires c κs = search needs
-
 separator-requires : tie.Need-separator-requires
 separator-requires c κs = c .layout-of .ensures .separator-fits
-
-codeword-requires : tie.Need-codeword-requires
-codeword-requires c κs = search needs
 
 put-chunk-requires : tie.Need-put-chunk-requires
 put-chunk-requires c κs = (omega arith, omega arith, c .before .separator .ensures .0, λ p _. zero-place 40 p)
@@ -97,9 +91,9 @@ pub word-of-spec : {M : Type 1} → statement M
 word-of-spec =
     tie.close
     (tie.spec
-    layout-of-requires
+    (λ c κs. search needs)
     separator-requires
-    codeword-requires
+    (λ c κs. search needs)
     put-chunk-requires
     put-chunk-requires-2
     put-chunk-requires-3

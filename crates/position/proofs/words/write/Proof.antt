@@ -21,33 +21,15 @@ Inv-loop position lent₀ word j₀ lent j = (length lent ≡ length lent₀) ×
 abbrev μ-loop : tie.MeasureT-loop
 μ-loop position lent₀ word j₀ lent j = length lent₀ - j
 
-word-at-requires : tie.Need-word-at-requires Inv-loop μ-loop
-word-at-requires c κs = search needs
-
-loop-holds : tie.Need-loop-holds Inv-loop μ-loop
-loop-holds c = search needs
-
 array-read-lent : tie.Need-array-read-lent Inv-loop μ-loop
 array-read-lent c =
     let first = c .before .before .before .before in
     omega (arith, word-bits-bound (meaning (first .args .code)) (first .pre .0 .0))
 
-slice-write-lent : tie.Need-slice-write-lent Inv-loop μ-loop
-slice-write-lent c = search needs
-
-add-j : tie.Need-add-j Inv-loop μ-loop
-add-j c = search needs
-
-loop-less : tie.Need-loop-less Inv-loop μ-loop
-loop-less c = search needs
-
 loop-again : tie.Need-loop-again Inv-loop μ-loop
 loop-again c =
     let loop = c .before .loop in
     (simp length-set (loop .inv .0), one-entry-more _ (loop .lent) (loop .j) _ (omega arith) (loop .inv .1) refl)
-
-same-length : tie.Need-same-length Inv-loop μ-loop
-same-length c = search needs
 
 returns : tie.Need-returns Inv-loop μ-loop
 returns c =
@@ -64,12 +46,12 @@ write-spec =
     (tie.spec
     Inv-loop
     μ-loop
-    word-at-requires
-    loop-holds
+    (λ c κs. search needs)
+    (λ c. search needs)
     array-read-lent
-    slice-write-lent
-    add-j
-    loop-less
+    (λ c. search needs)
+    (λ c. search needs)
+    (λ c. search needs)
     loop-again
-    same-length
+    (λ c. search needs)
     returns)

@@ -7,21 +7,6 @@ use Rattle.report.proofs.Puts.{puts-then}
 use Rattle.report.proofs.lines.put_last_line.Statement.{statement}
 use Rattle.report.proofs.lines.put_last_line.Tie as tie
 
-slice-aggregate-put-field : tie.Need-slice-aggregate-put-field
-slice-aggregate-put-field c = search needs
-
-put-field-requires : tie.Need-put-field-requires
-put-field-requires c κs = search needs
-
-slice-aggregate-put-last-field : tie.Need-slice-aggregate-put-last-field
-slice-aggregate-put-last-field c = search needs
-
-put-last-field-requires : tie.Need-put-last-field-requires
-put-last-field-requires c κs = search needs
-
-same-length : tie.Need-same-length
-same-length c = search needs
-
 returns : tie.Need-returns
 unfolding ascii lastLine
 returns c =
@@ -33,9 +18,9 @@ pub put-last-line-spec : {M : Type 1} → statement M
 put-last-line-spec =
     tie.close
     (tie.spec
-    slice-aggregate-put-field
-    put-field-requires
-    slice-aggregate-put-last-field
-    put-last-field-requires
-    same-length
+    (λ c. search needs)
+    (λ c κs. search needs)
+    (λ c. search needs)
+    (λ c κs. search needs)
+    (λ c. search needs)
     returns)

@@ -13,15 +13,6 @@ returns : tie.Need-returns
 unfolding shortLine
 returns c = (simp (eq-eqb _ 0 (c .if1 .taken)) (puts-nothing _ _), omega arith)
 
-slice-aggregate-put-last-field : tie.Need-slice-aggregate-put-last-field
-slice-aggregate-put-last-field c = search needs
-
-put-last-field-requires : tie.Need-put-last-field-requires
-put-last-field-requires c κs = search needs
-
-same-length : tie.Need-same-length
-same-length c = search needs
-
 returns-2 : tie.Need-returns-2
 unfolding ascii shortLine
 returns-2 c =
@@ -32,4 +23,4 @@ returns-2 c =
 pub put-short-line-spec : {M : Type 1} → statement M
 put-short-line-spec =
     tie.close
-    (tie.spec returns slice-aggregate-put-last-field put-last-field-requires same-length returns-2)
+    (tie.spec returns (λ c. search needs) (λ c κs. search needs) (λ c. search needs) returns-2)

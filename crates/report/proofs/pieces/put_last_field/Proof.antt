@@ -5,15 +5,6 @@ use Rattle.report.proofs.Puts.{puts-then}
 use Rattle.report.proofs.pieces.put_last_field.Statement.{statement}
 use Rattle.report.proofs.pieces.put_last_field.Tie as tie
 
-put-field-requires : tie.Need-put-field-requires
-put-field-requires c κs = search needs
-
-put-line-end-requires : tie.Need-put-line-end-requires
-put-line-end-requires c κs = search needs
-
-same-length : tie.Need-same-length
-same-length c = search needs
-
 returns : tie.Need-returns
 returns c =
     let end = c .before .before in
@@ -22,4 +13,4 @@ returns c =
 
 pub put-last-field-spec : {M : Type 1} → statement M
 put-last-field-spec =
-    tie.close (tie.spec put-field-requires put-line-end-requires same-length returns)
+    tie.close (tie.spec (λ c κs. search needs) (λ c κs. search needs) (λ c. search needs) returns)

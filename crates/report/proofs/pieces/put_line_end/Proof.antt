@@ -6,18 +6,9 @@ use Rattle.report.proofs.Puts.{puts-byte}
 use Rattle.report.proofs.pieces.put_line_end.Statement.{statement}
 use Rattle.report.proofs.pieces.put_line_end.Tie as tie
 
-slice-write-out : tie.Need-slice-write-out
-slice-write-out c = search needs
-
-add-result : tie.Need-add-result
-add-result c = search needs
-
-same-length : tie.Need-same-length
-same-length c = search needs
-
 returns : tie.Need-returns
 unfolding ascii
 returns c = (puts-byte (c .args .out .now) (c .args .at) 10 (c .pre), refl)
 
 pub put-line-end-spec : {M : Type 1} → statement M
-put-line-end-spec = tie.close (tie.spec slice-write-out add-result same-length returns)
+put-line-end-spec = tie.close (tie.spec (λ c. search needs) (λ c. search needs) (λ c. search needs) returns)

@@ -51,18 +51,6 @@ loop-holds c =
 sub-from : tie.Need-sub-from Inv-loop μ-loop
 sub-from c = omega (arith, has-digit (c .before .loop .rest))
 
-cast-digits : tie.Need-cast-digits Inv-loop μ-loop
-cast-digits c = search needs
-
-add-digits : tie.Need-add-digits Inv-loop μ-loop
-add-digits c = search needs
-
-array-write-digits : tie.Need-array-write-digits Inv-loop μ-loop
-array-write-digits c = search needs
-
-loop-less : tie.Need-loop-less Inv-loop μ-loop
-loop-less c = search needs
-
 loop-again : tie.Need-loop-again Inv-loop μ-loop
 loop-again c =
     let loop = c .before .loop in
@@ -76,29 +64,8 @@ loop-again c =
 sub-from-2 : tie.Need-sub-from-2 Inv-loop μ-loop
 sub-from-2 c = omega (arith, has-digit (c .before .loop .rest))
 
-cast-digits-2 : tie.Need-cast-digits-2 Inv-loop μ-loop
-cast-digits-2 c = search needs
-
-add-digits-2 : tie.Need-add-digits-2 Inv-loop μ-loop
-add-digits-2 c = search needs
-
-array-write-digits-2 : tie.Need-array-write-digits-2 Inv-loop μ-loop
-array-write-digits-2 c = search needs
-
-sub-put-bytes : tie.Need-sub-put-bytes Inv-loop μ-loop
-sub-put-bytes c = search needs
-
-part-put-bytes-start : tie.Need-part-put-bytes-start Inv-loop μ-loop
-part-put-bytes-start c = search needs
-
 part-put-bytes-end : tie.Need-part-put-bytes-end Inv-loop μ-loop
 part-put-bytes-end c = simp length-set (omega arith)
-
-put-bytes-requires : tie.Need-put-bytes-requires Inv-loop μ-loop
-put-bytes-requires c κs = search needs
-
-same-length : tie.Need-same-length Inv-loop μ-loop
-same-length c = search needs
 
 returns : tie.Need-returns Inv-loop μ-loop
 returns c =
@@ -113,18 +80,18 @@ put-number-spec =
     μ-loop
     loop-holds
     sub-from
-    cast-digits
-    add-digits
-    array-write-digits
-    loop-less
+    (λ c. search needs)
+    (λ c. search needs)
+    (λ c. search needs)
+    (λ c. search needs)
     loop-again
     sub-from-2
-    cast-digits-2
-    add-digits-2
-    array-write-digits-2
-    sub-put-bytes
-    part-put-bytes-start
+    (λ c. search needs)
+    (λ c. search needs)
+    (λ c. search needs)
+    (λ c. search needs)
+    (λ c. search needs)
     part-put-bytes-end
-    put-bytes-requires
-    same-length
+    (λ c κs. search needs)
+    (λ c. search needs)
     returns)

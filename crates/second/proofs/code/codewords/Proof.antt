@@ -6,13 +6,10 @@ use borrow.Author.Needs.{needs}
 use Rattle.second.proofs.code.codewords.Statement.{statement}
 use Rattle.second.proofs.code.codewords.Tie as tie
 
-shl-result : tie.Need-shl-result
-shl-result c = search needs
-
 returns : tie.Need-returns
 returns c =
     let most : 2 ^ c .args .k ≤ 2 ^ 12 = pow-mono {j = 12} (omega arith) in
     omega (arith, pow-pos (c .args .k))
 
 pub codewords-spec : {M : Type 1} → statement M
-codewords-spec = tie.close (tie.spec shl-result returns)
+codewords-spec = tie.close (tie.spec (λ c. search needs) returns)

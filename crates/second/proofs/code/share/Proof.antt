@@ -6,9 +6,6 @@ use borrow.Author.Needs.{needs}
 use Rattle.second.proofs.code.share.Statement.{statement}
 use Rattle.second.proofs.code.share.Tie as tie
 
-add-result : tie.Need-add-result
-add-result c = search needs
-
 small : (c : tie.Start) → (c .args .place + 1) * c .args .byte ≤ 510 * 256
 small c = mul-le-mul {n₂ = 510} {m₂ = 256} (omega arith) (omega arith)
 
@@ -19,4 +16,4 @@ returns : tie.Need-returns
 returns c = omega (arith, small c)
 
 pub share-spec : {M : Type 1} → statement M
-share-spec = tie.close (tie.spec add-result mul-result returns)
+share-spec = tie.close (tie.spec (λ c. search needs) mul-result returns)

@@ -6,15 +6,6 @@ use Rattle.stream.proofs.Streaming.{completes}
 use Rattle.stream.proofs.turn.put_end.Statement.{statement}
 use Rattle.stream.proofs.turn.put_end.Tie as tie
 
-put-short-line-requires : tie.Need-put-short-line-requires
-put-short-line-requires c κs = search needs
-
-put-last-line-requires : tie.Need-put-last-line-requires
-put-last-line-requires c κs = search needs
-
-same-length : tie.Need-same-length
-same-length c = search needs
-
 returns : tie.Need-returns
 returns c =
     let last = c .before .before in
@@ -24,4 +15,4 @@ returns c =
 
 pub put-end-spec : {M : Type 1} → statement M
 put-end-spec =
-    tie.close (tie.spec put-short-line-requires put-last-line-requires same-length returns)
+    tie.close (tie.spec (λ c κs. search needs) (λ c κs. search needs) (λ c. search needs) returns)

@@ -1,7 +1,7 @@
 -- `stream::turn::take_in` meets its contract: n / w words of w bytes are whole, and their lines are those that are put; the n % w
 -- bytes that are left are those behind the whole words, and these are kept. So the turn follows what came before it (`follows`).
 -- Assumes nothing.
-use Prim.Native.Nat.{ℕ, _+_, _*_, _/_, _^_, _≤_, _<_}
+use Prim.Native.Nat.{ℕ, _+_, _/_, _^_, _<_}
 use mathlib.Core.Path.{_≡_, sym, ap, _∙_}
 use native.Mathlib.Nat.{zero-add, div-mul-le-self, mod-eq-sub-div-mul}
 use native.Mathlib.Omega.{arith}

@@ -6,12 +6,6 @@ use borrow.Author.Needs.{needs}
 use Rattle.stream.proofs.words.read_count.Statement.{statement}
 use Rattle.stream.proofs.words.read_count.Tie as tie
 
-enum-told : tie.Need-enum-told
-enum-told c = search needs
-
-enum-told-2 : tie.Need-enum-told-2
-enum-told-2 c = search needs
-
 returns : tie.Need-returns
 unfolding readCount
 returns c = rw (c .enum-told .given .1) (refl, omega arith)
@@ -21,4 +15,4 @@ unfolding readCount
 returns-2 c = rw (c .enum-told2 .given .1) (refl, omega arith)
 
 pub read-count-spec : {M : Type 1} → statement M
-read-count-spec = tie.close (tie.spec enum-told enum-told-2 returns returns-2)
+read-count-spec = tie.close (tie.spec (λ c. search needs) (λ c. search needs) returns returns-2)

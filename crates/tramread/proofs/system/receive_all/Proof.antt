@@ -2,7 +2,6 @@
 -- use than it has. The measure is the bytes that are left. Assumes nothing.
 use Prim.Native.Nat.{_-_, _≤_}
 use mathlib.Core.Path.{_≡_}
-use native.Mathlib.Omega.{arith}
 use borrow.Author.Needs.{needs}
 use lib.ListN.{length}
 use Rattle.tramread.proofs.system.receive_all.Statement.{statement}
