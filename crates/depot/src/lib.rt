@@ -21,9 +21,9 @@ use model::ReadAnswer;
 use model::WriteAnswer;
 use position::blocks;
 use position::layout;
-use position::reading;
 use position::summary;
 use position::words;
+use reader::reading;
 
 // Checks a card. A sound card is answered with its n, k, track, D, t, d and last position; any other with its refusal, 1 to 5.
 pub fn check_card(card: &[u8]) -> CardAnswer

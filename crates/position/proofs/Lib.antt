@@ -1,8 +1,6 @@
 pub mod StartSum
 pub mod BlockBetween
 pub mod GatheredBits
-pub mod Scanning
-pub mod Passing
 pub mod ChunkByChunk
 pub mod FilledByte
 pub mod ByteDistance
@@ -10,9 +8,4 @@ pub mod ZeroBytes
 pub mod WordChunks
 pub mod CopiedWord
 pub mod Splicing
-pub mod FirstPosition
-pub mod RuleRanges
-pub mod ReadChunks
-pub mod SpareBits
-pub mod ReadRefusals
 pub mod DecodedCard

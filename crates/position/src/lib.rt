@@ -1,12 +1,9 @@
-// The position code: words of positions, and positions of words. It knows the chunk code through its contracts
-// and laws alone.
+// The position code, words: the blocks of a track, the words of positions, and what a decoded card is answered with. It knows the
+// chunk code through its contracts and laws alone.
 pub mod blocks;
 pub mod hamming;
 pub mod layout;
-pub mod nearest;
 pub mod places;
-pub mod reading;
-pub mod scan;
 pub mod splice;
 pub mod summary;
 pub mod words;

@@ -11,7 +11,7 @@ ghost use Rattle.report.specs.Report.{readCount, wordLines, wordsRead};
 use model::DecodedCode;
 use model::ReadAnswer;
 use position::layout;
-use position::reading;
+use reader::reading;
 use report::lines;
 
 // 1 for a word that is read, 0 for one that is refused.

@@ -1,0 +1,58 @@
+-- The spare bits of a received word, by a count of ones. Assumes nothing.
+use mathlib.Core.Path.{_≡_, refl, sym, _∙_}
+use mathlib.Core.Bool.{Bool, true, false, not}
+use mathlib.Core.List.{List}
+use mathlib.Core.Logic.{⊎-elim}
+use Prim.Native.Nat.{ℕ, _+_, _-_, _*_, _/_, _≤_, _<_}
+use native.Mathlib.Nat.{zero-div}
+use native.Mathlib.Omega.{arith}
+use lib.Dec.{eqb}
+use lib.ListN.{length, List·getD-eq-default}
+use borrow.Author.Tests.{eq-eqb, ne-eqb}
+use Rattle.bits.specs.Sums.{sumBelow, from}
+use Rattle.bits.specs.Places.{place}
+use Rattle.bits.proofs.Numbers.{lt-or-le, eq-or-ne}
+use Rattle.bits.proofs.Sums.{summand-le, sum-zero}
+use Rattle.bits.proofs.Searches.{any-none}
+use Rattle.model.specs.Card.{Code}
+use Rattle.model.specs.Words.{wordBits}
+use Rattle.model.specs.Answers.{wordLength, spareSet}
+use Rattle.position_theory.proofs.WordBytes.{spare-bits-zero}
+use Rattle.reader.specs.Received.{NothingSpare}
+
+-- places past the end of a list are 0
+past-end : (l : List ℕ) (p : ℕ) → 8 * length l ≤ p → place l p ≡ 0
+unfolding place
+past-end l p h =
+    let past : length l ≤ p / 8 = omega arith in rw (List·getD-eq-default l 0 past, zero-div) refl
+
+module _ (C : Code) (received x : List ℕ) (same : (p : ℕ) → place x p ≡ place received p) where
+  spare-none : sumBelow (from (wordBits C) (place x)) (8 * wordLength C - wordBits C) ≡ 0 → spareSet C received ≡ false
+  unfolding spareSet
+  spare-none e =
+      any-none _ _ (λ q b. ne-eqb (place received (wordBits C + q)) 1 (λ (one : place received (wordBits C + q) ≡ 1).
+      omega (arith, summand-le (from (wordBits C) (place x)) (8 * wordLength C - wordBits C) q b, same (wordBits C + q))))
+
+  spare-some : (sumBelow (from (wordBits C) (place x)) (8 * wordLength C - wordBits C) ≡ 0 → ⊥) → spareSet C received ≡ true
+  spare-some ne = by-test (spareSet C received) refl
+    where
+      by-test : (t : Bool) → spareSet C received ≡ t → spareSet C received ≡ true
+      by-test true e = e
+      by-test false e = absurd (ne (sum-zero _ (λ q b. same (wordBits C + q) ∙ spare-bits-zero C received e (wordBits C + q) (omega arith) (omega arith))))
+
+  -- the test of a count of ones
+  pub spare-test : (ones : ℕ) → ones ≡ sumBelow (from (wordBits C) (place x)) (8 * wordLength C - wordBits C)
+      → not (eqb ones 0) ≡ spareSet C received
+  spare-test ones is =
+      ⊎-elim
+      (λ (none : ones ≡ 0). rw (eq-eqb ones 0 none, spare-none (sym is ∙ none)))
+      (λ (some : ones ≡ 0 → ⊥). rw (ne-eqb ones 0 some, spare-some (λ e. some (is ∙ e))))
+      (eq-or-ne ones 0)
+
+  pub nothing-spare : length received ≡ wordLength C → spareSet C received ≡ false → NothingSpare C x
+  unfolding NothingSpare
+  nothing-spare h none p l =
+      ⊎-elim
+      (λ (b : p < 8 * wordLength C). same p ∙ spare-bits-zero C received none p l b)
+      (λ (b : 8 * wordLength C ≤ p). same p ∙ past-end received p (omega arith))
+      (lt-or-le p (8 * wordLength C))

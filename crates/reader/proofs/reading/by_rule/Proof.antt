@@ -1,0 +1,26 @@
+-- `reader::reading::by_rule` meets its contract: the rule's number decides. Assumes nothing.
+use mathlib.Core.Path.{_≡_}
+use native.Mathlib.Omega.{arith}
+use borrow.Author.Needs.{needs}
+use Rattle.model.specs.Reading.{allowedBy}
+use Rattle.reader.proofs.reading.by_rule.Statement.{statement}
+use Rattle.reader.proofs.reading.by_rule.Tie as tie
+
+returns : tie.Need-returns
+unfolding allowedBy
+returns c = rw (c .before .if1 .taken) (c .by-rule1 .ensures)
+
+returns-2 : tie.Need-returns-2
+unfolding allowedBy
+returns-2 c = rw (c .before .if2 .taken) (c .by-rule2 .ensures)
+
+returns-3 : tie.Need-returns-3
+unfolding allowedBy
+returns-3 c =
+    let third : c .before .before .before .args .rule ≡ 3 = omega (arith, c .before .if2 .left, c .before .before .if1 .left) in
+    rw third (c .by-rule3 .ensures)
+
+pub by-rule-spec : {M : Type 1} → statement M
+by-rule-spec =
+    tie.close
+    (tie.spec (λ c κs. search needs) returns (λ c κs. search needs) returns-2 (λ c κs. search needs) returns-3)

@@ -1,0 +1,145 @@
+// Reading a received word: the separators name a rule, the rule names code chunks, and these name the positions that it allows.
+ghost use mathlib.Core.Path.{_≡_};
+ghost use Prim.Native.Nat.{_+_, _≤_};
+ghost use Rattle.bits.specs.Sums.{from};
+ghost use Rattle.bits.specs.Places.{place};
+ghost use Rattle.model.specs.Answers.{readWord};
+ghost use Rattle.model.specs.Decoded.{meaning};
+ghost use Rattle.model.specs.Words.{wordBits};
+ghost use Rattle.model.specs.Reading.{chunkReading, chunk₁, chunk₂, rule₁, rule₂, rule₃, allowedBy, ruleNamed, nearest};
+ghost use Rattle.code_theory.specs.Promise.{Sound};
+ghost use Rattle.reader.specs.Received.{NothingSpare};
+use super::nearest;
+use chunk::refusal;
+use chunk::search;
+use model::Chunk;
+use model::DecodedCode;
+use model::ReadAnswer;
+use position::blocks;
+use position::layout;
+use position::places;
+use position::words;
+
+// Code chunk 1, or 2, which starts at place `at`.
+fn chunk_reading(code: DecodedCode, x: [u8; 40], at: u32) -> Chunk
+    requires { ⌜ Sound (meaning code) × (at + code .n ≤ wordBits (meaning code)) ⌝ }
+    ensures { λ r. ⌜ r ≡ chunkReading (meaning code) (from at (place x)) ⌝ }
+{
+    search::read_chunk(code, places::bits_at(x, at, code.n))
+}
+
+// What rule 1 answers: it reads chunk 1.
+fn by_rule1(code: DecodedCode, x: [u8; 40]) -> ReadAnswer
+    requires { ⌜ Sound (meaning code) × NothingSpare (meaning code) x ⌝ }
+    ensures { λ r. ⌜ r ≡ nearest (meaning code) (place x) (rule₁ (meaning code) (chunkReading (meaning code) (chunk₁ (meaning code) (place x)))) ⌝ }
+{
+    let at = layout::layout_of(code);
+    match chunk_reading(code, x, at.chunk1) {
+        Chunk::Codeword { number, unlike: _ } => {
+            if number == 0 {
+                return ReadAnswer::Refused(12);
+            }
+            nearest::nearest_before(code, x, number)
+        }
+        Chunk::Unreadable => ReadAnswer::Refused(10),
+    }
+}
+
+// What rule 2 answers: it reads chunk 2.
+fn by_rule2(code: DecodedCode, x: [u8; 40]) -> ReadAnswer
+    requires { ⌜ Sound (meaning code) × NothingSpare (meaning code) x ⌝ }
+    ensures { λ r. ⌜ r ≡ nearest (meaning code) (place x) (rule₂ (meaning code) (chunkReading (meaning code) (chunk₂ (meaning code) (place x)))) ⌝ }
+{
+    let at = layout::layout_of(code);
+    match chunk_reading(code, x, at.chunk2) {
+        Chunk::Codeword { number, unlike: _ } => {
+            if number == blocks::last_codeword(code) {
+                return ReadAnswer::Refused(12);
+            }
+            nearest::nearest_after(code, x, number)
+        }
+        Chunk::Unreadable => ReadAnswer::Refused(10),
+    }
+}
+
+// What rule 3 answers: it reads both chunks, which must read alike.
+fn by_rule3(code: DecodedCode, x: [u8; 40]) -> ReadAnswer
+    requires { ⌜ Sound (meaning code) × NothingSpare (meaning code) x ⌝ }
+    ensures { λ r. ⌜ r ≡ nearest (meaning code) (place x) (rule₃ (meaning code) (chunkReading (meaning code) (chunk₁ (meaning code) (place x))) (chunkReading (meaning code) (chunk₂ (meaning code) (place x)))) ⌝ }
+{
+    let at = layout::layout_of(code);
+    let Chunk::Codeword {
+        number: first,
+        unlike: _,
+    } = chunk_reading(code, x, at.chunk1)
+    else {
+        return ReadAnswer::Refused(10);
+    };
+    let Chunk::Codeword {
+        number: second,
+        unlike: _,
+    } = chunk_reading(code, x, at.chunk2)
+    else {
+        return ReadAnswer::Refused(10);
+    };
+    if first != second {
+        return ReadAnswer::Refused(11);
+    }
+    nearest::nearest_around(code, x, first)
+}
+
+// What the rule with this number answers.
+fn by_rule(code: DecodedCode, x: [u8; 40], rule: u32) -> ReadAnswer
+    requires { ⌜ Sound (meaning code) × NothingSpare (meaning code) x × (1 ≤ rule) × (rule ≤ 3) ⌝ }
+    ensures { λ r. ⌜ r ≡ nearest (meaning code) (place x) (allowedBy (meaning code) (place x) rule) ⌝ }
+{
+    if rule == 1 {
+        return by_rule1(code, x);
+    }
+    if rule == 2 {
+        return by_rule2(code, x);
+    }
+    by_rule3(code, x)
+}
+
+// The number of the rule that the separators name: 1 for b b c, 2 for b c c, 3 for b b b, and 0 for b c b.
+fn named_rule(code: DecodedCode, x: [u8; 40]) -> u32
+    requires { ⌜ Sound (meaning code) ⌝ }
+    ensures { λ r. ⌜ (r ≡ ruleNamed (meaning code) (place x)) × (r ≤ 3) ⌝ }
+{
+    let at = layout::layout_of(code);
+    let s1 = places::separator_at(x, 0, code.distance);
+    let s2 = places::separator_at(x, at.separator2, code.distance);
+    let s3 = places::separator_at(x, at.separator3, code.distance);
+    if s1 == s2 {
+        if s2 == s3 {
+            return 3;
+        }
+        return 1;
+    }
+    if s2 == s3 {
+        return 2;
+    }
+    0
+}
+
+// The reading of a received word, of any length.
+pub fn read(code: DecodedCode, word: &[u8]) -> ReadAnswer
+    requires { ⌜ Sound (meaning code) ⌝ }
+    ensures { λ r. ⌜ r ≡ readWord (meaning code) (now (word .entry)) ⌝ }
+{
+    let len = layout::word_length(code);
+    if word.len() != len {
+        return ReadAnswer::Refused(6);
+    }
+    let x = words::received(word);
+    let bits = layout::layout_of(code).bits;
+    let rule = named_rule(code, x);
+    let spare = refusal::refusal_if(places::ones_from(x, bits, 8 * len as u32 - bits) != 0, 8);
+    let unnamed = refusal::refusal_if(rule == 0, 9);
+    let refusal = refusal::first_of(spare, unnamed);
+    if refusal != 0 {
+        return ReadAnswer::Refused(refusal);
+    }
+    by_rule(code, x, rule)
+}
