@@ -1,7 +1,6 @@
-//! The baseline: document 01's rules in straightforward Rust, with words as five 64-bit numbers and counts by `count_ones`. A code
-//! is used in one of three ways: `Kept` holds every codeword and start of a card that was decoded once; `KeptNested` is the same with
-//! the chunk search in C; `EachCall` holds the rows alone and is decoded anew for each word, which is what a public call has to do
-//! with its card.
+//! Document 01's rules in straightforward Rust, written apart from the library, with words as five 64-bit numbers and counts by
+//! `count_ones`: the baseline of the benchmark, and what the tests of the Rust crate hold the library against. `Kept` holds every
+//! codeword and start of a card that was decoded once.
 
 /// A word: place p is bit p % 64 of number p / 64.
 pub type Word = [u64; 5];
@@ -18,6 +17,7 @@ pub struct Code {
 }
 
 /// What a received word reads as.
+#[derive(Clone, Copy, Debug, PartialEq, Eq)]
 pub struct Read {
     pub position: u32,
     pub residual: u32,
@@ -70,10 +70,11 @@ impl Code {
 
     /// The bytes of a word.
     pub fn bytes(&self) -> usize {
-        self.bits().div_ceil(8)
+        (self.bits() + 7) / 8
     }
 
-    fn last_block(&self) -> usize {
+    /// The number of the last codeword, 2^k - 1.
+    pub fn last_block(&self) -> usize {
         (1 << self.k) - 1
     }
 
@@ -83,13 +84,13 @@ impl Code {
     }
 
     /// c(i)
-    fn codeword(&self, i: usize) -> u64 {
+    pub fn codeword(&self, i: usize) -> u64 {
         let gray = i ^ (i / 2);
         (0..self.k).filter(|z| gray >> z & 1 == 1).fold(0, |sum, z| sum ^ self.rows[z])
     }
 
     /// r(i)
-    fn start(&self, i: usize) -> usize {
+    pub fn start(&self, i: usize) -> usize {
         let turns: usize = (0..self.k).map(|z| self.rows[z].count_ones() as usize * ((i + (1 << z)) >> (z + 1))).sum();
         3 * self.distance * i + 2 * turns
     }
@@ -185,66 +186,6 @@ impl Order for Kept {
     fn find(&self, chunk: u64) -> Option<usize> {
         let radius = self.code.radius as u32;
         self.codewords.iter().position(|codeword| (codeword ^ chunk).count_ones() <= radius)
-    }
-}
-
-/// As `Kept`, with the chunk search of nested.c.
-pub struct KeptNested(pub Kept);
-
-/// The rows alone, and the chunk search of nested.c.
-pub struct EachCall(pub Code);
-
-extern "C" {
-    fn nested_search(rows: *const u64, n: u32, k: u32, t: u32, x: u64) -> i32;
-}
-
-fn find_nested(code: &Code, chunk: u64) -> Option<usize> {
-    let found = unsafe { nested_search(code.rows.as_ptr(), code.n as u32, code.k as u32, code.radius as u32, chunk) };
-    usize::try_from(found).ok()
-}
-
-impl Order for KeptNested {
-    fn code(&self) -> &Code {
-        &self.0.code
-    }
-    fn codeword(&self, i: usize) -> u64 {
-        self.0.codeword(i)
-    }
-    fn start(&self, i: usize) -> usize {
-        self.0.start(i)
-    }
-    fn block_of(&self, position: usize) -> usize {
-        self.0.block_of(position)
-    }
-    fn find(&self, chunk: u64) -> Option<usize> {
-        find_nested(&self.0.code, chunk)
-    }
-}
-
-impl Order for EachCall {
-    fn code(&self) -> &Code {
-        &self.0
-    }
-    fn codeword(&self, i: usize) -> u64 {
-        self.0.codeword(i)
-    }
-    fn start(&self, i: usize) -> usize {
-        self.0.start(i)
-    }
-    fn block_of(&self, position: usize) -> usize {
-        let (mut below, mut above) = (0, 1 << self.0.k);
-        while above - below > 1 {
-            let middle = (below + above) / 2;
-            if self.0.start(middle) <= position {
-                below = middle;
-            } else {
-                above = middle;
-            }
-        }
-        below
-    }
-    fn find(&self, chunk: u64) -> Option<usize> {
-        find_nested(&self.0, chunk)
     }
 }
 

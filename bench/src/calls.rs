@@ -1,6 +1,7 @@
 //! The calls that are measured, by the library and by the baselines, on the same words.
-use crate::baseline::{self, decode, EachCall, Kept, KeptNested};
+use crate::baseline::{self, decode, Kept};
 use crate::inputs;
+use crate::nested::{EachCall, KeptNested};
 use std::hint::black_box;
 use std::time::Instant;
 

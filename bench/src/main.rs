@@ -12,11 +12,13 @@ mod cards;
 #[path = "../../rust/tests/codes/mod.rs"]
 mod codes;
 mod inputs;
+mod nested;
 mod table;
 mod tramread;
 
-use baseline::{Kept, KeptNested};
+use baseline::Kept;
 use calls::Work;
+use nested::KeptNested;
 use std::env;
 use std::io::{self, Write as _};
 

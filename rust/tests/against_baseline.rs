@@ -1,34 +1,37 @@
-//! The library against the plain implementation of document 01 in `plain`, on cards of every shape and words of every kind.
+//! The library against the straightforward implementation of document 01 that the benchmark compares it with, written apart from it,
+//! on cards of every shape and words of every kind.
+#[path = "../../bench/src/baseline.rs"]
+mod baseline;
 mod cards;
 mod codes;
-mod plain;
 mod random;
 
+use baseline::{decode, Code, Kept, Order as _};
 use cards::{card_of, seal};
 use codes::{golay, reed_muller};
 use dunnavish::{block_start, check_card, millimetres, read_word, write_word, Refusal};
-use plain::{unlike, Code};
 use random::Random;
 
 fn number<T>(answer: Result<T, Refusal>) -> Result<T, u32> {
     answer.map_err(|refusal| refusal.number().expect("a refusal of document 01"))
 }
 
-/// Both check this card; its code, if it is sound.
-fn both_check(card: &[u8]) -> Option<Code> {
+/// Both check this card; what the baseline keeps of it, if it is sound.
+fn both_check(card: &[u8]) -> Option<Kept> {
     let answer = number(check_card(card));
-    match plain::check_card(card) {
+    match decode(card) {
         Ok(code) => {
+            let kept = Kept::new(code);
             let summary = answer.expect("a sound card");
             assert_eq!(summary.length as usize, code.n);
             assert_eq!(summary.rows as usize, code.k);
             assert_eq!(summary.track, code.track);
             assert_eq!(summary.distance as usize, code.distance);
             assert_eq!(summary.radius as usize, code.radius);
-            assert_eq!(summary.word_bits as usize, code.word_bits());
-            assert_eq!(summary.word_bytes(), code.word_bytes());
-            assert_eq!(summary.last as usize, code.last());
-            Some(code)
+            assert_eq!(summary.word_bits as usize, code.bits());
+            assert_eq!(summary.word_bytes(), code.bytes());
+            assert_eq!(summary.last as usize, kept.last());
+            Some(kept)
         }
         Err(refusal) => {
             assert_eq!(answer.err(), Some(refusal));
@@ -37,60 +40,69 @@ fn both_check(card: &[u8]) -> Option<Code> {
     }
 }
 
-fn both_write(card: &[u8], code: &Code, position: usize, lent: usize) {
+fn both_write(card: &[u8], kept: &Kept, position: usize, lent: usize) {
     let mut word: Vec<u8> = (0..lent).map(|i| (i * 37 + position) as u8).collect();
-    let before = word.clone();
+    let mut expected = word.clone();
     let answer = number(write_word(card, position as u32, &mut word));
-    let expected = code.write_word(position, lent);
-    assert_eq!(answer.err(), expected.as_ref().err().copied());
-    assert_eq!(word, expected.unwrap_or(before));
+    assert_eq!(answer, baseline::write(kept, position as u32, &mut expected));
+    assert_eq!(word, expected);
 }
 
-fn both_read(card: &[u8], code: &Code, received: &[u8]) -> Result<plain::Read, u32> {
-    let expected = code.read_word(received);
-    let answer = number(read_word(card, received)).map(|reading| plain::Read {
-        position: reading.position as usize,
-        residual: reading.residual as usize,
+fn both_read(card: &[u8], kept: &Kept, received: &[u8]) -> Result<baseline::Read, u32> {
+    let expected = baseline::read(kept, received);
+    let answer = number(read_word(card, received)).map(|reading| baseline::Read {
+        position: reading.position,
+        residual: reading.residual,
         rule: reading.rule.number(),
     });
-    assert_eq!(answer, expected, "n {} k {} word {received:02x?}", code.n, code.k);
+    let Code { n, k, .. } = kept.code();
+    assert_eq!(answer, expected, "n {n} k {k} word {received:02x?}");
     expected
 }
 
+/// The word of a position on the track.
+fn word_of(kept: &Kept, position: usize) -> Vec<u8> {
+    let mut word = vec![0; kept.code().bytes()];
+    baseline::write(kept, position as u32, &mut word).unwrap();
+    word
+}
+
 /// Reads the word of a position with `turned[i]` bits turned in chunk i.
-fn both_read_damaged(card: &[u8], code: &Code, random: &mut Random, position: usize, turned: [usize; 5]) {
-    let mut word = code.word(position);
-    for ((from, length), count) in code.chunks().into_iter().zip(turned) {
+fn both_read_damaged(card: &[u8], kept: &Kept, random: &mut Random, position: usize, turned: [usize; 5]) {
+    let mut word = word_of(kept, position);
+    for ((from, length), count) in kept.code().chunks().into_iter().zip(turned) {
         for place in random.some_below(count.min(length), length) {
-            word[from + place] ^= true;
+            word[(from + place) / 8] ^= 1 << ((from + place) % 8);
         }
     }
-    let answer = both_read(card, code, &code.packed(&word));
-    if turned.iter().all(|&count| count <= code.radius) {
+    let answer = both_read(card, kept, &word);
+    if turned.iter().all(|&count| count <= kept.code().radius) {
         let all: usize = turned.iter().sum();
         let read = answer.expect("at most t bits are turned in each chunk");
-        assert!(read.position.abs_diff(position) <= 2 * all);
-        assert!(read.position.abs_diff(position) <= all + read.residual);
-        assert_eq!(read.residual, unlike(&code.word(read.position), &word));
+        let off = (read.position as usize).abs_diff(position);
+        assert!(off <= 2 * all);
+        assert!(off <= all + read.residual as usize);
+        let unlike = word_of(kept, read.position as usize).iter().zip(&word).map(|(a, b)| (a ^ b).count_ones()).sum();
+        assert_eq!(read.residual, unlike);
     }
 }
 
 /// Everything that may be asked of one card.
 fn both_answer(card: &[u8], random: &mut Random, rounds: usize) {
-    let Some(code) = both_check(card) else {
+    let Some(kept) = both_check(card) else {
         every_call_refuses(card);
         return;
     };
-    at_the_ends(card, &code);
+    at_the_ends(card, &kept);
     for round in 0..rounds {
         let position = match round % 4 {
             // near a block's start, where rule 3 looks to both sides
-            0 => (code.starts[random.below(code.starts.len())] + random.below(2 * code.distance + 1))
-                .saturating_sub(code.distance)
-                .min(code.last()),
-            _ => random.below(code.last() + 1),
+            0 => (kept.start(random.below(kept.code().last_block() + 1)) + random.below(2 * kept.code().distance + 1))
+                .saturating_sub(kept.code().distance)
+                .min(kept.last()),
+            _ => random.below(kept.last() + 1),
         };
-        at_position(card, &code, random, position);
+        at_position(card, &kept, random, position);
     }
 }
 
@@ -106,44 +118,47 @@ fn every_call_refuses(card: &[u8]) {
 }
 
 /// Blocks and positions at the ends of what there is and past them, and words of other lengths.
-fn at_the_ends(card: &[u8], code: &Code) {
-    let (last, top, bytes) = (code.last(), code.last_codeword(), code.word_bytes());
+fn at_the_ends(card: &[u8], kept: &Kept) {
+    let (last, top, bytes) = (kept.last(), kept.code().last_block(), kept.code().bytes());
     for block in [0, 1, top / 2, top, top + 1, u32::MAX as usize] {
-        assert_eq!(number(block_start(card, block as u32)).map(|r| r as usize), code.block_start(block));
+        let start = if block <= top { Ok(kept.start(block)) } else { Err(7) };
+        assert_eq!(number(block_start(card, block as u32)).map(|r| r as usize), start);
     }
     for position in [0, 1, last / 2, last, last + 1, u32::MAX as usize] {
-        assert_eq!(number(millimetres(card, position as u32)).map(|mm| mm as usize), code.millimetres(position));
-        both_write(card, code, position, bytes);
+        let distance = if position <= last { Ok(50 * position) } else { Err(7) };
+        assert_eq!(number(millimetres(card, position as u32)).map(|mm| mm as usize), distance);
+        both_write(card, kept, position, bytes);
     }
     for lent in [0, bytes - 1, bytes + 1, 41, 512] {
-        both_write(card, code, 0, lent);
-        both_write(card, code, last + 1, lent);
-        both_read(card, code, &vec![0; lent]).unwrap_err();
+        both_write(card, kept, 0, lent);
+        both_write(card, kept, last + 1, lent);
+        both_read(card, kept, &vec![0; lent]).unwrap_err();
     }
 }
 
 /// The word of a position, undamaged and damaged within the radius and beyond, and noise.
-fn at_position(card: &[u8], code: &Code, random: &mut Random, position: usize) {
-    both_write(card, code, position, code.word_bytes());
-    let undamaged = code.packed(&code.word(position));
-    assert_eq!(both_read(card, code, &undamaged).unwrap().position, position);
+fn at_position(card: &[u8], kept: &Kept, random: &mut Random, position: usize) {
+    let code = kept.code();
+    both_write(card, kept, position, code.bytes());
+    let undamaged = word_of(kept, position);
+    assert_eq!(both_read(card, kept, &undamaged).unwrap().position as usize, position);
     let within = [0; 5].map(|_: usize| random.below(code.radius + 1));
-    both_read_damaged(card, code, random, position, within);
-    both_read_damaged(card, code, random, position, [code.radius; 5]);
+    both_read_damaged(card, kept, random, position, within);
+    both_read_damaged(card, kept, random, position, [code.radius; 5]);
     // just past the radius in one chunk, then anything
     let mut past = within;
     past[random.below(5)] = code.radius + 1;
-    both_read_damaged(card, code, random, position, past);
+    both_read_damaged(card, kept, random, position, past);
     let anything = code.chunks().map(|(_, length)| random.below(length + 1));
-    both_read_damaged(card, code, random, position, anything);
+    both_read_damaged(card, kept, random, position, anything);
     // noise over all the bytes, spare bits too
     let noise: Vec<u8> = undamaged.iter().map(|_| random.next() as u8).collect();
-    let _ = both_read(card, code, &noise);
-    if code.word_bits() % 8 != 0 {
+    let _ = both_read(card, kept, &noise);
+    if code.bits() % 8 != 0 {
         let mut spare = undamaged;
-        let place = code.word_bits() + random.below(8 * spare.len() - code.word_bits());
+        let place = code.bits() + random.below(8 * spare.len() - code.bits());
         spare[place / 8] |= 1 << (place % 8);
-        assert_eq!(both_read(card, code, &spare), Err(8));
+        assert_eq!(both_read(card, kept, &spare), Err(8));
     }
 }
 
@@ -216,15 +231,16 @@ fn every_word_and_every_position_of_small_cards() {
         [(1, &[1u64][..]), (2, &[3]), (2, &[1, 2]), (3, &[7]), (3, &[3, 6]), (3, &[7, 3]), (3, &[1, 2, 4]), (4, &[15])]
     {
         let card = card_of(n, rows.len() as u8, 1, rows);
-        let code = both_check(&card).unwrap();
-        for position in 0..=code.last() + 1 {
-            both_write(&card, &code, position, code.word_bytes());
+        let kept = both_check(&card).unwrap();
+        let bytes = kept.code().bytes();
+        for position in 0..=kept.last() + 1 {
+            both_write(&card, &kept, position, bytes);
         }
-        for bits in 0u32..1 << (8 * code.word_bytes()).min(16) {
+        for bits in 0u32..1 << (8 * bytes).min(16) {
             let received = bits.to_le_bytes();
-            let mut received = received[..code.word_bytes().min(2)].to_vec();
-            received.resize(code.word_bytes(), 0);
-            let _ = both_read(&card, &code, &received);
+            let mut received = received[..bytes.min(2)].to_vec();
+            received.resize(bytes, 0);
+            let _ = both_read(&card, &kept, &received);
         }
     }
 }
