@@ -1,7 +1,7 @@
 -- What decoding a card shows once refusals 1 to 3 are past: the least weight of the sets of rows, where no row is too wide, is
 -- 0 where the rows are dependent, refusal 5, and the code's least distance where they are not. Assumes nothing.
-use mathlib.Core.Path.{_≡_, refl, sym, _∙_}
-use mathlib.Core.Bool.{Bool, true, false, cond}
+use mathlib.Core.Path.{_≡_, sym, _∙_}
+use mathlib.Core.Bool.{true, false, cond}
 use mathlib.Core.List.{List}
 use mathlib.Core.Logic.{⊎-elim}
 use Prim.Native.Nat.{ℕ, _-_, _^_}
@@ -17,8 +17,6 @@ use Rattle.model.specs.declared.Decoded.{Decoded}
 use Rattle.code_theory.specs.LeastOfSets.{leastOfSets}
 use Rattle.code_theory.proofs.LeastOfSets.{least-if-independent, independent-of-least, dependent-of-least}
 use Rattle.code_theory.proofs.SoundCard.{limits-of-test, narrow-of-test, card-tests, sound-card}
-use Rattle.chunk.specs.FirstRefusal.{refusalIf, firstOf}
-use Rattle.chunk.proofs.FirstRefusal.{first-by-tests}
 use Rattle.chunk.specs.DecodedFrom.{DecodedFrom}
 use Rattle.chunk.proofs.Rows.{Narrow}
 use Rattle.chunk.proofs.Refusals.{refusal-4-5-or-0}
@@ -54,18 +52,20 @@ module _ (b : List ℕ) (limits : withinLimits (lengthOf b) (rowCountOf b) ≡ t
       rw (ne-eqb (least b) 0 ne) (independent-of-least (lengthOf b) (rowCountOf b) (rowOf b) (omega arith)))
       (eq-or-ne (least b) 0)
 
-  -- refusal 4 first, then refusal 5 by a number that is the least weight of rows that are narrow
-  pub rows-refusal : length b ≡ 512 → storedCheck b ≡ computedCheck b → (distance : ℕ)
-      → (Narrow (lengthOf b) (rowCountOf b) (rowOf b) → distance ≡ least b)
-      → firstOf (refusalIf (misplaced b) 4) (refusalIf (eqb distance 0) 5) ≡ cardRefusal b
-  rows-refusal whole checked distance is-least =
-      first-by-tests (misplaced b) (eqb distance 0) 4 5 (omega arith)
-      ∙ rw (refusal-4-5-or-0 b whole checked limits) (by-place (misplaced b) refl)
-    where
-      by-place : (t : Bool) → misplaced b ≡ t
-          → cond t 4 (refusalIf (eqb distance 0) 5) ≡ cond t 4 (refusalIf (dependent (rowCountOf b) (rowOf b)) 5)
-      by-place true e = refl
-      by-place false e = rw (dependent-if-zero e, is-least (narrow e))
+  -- the last two refusals, 5 by a number that is the least weight of rows that are narrow, and a card that passes both
+  module _ (whole : length b ≡ 512) (checked : storedCheck b ≡ computedCheck b) where
+    pub refusal-4 : misplaced b ≡ true → cardRefusal b ≡ 4
+    refusal-4 test = rw (refusal-4-5-or-0 b whole checked limits, test)
+
+    module _ (placed : misplaced b ≡ false) (distance : ℕ) (is-least : Narrow (lengthOf b) (rowCountOf b) (rowOf b) → distance ≡ least b) where
+      by-distance : cardRefusal b ≡ cond (eqb distance 0) 5 0
+      by-distance = rw (refusal-4-5-or-0 b whole checked limits, placed, dependent-if-zero placed, is-least (narrow placed))
+
+      pub refusal-5 : distance ≡ 0 → cardRefusal b ≡ 5
+      refusal-5 zero = rw (by-distance, eq-eqb distance 0 zero)
+
+      pub not-refused : (distance ≡ 0 → ⊥) → cardRefusal b ≡ 0
+      not-refused positive = rw (by-distance, ne-eqb distance 0 positive)
 
 -- the code of a sound card
 pub code-of-least : (b : List ℕ) → SoundCard b → (n k distance : ℕ) (rows : List ℕ) → n ≡ lengthOf b → k ≡ rowCountOf b
@@ -84,13 +84,8 @@ refused-from b r refusal e is ne =
     let never : r .refusal ≡ 0 → ⊥ = λ z. ne (sym e ∙ z) in
     record { refusal = e ∙ sym is; track = λ z. absurd (never z); code = λ z. absurd (never z); sound = λ z. absurd (never z) }
 
--- a refusal, or 0 with the track and the code
-pub decoded-from : (b : List ℕ) (r : Decoded) → r .refusal ≡ cardRefusal b → r .track ≡ trackOf b
-    → (SoundCard b → meaning (r .code) ≡ codeOf b) → DecodedFrom b r
-decoded-from b r e track code =
-    record {
-      refusal = e;
-      track = λ z. track;
-      code = λ z. code (sym e ∙ z);
-      sound = λ z. rw (code (sym e ∙ z)) (sound-card b (sym e ∙ z));
-    }
+-- a sound card, with its track and its code
+pub decoded-from : (b : List ℕ) (r : Decoded) → SoundCard b → r .refusal ≡ 0 → r .track ≡ trackOf b → meaning (r .code) ≡ codeOf b
+    → DecodedFrom b r
+decoded-from b r sound none track code =
+    record { refusal = none ∙ sym sound; track = λ z. track; code = λ z. code; sound = λ z. rw code (sound-card b sound) }

@@ -3,7 +3,6 @@ ghost use mathlib.Core.Path.{_≡_};
 ghost use Rattle.chunk.specs.DecodedFrom.{DecodedFrom};
 use super::card;
 use super::least_weight;
-use super::refusal;
 use model::Decoded;
 use model::DecodedCode;
 
@@ -24,8 +23,7 @@ fn refused(refusal: u32) -> Decoded
 }
 
 // Refusals 1 to 5 of any bytes as a card, checked downwards, and the track and the code of a sound one. The rows are dependent
-// where a nonempty set of them has weight 0, so where their least weight is 0; it is known only where every row lies within n bits,
-// which refusal 4, the upper one, has shown.
+// where a nonempty set of them has weight 0, so where their least weight is 0; that is known once every row lies within n bits.
 pub fn decode(card: &[u8]) -> Decoded
     ensures { λ r. ⌜ DecodedFrom (now (card .entry)) r ⌝ }
 {
@@ -42,13 +40,16 @@ pub fn decode(card: &[u8]) -> Decoded
         return refused(3);
     }
     let rows = card::rows_of(card);
+    if card::has_misplaced(n, k, rows, unused_set) {
+        return refused(4);
+    }
     let distance = least_weight::least_weight(n, k, rows);
-    let misplaced = refusal::refusal_if(card::has_misplaced(n, k, rows, unused_set), 4);
-    let dependent = refusal::refusal_if(distance == 0, 5);
-    let refusal = refusal::first_of(misplaced, dependent);
+    if distance == 0 {
+        return refused(5);
+    }
     let track = card::track_of(card);
     Decoded {
-        refusal,
+        refusal: 0,
         track,
         code: DecodedCode {
             n,

@@ -4,8 +4,8 @@
 use mathlib.Core.Path.{_≡_, sym, _∙_}
 use mathlib.Core.Bool.{cond, not}
 use mathlib.Core.List.{List, []}
-use Prim.Native.Nat.{ℕ, _≤_}
-use borrow.Author.Tests.{eq-eqb, ne-eqb, eqb-true, ltb-false, not-false}
+use Prim.Native.Nat.{ℕ, _≤_, _<_}
+use borrow.Author.Tests.{eq-eqb, ne-eqb, lt-ltb, le-ltb}
 use native.Mathlib.Omega.{arith}
 use lib.Dec.{eqb, ltb}
 use lib.ListN.{length}
@@ -21,8 +21,6 @@ use Rattle.model.specs.declared.WriteAnswer.the-variants.{Written, Refused}
 use Rattle.position_theory.specs.Demands.{WrittenIfServable, UnchangedIfRefused, NeighboursDifferInOneBit, NoOtherPositionsWord}
 use Rattle.position_theory.proofs.Demands.{neighbours-differ-in-one-bit, no-other-positions-word}
 use Rattle.position_theory.proofs.Writing.{written-if-servable, unchanged-if-refused, written-means}
-use Rattle.chunk.specs.FirstRefusal.{refusalIf, firstOf}
-use Rattle.chunk.proofs.FirstRefusal.{first-by-tests, none-by-tests}
 use Rattle.chunk.specs.DecodedFrom.{DecodedFrom}
 use Rattle.depot.proofs.Statuses.{write-status, no-write-values}
 
@@ -75,42 +73,39 @@ module _ (card : List ℕ) (position : ℕ) (lent : List ℕ) where
   unfolding writeRefusal
   write-card-refused decoded from ne = refused (decoded .refusal) (rw (← (from .refusal), ne-eqb (decoded .refusal) 0 ne)) ne
 
--- what is measured once the card has passed: the length of its words, its last position, and the first of refusals 6 and 7 by them
-pub record Measured (card : List ℕ) (position : ℕ) (lent : List ℕ) (decoded : Decoded) (size last refusal : ℕ) : Type 0 where
+-- what is measured once the card has passed: the length of its words and its last position
+pub record Measured (card : List ℕ) (decoded : Decoded) (size last : ℕ) : Type 0 where
   pub from : DecodedFrom card decoded
   pub passed : decoded .refusal ≡ 0
   pub is-size : size ≡ wordLength (meaning (decoded .code))
   pub is-last : last ≡ lastPosition (meaning (decoded .code))
-  pub is-first : refusal ≡ firstOf (refusalIf (not (eqb (length lent) size)) 6) (refusalIf (ltb last position) 7)
 
-module _ {card : List ℕ} {position : ℕ} {lent : List ℕ} {decoded : Decoded} {size last refusal : ℕ}
-    (measured : Measured card position lent decoded size last refusal) where
+module _ {card : List ℕ} {decoded : Decoded} {size last : ℕ} (measured : Measured card decoded size last) (position : ℕ) (lent : List ℕ) where
   is-code : meaning (decoded .code) ≡ codeOf card
   is-code = measured .from .code (measured .passed)
 
-  by-tests : refusal ≡ cond (not (eqb (length lent) size)) 6 (cond (ltb last position) 7 0)
-  by-tests = measured .is-first ∙ first-by-tests (not (eqb (length lent) size)) (ltb last position) 6 7 (omega arith)
-
-  word-refusal : writeRefusal card position lent ≡ refusal
+  word-refusal : writeRefusal card position lent ≡ cond (not (eqb (length lent) size)) 6 (cond (ltb last position) 7 0)
   unfolding writeRefusal
   word-refusal =
       rw (← (measured .from .refusal), eq-eqb (decoded .refusal) 0 (measured .passed), ← is-code)
-      (rw (← (measured .is-size), ← (measured .is-last), by-tests))
+      (rw (← (measured .is-size), ← (measured .is-last)))
 
-  -- refusals 6 and 7, the first of which is answered
-  pub word-refused : (refusal ≡ 0 → ⊥) → WriteMeets card position lent (Refused refusal) lent
-  word-refused ne = refused card position lent refusal word-refusal ne
+  pub refused-6 : (length lent ≡ size → ⊥) → WriteMeets card position lent (Refused 6) lent
+  refused-6 unlike = refused card position lent 6 (word-refusal ∙ rw (ne-eqb (length lent) size unlike)) (λ e. omega arith)
 
-  -- where neither holds, the lent word has the right length and the position is on the track
-  pub servable : refusal ≡ 0
-      → (position ≤ lastPosition (meaning (decoded .code))) × (length lent ≡ wordLength (meaning (decoded .code)))
-  servable none =
-      let (whole, within) =
-      none-by-tests (not (eqb (length lent) size)) (ltb last position) 6 7 (omega arith) (omega arith) (sym (measured .is-first) ∙ none) in
-      rw (← (measured .is-size), ← (measured .is-last)) (ltb-false last position within, eqb-true (length lent) size (not-false _ whole))
+  module _ (whole : length lent ≡ size) where
+    pub refused-7 : last < position → WriteMeets card position lent (Refused 7) lent
+    refused-7 above =
+        refused card position lent 7 (word-refusal ∙ rw (eq-eqb (length lent) size whole, lt-ltb last position above)) (λ e. omega arith)
 
-  pub written : refusal ≡ 0 → (left : List ℕ) → left ≡ wordBytes (meaning (decoded .code)) position
-      → WriteMeets card position lent Written left
-  unfolding writeAnswer lentAfterWrite
-  written none left e =
-      write-meets card position lent Written left (rw (word-refusal ∙ none)) (rw (word-refusal ∙ none, ← is-code) e)
+    -- where neither holds, the lent word has the right length and the position is on the track, and it is written
+    module _ (within : position ≤ last) where
+      pub servable : (position ≤ lastPosition (meaning (decoded .code))) × (length lent ≡ wordLength (meaning (decoded .code)))
+      servable = rw (← (measured .is-size), ← (measured .is-last)) (within, whole)
+
+      none : writeRefusal card position lent ≡ 0
+      none = word-refusal ∙ rw (eq-eqb (length lent) size whole, le-ltb last position within)
+
+      pub written : (left : List ℕ) → left ≡ wordBytes (meaning (decoded .code)) position → WriteMeets card position lent Written left
+      unfolding writeAnswer lentAfterWrite
+      written left e = write-meets card position lent Written left (rw none) (rw (none, ← is-code) e)

@@ -14,7 +14,6 @@ ghost use Rattle.model.specs.declared.WriteAnswer.the-variants.{Written};
 ghost use Rattle.position_theory.specs.Demands.{WrittenIfServable, UnchangedIfRefused, NeighboursDifferInOneBit, NoOtherPositionsWord};
 ghost use Rattle.position_theory.specs.Demands.{NearestOfAllowed, OffByAtMostTwiceTurned, OffByAtMostTurnedAndResidual};
 use chunk::decode;
-use chunk::refusal;
 use model::CardAnswer;
 use model::NumberAnswer;
 use model::ReadAnswer;
@@ -52,11 +51,13 @@ pub fn write_word(card: &[u8], position: u32, word: &mut [u8]) -> WriteAnswer
         return WriteAnswer::Refused(decoded.refusal);
     }
     let code = decoded.code;
-    let length = refusal::refusal_if(word.len() != layout::word_length(code), 6);
-    let above = refusal::refusal_if(blocks::last_position(code) < position, 7);
-    let refusal = refusal::first_of(length, above);
-    if refusal != 0 {
-        return WriteAnswer::Refused(refusal);
+    let length = layout::word_length(code);
+    let last = blocks::last_position(code);
+    if word.len() != length {
+        return WriteAnswer::Refused(6);
+    }
+    if last < position {
+        return WriteAnswer::Refused(7);
     }
     words::write(code, position, word);
     WriteAnswer::Written

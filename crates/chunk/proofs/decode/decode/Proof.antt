@@ -1,8 +1,8 @@
 -- `chunk::decode::decode` meets its contract: each test that fails is one of refusals 1 to 3, by its law, and past the three what was
--- read of the card is said of its bytes: n, k, the rows, and their least weight where none is too wide. From these the tests of
--- the rows, the upper first, tell refusals 4 and 5 from a sound card, whose code they are. Assumes nothing.
-use mathlib.Core.Path.{_≡_, sym, _∙_}
-use mathlib.Core.Bool.{true}
+-- read of the card is said of its bytes: n, k, the rows, and their least weight where none is too wide. From these the two tests
+-- of the rows tell refusals 4 and 5 from a sound card, whose code they are. Assumes nothing.
+use mathlib.Core.Path.{_≡_, refl, sym, _∙_}
+use mathlib.Core.Bool.{true, false}
 use mathlib.Core.List.{List}
 use Prim.Native.Nat.{ℕ}
 use borrow.Author.Needs.{needs}
@@ -11,7 +11,7 @@ use native.Mathlib.Omega.{arith}
 use lib.ListN.{length}
 use Rattle.model.specs.Card.{lengthOf, rowCountOf, rowOf, storedCheck, computedCheck, withinLimits, misplaced}
 use Rattle.code_theory.proofs.SoundCard.{limits-of-test}
-use Rattle.chunk.proofs.Decoding.{least, least-of-card, rows-refusal, code-of-least, refused-from, decoded-from}
+use Rattle.chunk.proofs.Decoding.{least, least-of-card, refusal-4, refusal-5, not-refused, code-of-least, refused-from, decoded-from}
 use Rattle.chunk.proofs.Rows.{Narrow}
 use Rattle.chunk.proofs.Refusals.{refusal-1, refusal-2, refusal-3, misplaced-of-card}
 use Rattle.chunk.proofs.decode.decode.Statement.{statement}
@@ -52,19 +52,22 @@ limits c = rw (is-n c, is-k c) at (c .within-limits .ensures)
 within : (c : tie.Else3) → withinLimits (lengthOf (card₃ c)) (rowCountOf (card₃ c)) ≡ true
 within c = sym (limits (c .before)) ∙ not-false _ (c .if3 .left)
 
--- the least weight of the rows that the card has, and the fourth test of them
-is-least : (c : tie.After-least-weight)
-    → let b = card₃ (c .before .before) in Narrow (lengthOf b) (rowCountOf b) (rowOf b) → c .least-weight .result ≡ least b
-is-least c =
-    let limited = c .before .before .before in
-    least-of-card _ _ _ _ _ (is-n limited) (is-k limited) (c .before .rows-of .ensures) (c .least-weight .ensures)
-
-is-misplaced : (c : tie.After-has-misplaced) → c .has-misplaced .result ≡ misplaced (card₃ (c .before .before .before))
+-- past the third test: the fourth, and the least weight of the rows that the card has
+is-misplaced : (c : tie.After-has-misplaced) → c .has-misplaced .result ≡ misplaced (card₃ (c .before .before))
 is-misplaced c =
-    let limited = c .before .before .before .before in
+    let limited = c .before .before .before in
     let summed = limited .before .before .before .before in
-    misplaced-of-card _ _ _ _ _ _ (is-n limited) (is-k limited) (c .before .before .rows-of .ensures)
+    misplaced-of-card _ _ _ _ _ _ (is-n limited) (is-k limited) (c .before .rows-of .ensures)
     (summed .before .before .unused-byte-set .ensures) (c .has-misplaced .ensures)
+
+placed : (c : tie.Else4) → misplaced (card₃ (c .before .before .before)) ≡ false
+placed c = sym (is-misplaced (c .before)) ∙ c .if4 .left
+
+is-least : (c : tie.After-least-weight)
+    → let b = card₃ (c .before .before .before .before) in Narrow (lengthOf b) (rowCountOf b) (rowOf b) → c .least-weight .result ≡ least b
+is-least c =
+    let limited = c .before .before .before .before .before in
+    least-of-card _ _ _ _ _ (is-n limited) (is-k limited) (c .before .before .before .rows-of .ensures) (c .least-weight .ensures)
 
 returns : tie.Need-returns
 returns c = refused-from _ _ 1 (c .refused .ensures) (refusal-1 _ (c .before .if1 .taken)) (λ e. omega arith)
@@ -85,27 +88,38 @@ returns-3 c =
     let outside = sym (limits limited) ∙ not-true _ (c .before .if3 .taken) in
     refused-from _ _ 3 (c .refused3 .ensures) (refusal-3 _ (whole second) (checked second) outside) (λ e. omega arith)
 
-least-weight-requires : tie.Need-least-weight-requires
-least-weight-requires c κs =
-    let limited = c .before .before in
-    let bounds = limits-of-test _ _ (within (c .before)) in
-    rw (is-n limited, is-k limited) (bounds .1, bounds .3)
-
 returns-4 : tie.Need-returns-4
 returns-4 c =
-    let chosen = c .before in
-    let placed = chosen .before .before .before in
-    let weighed = placed .before in
-    let rows = weighed .before .rows-of in
-    let third = weighed .before .before in
+    let third = c .before .before .before .before in
     let second = second-passed third in
-    let refusal =
-    rw (chosen .before .before .refusal-if .ensures, chosen .before .refusal-if2 .ensures, is-misplaced placed)
-    at (chosen .first-of .ensures) in
-    decoded-from _ _
-    (refusal ∙ rows-refusal _ (within third) (whole second) (checked second) _ (is-least weighed)) (c .track-of .ensures)
-    (λ sound.
-    code-of-least _ sound _ _ _ (rows .result) (is-n (third .before)) (is-k (third .before)) (rows .ensures) (is-least weighed))
+    let test = sym (is-misplaced (c .before .before)) ∙ c .before .if4 .taken in
+    refused-from _ _ 4 (c .refused4 .ensures) (refusal-4 _ (within third) (whole second) (checked second) test) (λ e. omega arith)
+
+least-weight-requires : tie.Need-least-weight-requires
+least-weight-requires c κs =
+    let limited = c .before .before .before .before in
+    let bounds = limits-of-test _ _ (within (c .before .before .before)) in
+    rw (is-n limited, is-k limited) (bounds .1, bounds .3)
+
+returns-5 : tie.Need-returns-5
+returns-5 c =
+    let weighed = c .before .before in
+    let third = weighed .before .before .before .before in
+    let second = second-passed third in
+    refused-from _ _ 5 (c .refused5 .ensures)
+    (refusal-5 _ (within third) (whole second) (checked second) (placed (weighed .before)) _ (is-least weighed) (c .before .if5 .taken))
+    (λ e. omega arith)
+
+returns-6 : tie.Need-returns-6
+returns-6 c =
+    let weighed = c .before .before in
+    let third = weighed .before .before .before .before in
+    let rows = weighed .before .before .before .rows-of in
+    let second = second-passed third in
+    let sound =
+    not-refused _ (within third) (whole second) (checked second) (placed (weighed .before)) _ (is-least weighed) (c .before .if5 .left) in
+    decoded-from _ _ sound refl (c .track-of .ensures)
+    (code-of-least _ sound _ _ _ (rows .result) (is-n (third .before)) (is-k (third .before)) (rows .ensures) (is-least weighed))
 
 pub decode-spec : {M : Type 1} → statement M
 decode-spec =
@@ -124,10 +138,11 @@ decode-spec =
     (λ c κs. search needs)
     returns-3
     (λ c κs. search needs)
+    (λ c κs. search needs)
+    (λ c κs. search needs)
+    returns-4
     least-weight-requires
     (λ c κs. search needs)
+    returns-5
     (λ c κs. search needs)
-    (λ c κs. search needs)
-    (λ c κs. search needs)
-    (λ c κs. search needs)
-    returns-4)
+    returns-6)
