@@ -94,15 +94,11 @@ fn refusal_of(answer: WriteAnswer) -> u32 {
 
 pub fn read(card: &[u8], word: &[u8]) -> Reading {
     match depot::read_word(card, word) {
-        ReadAnswer::At {
-            position,
-            residual,
-            rule,
-        } => Reading {
+        ReadAnswer::At(read) => Reading {
             refusal: 0,
-            position,
-            residual,
-            rule,
+            position: read.position,
+            residual: read.residual,
+            rule: read.rule,
         },
         ReadAnswer::Refused(refusal) => Reading {
             refusal,

@@ -12,8 +12,8 @@ use Rattle.bits.proofs.Numbers.{by-test}
 use Rattle.model.specs.Card.{Code, cardRefusal, codeOf}
 use Rattle.model.specs.Order.{lastCodeword, lastPosition, start}
 use Rattle.model.specs.Words.{millimetresOf}
-use Rattle.model.specs.Reading.{chunk₁, chunk₂, chunkReading, ruleOf, ruleNamed, rule₁, rule₂, rule₃}
-use Rattle.model.specs.Reading.{Allowed, fromTo, refusedBy, allowedBy, allowed, residual, nearest, reading}
+use Rattle.model.specs.Reading.{chunk₁, chunk₂, chunkReading, ruleOf, ruleNamed, range₁, range₂, range₃, rule₁, rule₂, rule₃}
+use Rattle.model.specs.Reading.{Range, Allowed, fromTo, refusedBy, allowedBy, allowed, residual, nearest, reading}
 use Rattle.model.specs.Answers.{summaryOf, cardAnswer, cardFigures, writeRefusal, writeAnswer, startRefusal, startAnswer}
 use Rattle.model.specs.Answers.{millimetresRefusal, millimetresAnswer, wordLength, spareSet, readWord, readAnswer}
 use Rattle.model.specs.Answers.{refusalByRule, readRefusal, nearestPosition, readFigures}
@@ -94,9 +94,9 @@ module _ (C : Code) (x : ℕ → ℕ) where
   abbrev AllowedTold : (rule refusal : ℕ) → Allowed → Type 0
   AllowedTold rule refusal a = Told readStatus readValues refusal (figures rule a) (nearest C x a)
 
-  some : (rule low high : ℕ) → AllowedTold rule 0 (fromTo rule low high)
+  some : (range : Range) → AllowedTold (range .rule) 0 (fromTo range)
   unfolding nearest nearestPosition readStatus readValues ifServed
-  some rule low high = (refl, refl)
+  some range = (refl, refl)
 
   none : (rule refusal : ℕ) → eqb refusal 0 ≡ false → AllowedTold rule refusal (refusedBy refusal)
   unfolding nearest readStatus readValues
@@ -107,29 +107,29 @@ module _ (C : Code) (x : ℕ → ℕ) where
 
   by-rule₁ : (c c′ : Chunk) → ByRule 1 c c′ (rule₁ C c)
   unfolding rule₁ refusalByRule chunkStatus chunkValues
-  by-rule₁ (Codeword p e) c′ = at-first (eqb p 0) _ _
+  by-rule₁ (Codeword p e) c′ = at-first (eqb p 0)
     where
-      at-first : (t : Bool) (low high : ℕ) → AllowedTold 1 (cond (t || false) 12 0) (cond t (refusedBy 12) (fromTo 1 low high))
-      at-first true low high = none 1 12 refl
-      at-first false low high = some 1 low high
+      at-first : (t : Bool) → AllowedTold 1 (cond (t || false) 12 0) (cond t (refusedBy 12) (fromTo (range₁ C p)))
+      at-first true = none 1 12 refl
+      at-first false = some (range₁ C p)
   by-rule₁ Unreadable c′ = none 1 10 refl
 
   by-rule₂ : (c c′ : Chunk) → ByRule 2 c c′ (rule₂ C c′)
   unfolding rule₂ refusalByRule chunkStatus chunkValues
-  by-rule₂ c (Codeword p e) = at-last (eqb p (lastCodeword C)) _ _
+  by-rule₂ c (Codeword p e) = at-last (eqb p (lastCodeword C))
     where
-      at-last : (t : Bool) (low high : ℕ) → AllowedTold 2 (cond t 12 0) (cond t (refusedBy 12) (fromTo 2 low high))
-      at-last true low high = none 2 12 refl
-      at-last false low high = some 2 low high
+      at-last : (t : Bool) → AllowedTold 2 (cond t 12 0) (cond t (refusedBy 12) (fromTo (range₂ C p)))
+      at-last true = none 2 12 refl
+      at-last false = some (range₂ C p)
   by-rule₂ c Unreadable = none 2 10 refl
 
   by-rule₃ : (c c′ : Chunk) → ByRule 3 c c′ (rule₃ C c c′)
   unfolding rule₃ refusalByRule chunkStatus chunkValues
-  by-rule₃ (Codeword p e) (Codeword q f) = at-same (eqb p q) _ _
+  by-rule₃ (Codeword p e) (Codeword q f) = at-same (eqb p q)
     where
-      at-same : (t : Bool) (low high : ℕ) → AllowedTold 3 (cond (not t) 11 0) (cond t (fromTo 3 low high) (refusedBy 11))
-      at-same true low high = some 3 low high
-      at-same false low high = none 3 11 refl
+      at-same : (t : Bool) → AllowedTold 3 (cond (not t) 11 0) (cond t (fromTo (range₃ C p)) (refusedBy 11))
+      at-same true = some (range₃ C p)
+      at-same false = none 3 11 refl
   by-rule₃ (Codeword p e) Unreadable = none 3 10 refl
   by-rule₃ Unreadable (Codeword q f) = none 3 10 refl
   by-rule₃ Unreadable Unreadable = none 3 10 refl

@@ -70,12 +70,11 @@ fn answer_write(card: &[u8], position: u32, word: &mut [u8]) {
 
 fn answer_read(card: &[u8], word: &[u8]) {
     match depot::read_word(card, word) {
-        ReadAnswer::At {
-            position,
-            residual,
-            rule,
-        } => {
-            say_with(b" at # residual # rule #", &[position, residual, rule]);
+        ReadAnswer::At(read) => {
+            say_with(
+                b" at # residual # rule #",
+                &[read.position, read.residual, read.rule],
+            );
         }
         ReadAnswer::Refused(refusal) => {
             say_with(b" refused #", &[refusal]);

@@ -13,7 +13,7 @@ use Rattle.bits.proofs.Numbers.{by-test}
 use Rattle.model.specs.Card.{Code, cardRefusal, codeOf}
 use Rattle.model.specs.Order.{lastCodeword, lastPosition, start}
 use Rattle.model.specs.Words.{millimetresOf}
-use Rattle.model.specs.Reading.{Allowed, fromTo, refusedBy, rule₁, rule₂, rule₃, allowedBy, allowed, nearest, reading}
+use Rattle.model.specs.Reading.{Range, Allowed, fromTo, refusedBy, rule₁, rule₂, rule₃, allowedBy, allowed, nearest, reading}
 use Rattle.model.specs.Answers.{wordLength, spareSet, cardAnswer, readWord, readAnswer, startAnswer, millimetresAnswer}
 use Rattle.model.specs.declared.Chunk.{Chunk}
 use Rattle.model.specs.declared.Chunk.the-variants.{Codeword, Unreadable}
@@ -69,7 +69,7 @@ millimetres-refusal-nonzero card position e =
 
 -- a read
 unfoldable ReadNotByZero : ReadAnswer → Type 0
-ReadNotByZero (At position residual rule) = Unit {0}
+ReadNotByZero (At r) = Unit {0}
 ReadNotByZero (ReadRefused refusal) = refusal ≡ 0 → ⊥
 
 -- of a sound card, whatever the separators and the chunks allow
@@ -77,9 +77,9 @@ module _ (C : Code) (x : ℕ → ℕ) where
   abbrev AllowedNotByZero : Allowed → Type 0
   AllowedNotByZero a = ReadNotByZero (nearest C x a)
 
-  some : (rule low high : ℕ) → AllowedNotByZero (fromTo rule low high)
+  some : (range : Range) → AllowedNotByZero (fromTo range)
   unfolding nearest ReadNotByZero
-  some rule low high = tt
+  some range = tt
 
   none : (refusal : ℕ) → (refusal ≡ 0 → ⊥) → AllowedNotByZero (refusedBy refusal)
   unfolding nearest ReadNotByZero
@@ -87,17 +87,17 @@ module _ (C : Code) (x : ℕ → ℕ) where
 
   by-rule₁ : (c : Chunk) → AllowedNotByZero (rule₁ C c)
   unfolding rule₁
-  by-rule₁ (Codeword p e) = by-test AllowedNotByZero (eqb p 0) (λ _. none 12 (λ z. omega arith)) (λ _. some _ _ _)
+  by-rule₁ (Codeword p e) = by-test AllowedNotByZero (eqb p 0) (λ _. none 12 (λ z. omega arith)) (λ _. some _)
   by-rule₁ Unreadable = none 10 (λ z. omega arith)
 
   by-rule₂ : (c : Chunk) → AllowedNotByZero (rule₂ C c)
   unfolding rule₂
-  by-rule₂ (Codeword p e) = by-test AllowedNotByZero (eqb p (lastCodeword C)) (λ _. none 12 (λ z. omega arith)) (λ _. some _ _ _)
+  by-rule₂ (Codeword p e) = by-test AllowedNotByZero (eqb p (lastCodeword C)) (λ _. none 12 (λ z. omega arith)) (λ _. some _)
   by-rule₂ Unreadable = none 10 (λ z. omega arith)
 
   by-rule₃ : (c c′ : Chunk) → AllowedNotByZero (rule₃ C c c′)
   unfolding rule₃
-  by-rule₃ (Codeword p e) (Codeword q f) = by-test AllowedNotByZero (eqb p q) (λ _. some _ _ _) (λ _. none 11 (λ z. omega arith))
+  by-rule₃ (Codeword p e) (Codeword q f) = by-test AllowedNotByZero (eqb p q) (λ _. some _) (λ _. none 11 (λ z. omega arith))
   by-rule₃ (Codeword p e) Unreadable = none 10 (λ z. omega arith)
   by-rule₃ Unreadable (Codeword q f) = none 10 (λ z. omega arith)
   by-rule₃ Unreadable Unreadable = none 10 (λ z. omega arith)

@@ -21,7 +21,7 @@ near-crosses : (lent : List ℕ) → length lent ≡ readCount → (answer : Rea
     → status ≡ statusFor readCount lent (readStatus answer) → left ≡ leftBy status (readValues answer) lent
     → (position e : ℕ) → Near answer position e → ServedNear status left position e × (residualLeft left ≡ residualOf answer)
 unfolding statusFor leftBy readStatus readValues Near ServedNear residualOf
-near-crosses lent alike (At answered residual rule) status left is-status is-left position e near =
+near-crosses lent alike (At r) status left is-status is-left position e near =
     let served : status ≡ 0 = is-status ∙ rw (eq-eqb (length lent) readCount alike) in
     rw (is-left, served) ((refl, near .0, near .1), refl)
 near-crosses lent alike (Refused refusal) status left is-status is-left position e near = absurd near

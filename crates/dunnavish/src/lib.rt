@@ -72,14 +72,10 @@ pub extern "C" fn dunnavish_read_word(card: &[u8], word: &[u8], values: &mut [u3
     let answer = depot::read_word(card, word);
     match answer {
         ReadAnswer::Refused(refusal) => refusal,
-        ReadAnswer::At {
-            position,
-            residual,
-            rule,
-        } => {
-            values[0] = position;
-            values[1] = residual;
-            values[2] = rule;
+        ReadAnswer::At(read) => {
+            values[0] = read.position;
+            values[1] = read.residual;
+            values[2] = read.rule;
             0
         }
     }

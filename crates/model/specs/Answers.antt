@@ -8,12 +8,12 @@ use Prim.Native.Nat.{ℕ, _+_, _-_, _*_, _^_}
 use lib.Dec.{leb, ltb, eqb}
 use lib.ListN.{length, getD}
 use Rattle.bits.specs.Places.{bytesFor, place}
-use Rattle.bits.specs.Searches.{anyBelow, first, leastAt}
+use Rattle.bits.specs.Searches.{anyBelow, first}
 use Rattle.model.specs.Card.{Code, cardRefusal, codeOf, radius, trackOf}
 use Rattle.model.specs.Order.{lastCodeword, lastPosition, start}
 use Rattle.model.specs.Words.{wordBits, wordBytes, millimetresOf}
 use Rattle.model.specs.Reading.{chunk₁, chunk₂, chunkDistance, chunkReading, ruleNamed}
-use Rattle.model.specs.Reading.{Allowed, fromTo, refusedBy, allowed, residual, reading}
+use Rattle.model.specs.Reading.{Allowed, fromTo, refusedBy, allowed, residual, nearestIn, reading}
 use Rattle.model.specs.Numbers.{chunkStatus, chunkValues}
 use Rattle.model.specs.declared.Chunk.{Chunk}
 use Rattle.model.specs.declared.CardSummary.{CardSummary}
@@ -132,7 +132,7 @@ readRefusal card received =
 
 -- the allowed position whose word has fewest bits unlike x, the smallest on a tie (0 where none is allowed, which means nothing)
 unfoldable pub nearestPosition : Code → (x : ℕ → ℕ) → Allowed → ℕ
-nearestPosition C x (fromTo rule low high) = leastAt (residual C x) low (high - low)
+nearestPosition C x (fromTo range) = nearestIn (residual C x) range
 nearestPosition C x (refusedBy refusal) = 0
 
 -- the values of a word that is read: the nearest allowed position, its residual, and the rule that the separators name

@@ -49,11 +49,11 @@ writeValues (WriteRefused refusal) = []
 
 -- a read: position, residual and rule
 unfoldable pub readStatus : ReadAnswer → ℕ
-readStatus (At position residual rule) = 0
+readStatus (At r) = 0
 readStatus (ReadRefused refusal) = refusal
 
 unfoldable pub readValues : ReadAnswer → List ℕ
-readValues (At position residual rule) = position ∷ residual ∷ rule ∷ []
+readValues (At r) = r .position ∷ r .residual ∷ r .rule ∷ []
 readValues (ReadRefused refusal) = []
 
 -- a call that asks for one number: a block's start, or a distance in millimetres

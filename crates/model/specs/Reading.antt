@@ -49,36 +49,42 @@ ruleOf s₁ s₂ s₃ = cond (eqb s₁ s₂) (cond (eqb s₂ s₃) 3 1) (cond (e
 unfoldable pub ruleNamed : Code → (x : ℕ → ℕ) → ℕ
 ruleNamed C x = ruleOf (majority (C .D) x) (majority (C .D) (separator₂ C x)) (majority (C .D) (separator₃ C x))
 
--- the positions that a word may be read as: from low to high by a rule, ends included, or none, by a refusal's number
+-- the positions that a rule allows: from low to high, ends included
+pub record Range : Type 0 where
+  pub rule : ℕ
+  pub low : ℕ
+  pub high : ℕ
+
+-- the positions that a word may be read as: those of a range, or none, by a refusal's number
 pub data Allowed : Type 0 where
-  fromTo : (rule low high : ℕ) → Allowed
+  fromTo : (range : Range) → Allowed
   refusedBy : (refusal : ℕ) → Allowed
 
 -- rule 1: chunk 1 reads p; block p - 1; allowed are r(p-1) + D + A(p-1) to r(p)
-abbrev pub range₁ : Code → (p : ℕ) → Allowed
-range₁ C p = fromTo 1 (start C (p - 1) + C .D + changedWeight C (p - 1)) (start C p)
+abbrev pub range₁ : Code → (p : ℕ) → Range
+range₁ C p = record { rule = 1; low = start C (p - 1) + C .D + changedWeight C (p - 1); high = start C p }
 
 -- what chunk 1 allows by it, refusals included
 unfoldable pub rule₁ : Code → (read₁ : Chunk) → Allowed
-rule₁ C (Codeword p e) = cond (eqb p 0) (refusedBy 12) (range₁ C p)
+rule₁ C (Codeword p e) = cond (eqb p 0) (refusedBy 12) (fromTo (range₁ C p))
 rule₁ C Unreadable = refusedBy 10
 
 -- rule 2: chunk 2 reads p; allowed are r(p) to r(p) + 2D + A(p)
-abbrev pub range₂ : Code → (p : ℕ) → Allowed
-range₂ C p = fromTo 2 (start C p) (start C p + 2 * C .D + changedWeight C p)
+abbrev pub range₂ : Code → (p : ℕ) → Range
+range₂ C p = record { rule = 2; low = start C p; high = start C p + 2 * C .D + changedWeight C p }
 
 -- what chunk 2 allows by it, refusals included
 unfoldable pub rule₂ : Code → (read₂ : Chunk) → Allowed
-rule₂ C (Codeword p e) = cond (eqb p (lastCodeword C)) (refusedBy 12) (range₂ C p)
+rule₂ C (Codeword p e) = cond (eqb p (lastCodeword C)) (refusedBy 12) (fromTo (range₂ C p))
 rule₂ C Unreadable = refusedBy 10
 
 -- rule 3: both chunks read the same p; allowed are r(p) - D to r(p) + D, cut to 0 and the last position
-abbrev pub range₃ : Code → (p : ℕ) → Allowed
-range₃ C p = fromTo 3 (start C p - C .D) (min (start C p + C .D) (lastPosition C))
+abbrev pub range₃ : Code → (p : ℕ) → Range
+range₃ C p = record { rule = 3; low = start C p - C .D; high = min (start C p + C .D) (lastPosition C) }
 
 -- what the two chunks allow by it, refusals included
 unfoldable pub rule₃ : Code → (read₁ read₂ : Chunk) → Allowed
-rule₃ C (Codeword p e) (Codeword q f) = cond (eqb p q) (range₃ C p) (refusedBy 11)
+rule₃ C (Codeword p e) (Codeword q f) = cond (eqb p q) (fromTo (range₃ C p)) (refusedBy 11)
 rule₃ C (Codeword p e) Unreadable = refusedBy 10
 rule₃ C Unreadable (Codeword q f) = refusedBy 10
 rule₃ C Unreadable Unreadable = refusedBy 10
@@ -99,10 +105,15 @@ allowed C x = allowedBy C x (ruleNamed C x)
 unfoldable pub residual : Code → (x : ℕ → ℕ) (position : ℕ) → ℕ
 residual C x position = distance (wordBits C) (wordAt C position) x
 
+-- the position of a range at which the residual is least, the smallest on a tie
+unfoldable pub nearestIn : (residual : ℕ → ℕ) → Range → ℕ
+nearestIn residual range = leastAt residual (range .low) (range .high - range .low)
+
 -- the allowed position whose word has fewest bits unlike the received word, the smallest on a tie; that count; and the rule
 unfoldable pub nearest : Code → (x : ℕ → ℕ) → Allowed → ReadAnswer
-nearest C x (fromTo rule low high) =
-    let position : ℕ = leastAt (residual C x) low (high - low) in At position (residual C x position) rule
+nearest C x (fromTo range) =
+    let position : ℕ = nearestIn (residual C x) range in
+    At (record { position = position; residual = residual C x position; rule = range .rule })
 nearest C x (refusedBy refusal) = Refused refusal
 
 -- the reading of a received word, given as a bit function

@@ -45,13 +45,16 @@ pub enum WriteAnswer {
     Refused(u32),
 }
 
+// What a word that is read is answered with: the position, its residual, and the rule.
+pub struct Reading {
+    pub position: u32,
+    pub residual: u32,
+    pub rule: u32,
+}
+
 // The answer to a read.
 pub enum ReadAnswer {
-    At {
-        position: u32,
-        residual: u32,
-        rule: u32,
-    },
+    At(Reading),
     Refused(u32),
 }
 

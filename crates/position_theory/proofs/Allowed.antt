@@ -9,7 +9,7 @@ use borrow.Author.Tests.{eqb-false}
 use Rattle.bits.proofs.Numbers.{by-test}
 use Rattle.model.specs.Card.{Code}
 use Rattle.model.specs.Order.{lastCodeword, changedWeight, start, lastPosition}
-use Rattle.model.specs.Reading.{chunkReading, chunk₁, chunk₂, Allowed, fromTo, refusedBy}
+use Rattle.model.specs.Reading.{chunkReading, chunk₁, chunk₂, Range, Allowed, fromTo, refusedBy}
 use Rattle.model.specs.Reading.{rule₁, rule₂, rule₃, allowedBy, ruleNamed, allowed}
 use Rattle.model.specs.declared.Chunk.{Chunk}
 use Rattle.model.specs.declared.Chunk.the-variants.{Codeword, Unreadable}
@@ -19,22 +19,21 @@ use Rattle.position_theory.proofs.Isometry.{Isometric, isometric-part, 
 
 -- a range that is not empty, on the track, and isometric; of a refusal nothing is said
 unfoldable pub IsometricOnTrack : Code → Allowed → Type 0
-IsometricOnTrack C (fromTo rule low high) = (low ≤ high) × (high ≤ lastPosition C) × Isometric C low high
+IsometricOnTrack C (fromTo range) =
+    (range .low ≤ range .high) × (range .high ≤ lastPosition C) × Isometric C (range .low) (range .high)
 IsometricOnTrack C (refusedBy refusal) = Unit {0}
 
 -- the received word x allows this position
 pub record Allows (C : Code) (x : ℕ → ℕ) (position : ℕ) : Type 0 where
-  pub rule : ℕ
-  pub low : ℕ
-  pub high : ℕ
-  pub is : allowed C x ≡ fromTo rule low high
-  pub from-low : low ≤ position
-  pub to-high : position ≤ high
+  pub range : Range
+  pub is : allowed C x ≡ fromTo range
+  pub from-low : range .low ≤ position
+  pub to-high : position ≤ range .high
 
 module _ (C : Code) (promise : ChunkPromise C) where
   -- rule 1: the part of block i from offset D + A(i) on
   end-of-block : (i : ℕ) → i + 1 ≤ lastCodeword C
-      → IsometricOnTrack C (fromTo 1 (start C i + C .D + changedWeight C i) (start C (i + 1)))
+      → IsometricOnTrack C (fromTo (record { rule = 1; low = start C i + C .D + changedWeight C i; high = start C (i + 1) }))
   unfolding IsometricOnTrack
   end-of-block i inside = (
     omega (arith, promise .start-next i (omega arith)),

@@ -80,5 +80,5 @@ module _ (C : Code) (promise : ChunkPromise C) where
 -- a bound may be loosened
 pub near-loosen : (answer : ReadAnswer) (position e e′ : ℕ) → e ≤ e′ → Near answer position e → Near answer position e′
 unfolding Near
-near-loosen (At q r rule) position e e′ h near = (omega arith, omega arith)
+near-loosen (At r) position e e′ h near = (omega arith, omega arith)
 near-loosen (Refused refusal) position e e′ h near = near

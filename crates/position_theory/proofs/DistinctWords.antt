@@ -71,7 +71,7 @@ module _ (C : Code) (promise : ChunkPromise C) where
   -- two positions that are no steps from one answer are one
   one-answer : (answer : ReadAnswer) (p q : ℕ) → Near answer p 0 → Near answer q 0 → p ≡ q
   unfolding Near
-  one-answer (At a r rule) p q near near′ = omega arith
+  one-answer (At r) p q near near′ = omega arith
   one-answer (Refused refusal) p q near near′ = absurd near
 
   -- so a word that is read with nothing turned gives back its position, and no other has it

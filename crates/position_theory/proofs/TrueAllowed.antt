@@ -13,7 +13,7 @@ use Rattle.bits.proofs.Numbers.{lt-or-le, eq-or-ne, by-test}
 use Rattle.model.specs.Card.{Code}
 use Rattle.model.specs.Order.{lastCodeword, changedWeight, blockLength, start, lastPosition}
 use Rattle.model.specs.Reading.{majority, chunk₁, separator₂, chunk₂, separator₃}
-use Rattle.model.specs.Reading.{rule₁, rule₂, rule₃, allowedBy, allowed}
+use Rattle.model.specs.Reading.{range₂, range₃, rule₁, rule₂, rule₃, allowedBy, allowed}
 use Rattle.code_theory.specs.Promise.{ChunkPromise}
 use Rattle.position_theory.proofs.Allowed.{Allows}
 use Rattle.position_theory.proofs.Blocks.{start-on-track}
@@ -32,9 +32,7 @@ module _ (C : Code) (x : ℕ → ℕ) (b c p position : ℕ) where
   unfolding allowed allowedBy rule₁ ReadsAs
   by-rule₁ s ne r low high =
       record {
-        rule = 1;
-        low = start C p + C .D + changedWeight C p;
-        high = start C (p + 1);
+        range = record { rule = 1; low = start C p + C .D + changedWeight C p; high = start C (p + 1) };
         is = simp (names-rule₁ s refl ne, r .1, ne-eqb (p + 1) 0 (omega arith), add-sub-cancel);
         from-low = low;
         to-high = high;
@@ -45,9 +43,7 @@ module _ (C : Code) (x : ℕ → ℕ) (b c p position : ℕ) where
   unfolding allowed allowedBy rule₂ ReadsAs
   by-rule₂ s ne r inside low high =
       record {
-        rule = 2;
-        low = start C p;
-        high = start C p + 2 * C .D + changedWeight C p;
+        range = range₂ C p;
         is = simp (names-rule₂ s ne refl, r .1, ne-eqb p (lastCodeword C) (omega arith));
         from-low = low;
         to-high = high;
@@ -59,9 +55,7 @@ module _ (C : Code) (x : ℕ → ℕ) (b p position : ℕ) where
   unfolding allowed allowedBy rule₃ ReadsAs
   by-rule₃ s r r′ low high on-track =
       record {
-        rule = 3;
-        low = start C p - C .D;
-        high = min (start C p + C .D) (lastPosition C);
+        range = range₃ C p;
         is = simp (names-rule₃ s refl refl, r .1, r′ .1, eq-eqb p p refl);
         from-low = omega arith;
         to-high = omega arith;

@@ -40,10 +40,10 @@ pub record WithinRadius (C : Code) (position : ℕ) (received : List ℕ) : Type
 
 -- an answer that is no refusal, whose position is at most e steps from this one
 unfoldable pub Near : ReadAnswer → (position e : ℕ) → Type 0
-Near (At answered residual rule) position e = (answered ≤ position + e) × (position ≤ answered + e)
+Near (At r) position e = (r .position ≤ position + e) × (position ≤ r .position + e)
 Near (Refused refusal) position e = ⊥
 
 -- the residual of an answer
 unfoldable pub residualOf : ReadAnswer → ℕ
-residualOf (At answered residual rule) = residual
+residualOf (At r) = r .residual
 residualOf (Refused refusal) = 0

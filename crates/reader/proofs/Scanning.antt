@@ -9,10 +9,9 @@ use borrow.Author.Tests.{lt-ltb, le-ltb}
 use Rattle.bits.specs.Searches.{leastAt}
 use Rattle.bits.proofs.Searches.{leastAt-next}
 use Rattle.model.specs.Card.{Code}
-use Rattle.model.specs.Reading.{fromTo, residual, nearest}
-use Rattle.model.specs.declared.ReadAnswer.the-variants.{At}
+use Rattle.model.specs.Reading.{Range, fromTo, residual, nearestIn, nearest}
 use Rattle.reader.specs.declared.scan.Scan.{Scan}
-use Rattle.reader.specs.Scanned.{Scanned}
+use Rattle.reader.specs.Scanned.{Scanned, foundAt}
 
 -- a search that stands at its first position
 pub scanned-first : (f : ℕ → ℕ) (low residual : ℕ) → residual ≡ f low
@@ -49,7 +48,7 @@ module _ (f : ℕ → ℕ) (s : Scan) (scanned : Scanned f s) (residual : ℕ) (
       }
 
 -- the answer of a search that has come from low to high
-pub answer-of-search : (C : Code) (x : ℕ → ℕ) (rule low high : ℕ) (s : Scan) → Scanned (residual C x) s → s .low ≡ low
-    → s .position ≡ high → At (s .best) (s .least) rule ≡ nearest C x (fromTo rule low high)
-unfolding nearest
-answer-of-search C x rule low high s scanned l h = rw (← l, ← h, ← (scanned .nearest), scanned .least)
+pub answer-of-search : (C : Code) (x : ℕ → ℕ) (range : Range) (s : Scan) → Scanned (residual C x) s → s .low ≡ range .low
+    → s .position ≡ range .high → foundAt s (range .rule) ≡ nearest C x (fromTo range)
+unfolding foundAt nearest nearestIn
+answer-of-search C x range s scanned l h = rw (← l, ← h, ← (scanned .nearest), scanned .least)

@@ -2,6 +2,8 @@
 use mathlib.Core.Path.{_≡_}
 use Prim.Native.Nat.{ℕ, _-_, _≤_}
 use Rattle.bits.specs.Searches.{leastAt}
+use Rattle.model.specs.declared.ReadAnswer.{ReadAnswer}
+use Rattle.model.specs.declared.ReadAnswer.the-variants.{At}
 use Rattle.reader.specs.declared.scan.Scan.{Scan}
 
 -- of the positions from low to the present one, best is the first at which f is least
@@ -10,3 +12,7 @@ pub record Scanned (f : ℕ → ℕ) (s : Scan) : Type 0 where
   pub here : s .residual ≡ f (s .position)
   pub nearest : s .best ≡ leastAt f (s .low) (s .position - s .low)
   pub least : s .least ≡ f (s .best)
+
+-- the answer of a search that has come to the last position that a rule allows
+unfoldable pub foundAt : Scan → (rule : ℕ) → ReadAnswer
+foundAt s rule = At (record { position = s .best; residual = s .least; rule = rule })

@@ -6,15 +6,16 @@ ghost use Rattle.bits.specs.Places.{place};
 ghost use Rattle.model.specs.Decoded.{meaning};
 ghost use Rattle.model.specs.Order.{lastCodeword, start};
 ghost use Rattle.model.specs.Words.{wordBits, word};
-ghost use Rattle.model.specs.Reading.{range₁, range₂, range₃, residual, nearest};
+ghost use Rattle.model.specs.Reading.{range₁, range₂, range₃, fromTo, residual, nearest};
 ghost use Rattle.code_theory.specs.Promise.{Sound};
 ghost use Rattle.reader.specs.Received.{NothingSpare, Begun};
-ghost use Rattle.reader.specs.Scanned.{Scanned};
+ghost use Rattle.reader.specs.Scanned.{Scanned, foundAt};
 ghost use Rattle.reader.specs.SearchReady.{PassedPlaces};
 use super::scan;
 use super::scan::Scan;
 use model::DecodedCode;
 use model::ReadAnswer;
+use model::Reading;
 use position::blocks;
 use position::hamming;
 use position::layout;
@@ -54,19 +55,19 @@ fn search_block(code: DecodedCode, x: [u8; 40], i: u32, at: u32, to: u32) -> Sca
 
 // The answer of a search that has come to the last allowed position.
 fn found(s: Scan, rule: u32) -> ReadAnswer
-    ensures { λ r. ⌜ r ≡ ReadAnswer.At (s .best) (s .least) rule ⌝ }
+    ensures { λ r. ⌜ r ≡ foundAt s rule ⌝ }
 {
-    ReadAnswer::At {
+    ReadAnswer::At(Reading {
         position: s.best,
         residual: s.least,
         rule,
-    }
+    })
 }
 
 // Rule 1, chunk 1 reading p: the nearest from r(p-1) + D + A(p-1), where separator 2 begins to change, to r(p).
 pub fn nearest_before(code: DecodedCode, x: [u8; 40], p: u32) -> ReadAnswer
     requires { ⌜ Sound (meaning code) × NothingSpare (meaning code) x × (1 ≤ p) × (p ≤ lastCodeword (meaning code)) ⌝ }
-    ensures { λ r. ⌜ r ≡ nearest (meaning code) (place x) (range₁ (meaning code) p) ⌝ }
+    ensures { λ r. ⌜ r ≡ nearest (meaning code) (place x) (fromTo (range₁ (meaning code) p)) ⌝ }
 {
     let at = layout::layout_of(code);
     found(search_block(code, x, p - 1, at.separator2, at.bits), 1)
@@ -75,7 +76,7 @@ pub fn nearest_before(code: DecodedCode, x: [u8; 40], p: u32) -> ReadAnswer
 // Rule 2, chunk 2 reading p: the nearest from r(p) to r(p) + 2D + A(p), where separator 2 has changed.
 pub fn nearest_after(code: DecodedCode, x: [u8; 40], p: u32) -> ReadAnswer
     requires { ⌜ Sound (meaning code) × NothingSpare (meaning code) x × (p < lastCodeword (meaning code)) ⌝ }
-    ensures { λ r. ⌜ r ≡ nearest (meaning code) (place x) (range₂ (meaning code) p) ⌝ }
+    ensures { λ r. ⌜ r ≡ nearest (meaning code) (place x) (fromTo (range₂ (meaning code) p)) ⌝ }
 {
     let at = layout::layout_of(code);
     found(search_block(code, x, p, 0, at.chunk2), 2)
@@ -106,7 +107,7 @@ fn search_after_start(code: DecodedCode, x: [u8; 40], p: u32, s: Scan) -> Scan
 // Rule 3, both chunks reading p: the nearest from r(p) - D to r(p) + D, cut to the track.
 pub fn nearest_around(code: DecodedCode, x: [u8; 40], p: u32) -> ReadAnswer
     requires { ⌜ Sound (meaning code) × NothingSpare (meaning code) x × (p ≤ lastCodeword (meaning code)) ⌝ }
-    ensures { λ r. ⌜ r ≡ nearest (meaning code) (place x) (range₃ (meaning code) p) ⌝ }
+    ensures { λ r. ⌜ r ≡ nearest (meaning code) (place x) (fromTo (range₃ (meaning code) p)) ⌝ }
 {
     let before = search_before_start(code, x, p);
     if p == blocks::last_codeword(code) {

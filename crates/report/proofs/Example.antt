@@ -11,7 +11,7 @@ use Rattle.model.specs.Card.{withinLimits, rowTooWide, unusedRowSet, unusedByte
 use Rattle.model.specs.Order.{gray, lastCodeword, codeword, changedRow, changedWeight, start, lastPosition}
 use Rattle.model.specs.Words.{fiveChunks, word, blockOf, wordAt}
 use Rattle.model.specs.Reading.{majority, chunkDistance, chunkReading, ruleOf, ruleNamed, rule₁, rule₂, rule₃}
-use Rattle.model.specs.Reading.{allowedBy, allowed, residual, nearest, reading}
+use Rattle.model.specs.Reading.{allowedBy, allowed, residual, nearestIn, nearest, reading}
 use Rattle.model.specs.Answers.{summaryOf, cardAnswer, spareSet, readWord}
 use Rattle.model.specs.Cases.{rowBytes, sealed, cardOf, cardB}
 use Rattle.report.specs.Text.{ascii, digitsWithin, decimal}
@@ -33,7 +33,7 @@ unfolding sumBelow distance joinAt
     gray lastCodeword codeword changedRow changedWeight start lastPosition
     fiveChunks word blockOf wordAt
     majority chunkDistance chunkReading ruleOf ruleNamed rule₁ rule₂ rule₃
-    allowedBy allowed residual nearest reading
+    allowedBy allowed residual nearestIn nearest reading
     summaryOf cardAnswer spareSet readWord
     rowBytes sealed cardOf cardB
     ascii digitsWithin decimal

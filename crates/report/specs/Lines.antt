@@ -29,8 +29,8 @@ cardLine (CardRefused refusal) = lastField "card refused " refusal
 
 -- the line of a word: its number, then position, residual and rule, or the refusal
 unfoldable pub wordLine : (number : ℕ) → ReadAnswer → List ℕ
-wordLine number (At position residual rule) =
-    decimal number ++ field " at " position ++ field " residual " residual ++ lastField " rule " rule
+wordLine number (At r) =
+    decimal number ++ field " at " (r .position) ++ field " residual " (r .residual) ++ lastField " rule " (r .rule)
 wordLine number (ReadRefused refusal) = decimal number ++ lastField " refused " refusal
 
 -- the line of the bytes short of a word at the end; no line where there is none

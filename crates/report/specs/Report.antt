@@ -34,7 +34,7 @@ wordLines C bytes met (suc m) = wordLines C bytes met m ++ wordLine (met + m + 1
 
 -- 1 for a word that is read, 0 for one that is refused
 unfoldable pub readCount : ReadAnswer → ℕ
-readCount (At position residual rule) = 1
+readCount (At r) = 1
 readCount (Refused refusal) = 0
 
 -- how many of the first m words of some bytes are read

@@ -33,14 +33,10 @@ pub fn put_word_line(out: &mut [u8], at: usize, number: u64, answer: ReadAnswer)
 {
     let answer_at = put_number(out, at, number);
     match answer {
-        ReadAnswer::At {
-            position,
-            residual,
-            rule,
-        } => {
-            let residual_at = put_field(out, answer_at, b" at ", position as u64);
-            let rule_at = put_field(out, residual_at, b" residual ", residual as u64);
-            put_last_field(out, rule_at, b" rule ", rule as u64)
+        ReadAnswer::At(read) => {
+            let residual_at = put_field(out, answer_at, b" at ", read.position as u64);
+            let rule_at = put_field(out, residual_at, b" residual ", read.residual as u64);
+            put_last_field(out, rule_at, b" rule ", read.rule as u64)
         }
         ReadAnswer::Refused(refusal) => put_last_field(
             out,

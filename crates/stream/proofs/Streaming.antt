@@ -30,7 +30,7 @@ text-at-front {out} {text} p = rw (p .bytes, p .place, zero-add) (take-append-se
 -- a word counts once at most
 count-low : (answer : ReadAnswer) → readCount answer < 2
 unfolding readCount
-count-low (At position residual rule) = omega arith
+count-low (At r) = omega arith
 count-low (Refused refusal) = omega arith
 
 -- before the first turn

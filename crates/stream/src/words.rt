@@ -19,11 +19,7 @@ fn read_count(answer: ReadAnswer) -> u64
     ensures { λ r. ⌜ (r ≡ readCount answer) × (r ≤ 1) ⌝ }
 {
     match answer {
-        ReadAnswer::At {
-            position: _,
-            residual: _,
-            rule: _,
-        } => 1,
+        ReadAnswer::At(_) => 1,
         ReadAnswer::Refused(_) => 0,
     }
 }

@@ -12,9 +12,9 @@ returns : tie.Need-returns
 unfolding ascii wordLine
 returns c =
     let rule = c .before .before in
-    let residual = rule .before .before .before .before .before in
-    let position = residual .before .before .before .before .before in
-    let arm = position .before .before .before .before in
+    let residual = rule .before .before .before .before .before .before in
+    let position = residual .before .before .before .before .before .before in
+    let arm = position .before .before .before .before .before in
     let number = arm .before .before .before .before in
     rw (arm .answer .given .1) (
       puts-then (omega arith)
