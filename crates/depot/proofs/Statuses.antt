@@ -12,8 +12,9 @@ use Rattle.bits.proofs.Numbers.{by-test}
 use Rattle.model.specs.Card.{Code, cardRefusal, codeOf}
 use Rattle.model.specs.Order.{lastCodeword, lastPosition, start}
 use Rattle.model.specs.Words.{millimetresOf}
-use Rattle.model.specs.Reading.{chunk₁, chunk₂, chunkReading, ruleOf, ruleNamed, range₁, range₂, range₃, rule₁, rule₂, rule₃}
-use Rattle.model.specs.Reading.{Range, Allowed, fromTo, refusedBy, allowedBy, allowed, residual, nearest, reading}
+use Rattle.model.specs.Reading.{Seen, seen, ruleOf, ruleSeen, ruleNamed, Range, range₁, range₂, range₃}
+use Rattle.model.specs.Reading.{Allowed, fromTo, refusedBy, twoEnds, byChunk, byBoth, allowedBy, allowedSeen, allowed}
+use Rattle.model.specs.Reading.{residual, nearest, reading}
 use Rattle.model.specs.Answers.{summaryOf, cardAnswer, cardFigures, writeRefusal, writeAnswer, startRefusal, startAnswer}
 use Rattle.model.specs.Answers.{millimetresRefusal, millimetresAnswer, wordLength, spareSet, readWord, readAnswer}
 use Rattle.model.specs.Answers.{refusalByRule, readRefusal, nearestPosition, readFigures}
@@ -89,10 +90,10 @@ millimetres-told card position =
 module _ (C : Code) (x : ℕ → ℕ) where
   -- the values, where the separators name this rule and so much is allowed
   abbrev figures : (rule : ℕ) → Allowed → List ℕ
-  figures rule a = nearestPosition C x a ∷ residual C x (nearestPosition C x a) ∷ rule ∷ []
+  figures rule a = nearestPosition (residual C x) a ∷ residual C x (nearestPosition (residual C x) a) ∷ rule ∷ []
 
   abbrev AllowedTold : (rule refusal : ℕ) → Allowed → Type 0
-  AllowedTold rule refusal a = Told readStatus readValues refusal (figures rule a) (nearest C x a)
+  AllowedTold rule refusal a = Told readStatus readValues refusal (figures rule a) (nearest (residual C x) a)
 
   some : (range : Range) → AllowedTold (range .rule) 0 (fromTo range)
   unfolding nearest nearestPosition readStatus readValues ifServed
@@ -102,52 +103,54 @@ module _ (C : Code) (x : ℕ → ℕ) where
   unfolding nearest readStatus readValues
   none rule refusal nonzero = (refl, none-served refusal _ nonzero)
 
-  abbrev ByRule : (rule : ℕ) (read₁ read₂ : Chunk) → Allowed → Type 0
-  ByRule rule read₁ read₂ = AllowedTold rule (refusalByRule C rule read₁ read₂)
+  -- what is seen of a word whose separators name this rule allows no more than its refusal says
+  abbrev ByRule : (rule : ℕ) → Seen → Allowed → Type 0
+  ByRule rule s = AllowedTold rule (refusalByRule C s rule)
 
-  by-rule₁ : (c c′ : Chunk) → ByRule 1 c c′ (rule₁ C c)
-  unfolding rule₁ refusalByRule chunkStatus chunkValues
-  by-rule₁ (Codeword p e) c′ = at-first (eqb p 0)
+  by-rule₁ : (s₁ s₂ s₃ : ℕ) (c c′ : Chunk)
+      → ByRule 1 (record { s₁ = s₁; s₂ = s₂; s₃ = s₃; read₁ = c; read₂ = c′ }) (byChunk (twoEnds C .rule₁) c)
+  unfolding twoEnds byChunk refusalByRule chunkStatus chunkValues
+  by-rule₁ s₁ s₂ s₃ (Codeword p e) c′ = at-first (eqb p 0)
     where
       at-first : (t : Bool) → AllowedTold 1 (cond (t || false) 12 0) (cond t (refusedBy 12) (fromTo (range₁ C p)))
       at-first true = none 1 12 refl
       at-first false = some (range₁ C p)
-  by-rule₁ Unreadable c′ = none 1 10 refl
+  by-rule₁ s₁ s₂ s₃ Unreadable c′ = none 1 10 refl
 
-  by-rule₂ : (c c′ : Chunk) → ByRule 2 c c′ (rule₂ C c′)
-  unfolding rule₂ refusalByRule chunkStatus chunkValues
-  by-rule₂ c (Codeword p e) = at-last (eqb p (lastCodeword C))
+  by-rule₂ : (s₁ s₂ s₃ : ℕ) (c c′ : Chunk)
+      → ByRule 2 (record { s₁ = s₁; s₂ = s₂; s₃ = s₃; read₁ = c; read₂ = c′ }) (byChunk (twoEnds C .rule₂) c′)
+  unfolding twoEnds byChunk refusalByRule chunkStatus chunkValues
+  by-rule₂ s₁ s₂ s₃ c (Codeword p e) = at-last (eqb p (lastCodeword C))
     where
       at-last : (t : Bool) → AllowedTold 2 (cond t 12 0) (cond t (refusedBy 12) (fromTo (range₂ C p)))
       at-last true = none 2 12 refl
       at-last false = some (range₂ C p)
-  by-rule₂ c Unreadable = none 2 10 refl
+  by-rule₂ s₁ s₂ s₃ c Unreadable = none 2 10 refl
 
-  by-rule₃ : (c c′ : Chunk) → ByRule 3 c c′ (rule₃ C c c′)
-  unfolding rule₃ refusalByRule chunkStatus chunkValues
-  by-rule₃ (Codeword p e) (Codeword q f) = at-same (eqb p q)
+  by-rule₃ : (s₁ s₂ s₃ : ℕ) (c c′ : Chunk)
+      → ByRule 3 (record { s₁ = s₁; s₂ = s₂; s₃ = s₃; read₁ = c; read₂ = c′ }) (byBoth (twoEnds C .rule₃) c c′)
+  unfolding twoEnds byBoth refusalByRule chunkStatus chunkValues
+  by-rule₃ s₁ s₂ s₃ (Codeword p e) (Codeword q f) = at-same (eqb p q)
     where
       at-same : (t : Bool) → AllowedTold 3 (cond (not t) 11 0) (cond t (fromTo (range₃ C p)) (refusedBy 11))
       at-same true = some (range₃ C p)
       at-same false = none 3 11 refl
-  by-rule₃ (Codeword p e) Unreadable = none 3 10 refl
-  by-rule₃ Unreadable (Codeword q f) = none 3 10 refl
-  by-rule₃ Unreadable Unreadable = none 3 10 refl
+  by-rule₃ s₁ s₂ s₃ (Codeword p e) Unreadable = none 3 10 refl
+  by-rule₃ s₁ s₂ s₃ Unreadable (Codeword q f) = none 3 10 refl
+  by-rule₃ s₁ s₂ s₃ Unreadable Unreadable = none 3 10 refl
+
+  no-rule : (s : Seen) → ByRule 0 s (allowedBy (twoEnds C) s 0)
+  unfolding refusalByRule allowedBy
+  no-rule s = none 0 9 refl
 
   -- for every rule that three separators can name, or none
-  abbrev ByRuleNamed : (rule : ℕ) → Type 0
-  ByRuleNamed rule = ByRule rule (chunkReading C (chunk₁ C x)) (chunkReading C (chunk₂ C x)) (allowedBy C x rule)
-
-  no-rule : ByRuleNamed 0
-  unfolding refusalByRule allowedBy
-  no-rule = none 0 9 refl
-
-  by-any-rule : (s₁ s₂ s₃ : ℕ) → ByRuleNamed (ruleOf s₁ s₂ s₃)
+  seen-told : (s : Seen) → ByRule (ruleSeen s) s (allowedSeen (twoEnds C) s)
   unfolding ruleOf allowedBy
-  by-any-rule s₁ s₂ s₃ =
-      by-test ByRuleNamed (eqb s₁ s₂)
-      (λ _. by-test ByRuleNamed (eqb s₂ s₃) (λ _. by-rule₃ _ _) (λ _. by-rule₁ _ _))
-      (λ _. by-test ByRuleNamed (eqb s₂ s₃) (λ _. by-rule₂ _ _) (λ _. no-rule))
+  seen-told s =
+      let ByRuleOf : ℕ → Type 0 = λ rule. ByRule rule s (allowedBy (twoEnds C) s rule) in
+      by-test ByRuleOf (eqb (s .s₁) (s .s₂))
+      (λ _. by-test ByRuleOf (eqb (s .s₂) (s .s₃)) (λ _. by-rule₃ _ _ _ _ _) (λ _. by-rule₁ _ _ _ _ _))
+      (λ _. by-test ByRuleOf (eqb (s .s₂) (s .s₃)) (λ _. by-rule₂ _ _ _ _ _) (λ _. no-rule s))
 
 -- a read, by the tests on the card, the length and the spare bits
 tests-told : (refusal by-rule : ℕ) (served : List ℕ) (read : ReadAnswer) → Told readStatus readValues by-rule served read
@@ -164,5 +167,5 @@ pub read-told : (card received : List ℕ)
     → Told readStatus readValues (readRefusal card received) (readFigures card received) (readAnswer card received)
 unfolding readAnswer readWord readRefusal readFigures reading allowed ruleNamed
 read-told card received =
-    tests-told (cardRefusal card) _ _ _ (by-any-rule (codeOf card) (place received) _ _ _)
+    tests-told (cardRefusal card) _ _ _ (seen-told (codeOf card) (place received) (seen (codeOf card) (place received)))
     (eqb (cardRefusal card) 0) (eqb (length received) (wordLength (codeOf card))) (spareSet (codeOf card) received) refl

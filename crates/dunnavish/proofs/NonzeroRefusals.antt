@@ -13,7 +13,8 @@ use Rattle.bits.proofs.Numbers.{by-test}
 use Rattle.model.specs.Card.{Code, cardRefusal, codeOf}
 use Rattle.model.specs.Order.{lastCodeword, lastPosition, start}
 use Rattle.model.specs.Words.{millimetresOf}
-use Rattle.model.specs.Reading.{Range, Allowed, fromTo, refusedBy, rule₁, rule₂, rule₃, allowedBy, allowed, nearest, reading}
+use Rattle.model.specs.Reading.{Seen, seen, ruleNamed, Range, range₁, range₂, range₃, Allowed, fromTo, refusedBy}
+use Rattle.model.specs.Reading.{twoEnds, byChunk, byBoth, allowedBy, allowed, residual, nearest, reading}
 use Rattle.model.specs.Answers.{wordLength, spareSet, cardAnswer, readWord, readAnswer, startAnswer, millimetresAnswer}
 use Rattle.model.specs.declared.Chunk.{Chunk}
 use Rattle.model.specs.declared.Chunk.the-variants.{Codeword, Unreadable}
@@ -72,10 +73,10 @@ unfoldable ReadNotByZero : ReadAnswer → Type 0
 ReadNotByZero (At r) = Unit {0}
 ReadNotByZero (ReadRefused refusal) = refusal ≡ 0 → ⊥
 
--- of a sound card, whatever the separators and the chunks allow
-module _ (C : Code) (x : ℕ → ℕ) where
+-- of a sound card, whatever is seen of the word
+module _ (C : Code) (residual : ℕ → ℕ) where
   abbrev AllowedNotByZero : Allowed → Type 0
-  AllowedNotByZero a = ReadNotByZero (nearest C x a)
+  AllowedNotByZero a = ReadNotByZero (nearest residual a)
 
   some : (range : Range) → AllowedNotByZero (fromTo range)
   unfolding nearest ReadNotByZero
@@ -85,33 +86,34 @@ module _ (C : Code) (x : ℕ → ℕ) where
   unfolding nearest ReadNotByZero
   none refusal nonzero = nonzero
 
-  by-rule₁ : (c : Chunk) → AllowedNotByZero (rule₁ C c)
-  unfolding rule₁
-  by-rule₁ (Codeword p e) = by-test AllowedNotByZero (eqb p 0) (λ _. none 12 (λ z. omega arith)) (λ _. some _)
-  by-rule₁ Unreadable = none 10 (λ z. omega arith)
+  by-chunk : (allows : ℕ → Allowed) → ((p : ℕ) → AllowedNotByZero (allows p)) → (c : Chunk) → AllowedNotByZero (byChunk allows c)
+  unfolding byChunk
+  by-chunk allows h (Codeword p e) = h p
+  by-chunk allows h Unreadable = none 10 (λ z. omega arith)
 
-  by-rule₂ : (c : Chunk) → AllowedNotByZero (rule₂ C c)
-  unfolding rule₂
-  by-rule₂ (Codeword p e) = by-test AllowedNotByZero (eqb p (lastCodeword C)) (λ _. none 12 (λ z. omega arith)) (λ _. some _)
-  by-rule₂ Unreadable = none 10 (λ z. omega arith)
+  by-both : (allows : ℕ → Allowed) → ((p : ℕ) → AllowedNotByZero (allows p)) → (c c′ : Chunk)
+      → AllowedNotByZero (byBoth allows c c′)
+  unfolding byBoth
+  by-both allows h (Codeword p e) (Codeword q f) = by-test AllowedNotByZero (eqb p q) (λ _. h p) (λ _. none 11 (λ z. omega arith))
+  by-both allows h (Codeword p e) Unreadable = none 10 (λ z. omega arith)
+  by-both allows h Unreadable (Codeword q f) = none 10 (λ z. omega arith)
+  by-both allows h Unreadable Unreadable = none 10 (λ z. omega arith)
 
-  by-rule₃ : (c c′ : Chunk) → AllowedNotByZero (rule₃ C c c′)
-  unfolding rule₃
-  by-rule₃ (Codeword p e) (Codeword q f) = by-test AllowedNotByZero (eqb p q) (λ _. some _) (λ _. none 11 (λ z. omega arith))
-  by-rule₃ (Codeword p e) Unreadable = none 10 (λ z. omega arith)
-  by-rule₃ Unreadable (Codeword q f) = none 10 (λ z. omega arith)
-  by-rule₃ Unreadable Unreadable = none 10 (λ z. omega arith)
+  unless-at-end : (end p : ℕ) (range : Range) → AllowedNotByZero (cond (eqb p end) (refusedBy 12) (fromTo range))
+  unless-at-end end p range = by-test AllowedNotByZero (eqb p end) (λ _. none 12 (λ z. omega arith)) (λ _. some range)
 
-  by-any-rule : (rule : ℕ) → AllowedNotByZero (allowedBy C x rule)
-  unfolding allowedBy
-  by-any-rule rule =
-      by-test AllowedNotByZero (eqb rule 1) (λ _. by-rule₁ _)
-      (λ _. by-test AllowedNotByZero (eqb rule 2) (λ _. by-rule₂ _)
-      (λ _. by-test AllowedNotByZero (eqb rule 3) (λ _. by-rule₃ _ _) (λ _. none 9 (λ z. omega arith))))
+  by-any-rule : (s : Seen) (rule : ℕ) → AllowedNotByZero (allowedBy (twoEnds C) s rule)
+  unfolding twoEnds allowedBy
+  by-any-rule s rule =
+      by-test AllowedNotByZero (eqb rule 1) (λ _. by-chunk (twoEnds C .rule₁) (λ p. unless-at-end 0 p (range₁ C p)) (s .read₁))
+      (λ _. by-test AllowedNotByZero (eqb rule 2)
+      (λ _. by-chunk (twoEnds C .rule₂) (λ p. unless-at-end (lastCodeword C) p (range₂ C p)) (s .read₂))
+      (λ _. by-test AllowedNotByZero (eqb rule 3) (λ _. by-both (twoEnds C .rule₃) (λ p. some (range₃ C p)) (s .read₁) (s .read₂))
+      (λ _. none 9 (λ z. omega arith))))
 
-  reading-not-by-zero : ReadNotByZero (reading C x)
-  unfolding reading allowed
-  reading-not-by-zero = by-any-rule _
+reading-not-by-zero : (C : Code) (x : ℕ → ℕ) → ReadNotByZero (reading C x)
+unfolding reading allowed
+reading-not-by-zero C x = by-any-rule C (residual C x) (seen C x) (ruleNamed C x)
 
 read-not-by-zero : (card received : List ℕ) → ReadNotByZero (readAnswer card received)
 unfolding readAnswer readWord ReadNotByZero

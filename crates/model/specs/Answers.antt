@@ -12,7 +12,7 @@ use Rattle.bits.specs.Searches.{anyBelow, first}
 use Rattle.model.specs.Card.{Code, cardRefusal, codeOf, radius, trackOf}
 use Rattle.model.specs.Order.{lastCodeword, lastPosition, start}
 use Rattle.model.specs.Words.{wordBits, wordBytes, millimetresOf}
-use Rattle.model.specs.Reading.{chunk₁, chunk₂, chunkDistance, chunkReading, ruleNamed}
+use Rattle.model.specs.Reading.{chunkDistance, Seen, seen, ruleSeen, ruleNamed}
 use Rattle.model.specs.Reading.{Allowed, fromTo, refusedBy, allowed, residual, nearestIn, reading}
 use Rattle.model.specs.Numbers.{chunkStatus, chunkValues}
 use Rattle.model.specs.declared.Chunk.{Chunk}
@@ -111,36 +111,40 @@ unreadable read = not (eqb (chunkStatus read) 0)
 abbrev pub codewordNumber : Chunk → ℕ
 codewordNumber read = getD (chunkValues read) 0 0
 
--- refusals 9 to 12, or 0, of a word whose separators name this rule (0 for none) and whose chunks read so
-unfoldable pub refusalByRule : Code → (rule : ℕ) (read₁ read₂ : Chunk) → ℕ
-refusalByRule C rule read₁ read₂ =
+-- refusals 9 to 12, or 0, of what is seen of a word whose separators name this rule (0 for none)
+unfoldable pub refusalByRule : Code → Seen → (rule : ℕ) → ℕ
+refusalByRule C s rule =
+    let p₁ : ℕ = codewordNumber (s .read₁) in
+    let p₂ : ℕ = codewordNumber (s .read₂) in
     cond (eqb rule 0) 9
-    (cond ((eqb rule 1 || eqb rule 3) && unreadable read₁ || (eqb rule 2 || eqb rule 3) && unreadable read₂) 10
-    (cond (eqb rule 3 && not (eqb (codewordNumber read₁) (codewordNumber read₂))) 11
-    (cond (eqb rule 1 && eqb (codewordNumber read₁) 0 || eqb rule 2 && eqb (codewordNumber read₂) (lastCodeword C)) 12
+    (cond ((eqb rule 1 || eqb rule 3) && unreadable (s .read₁) || (eqb rule 2 || eqb rule 3) && unreadable (s .read₂)) 10
+    (cond (eqb rule 3 && not (eqb p₁ p₂)) 11
+    (cond (eqb rule 1 && eqb p₁ 0 || eqb rule 2 && eqb p₂ (lastCodeword C)) 12
     0)))
+
+abbrev pub refusalSeen : Code → Seen → ℕ
+refusalSeen C s = refusalByRule C s (ruleSeen s)
 
 -- read: the refusal's number, or 0 where the word is read
 unfoldable pub readRefusal : (card received : List ℕ) → ℕ
 readRefusal card received =
     let C : Code = codeOf card in
-    let x : ℕ → ℕ = place received in
     cond (not (eqb (cardRefusal card) 0)) (cardRefusal card)
     (cond (not (eqb (length received) (wordLength C))) 6
     (cond (spareSet C received) 8
-    (refusalByRule C (ruleNamed C x) (chunkReading C (chunk₁ C x)) (chunkReading C (chunk₂ C x)))))
+    (refusalSeen C (seen C (place received)))))
 
--- the allowed position whose word has fewest bits unlike x, the smallest on a tie (0 where none is allowed, which means nothing)
-unfoldable pub nearestPosition : Code → (x : ℕ → ℕ) → Allowed → ℕ
-nearestPosition C x (fromTo range) = nearestIn (residual C x) range
-nearestPosition C x (refusedBy refusal) = 0
+-- the allowed position whose residual is least, the smallest on a tie (0 where none is allowed, which means nothing)
+unfoldable pub nearestPosition : (residual : ℕ → ℕ) → Allowed → ℕ
+nearestPosition residual (fromTo range) = nearestIn residual range
+nearestPosition residual (refusedBy refusal) = 0
 
 -- the values of a word that is read: the nearest allowed position, its residual, and the rule that the separators name
 unfoldable pub readFigures : (card received : List ℕ) → List ℕ
 readFigures card received =
     let C : Code = codeOf card in
     let x : ℕ → ℕ = place received in
-    let position : ℕ = nearestPosition C x (allowed C x) in position ∷ residual C x position ∷ ruleNamed C x ∷ []
+    let position : ℕ = nearestPosition (residual C x) (allowed C x) in position ∷ residual C x position ∷ ruleNamed C x ∷ []
 
 -- block start: the refusal's number, or 0
 unfoldable pub startRefusal : (card : List ℕ) (block : ℕ) → ℕ

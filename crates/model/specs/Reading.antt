@@ -41,13 +41,36 @@ chunkReading C x =
     let p = first (λ i. leb (chunkDistance C x i) (radius C)) (2 ^ C .k) in
     cond (ltb p (2 ^ C .k)) (Codeword p (chunkDistance C x p)) Unreadable
 
+-- What is seen of a word: what its three separators read, 0 or 1 each, and what either code chunk reads as. The rule and the
+-- positions that it allows go by this alone.
+pub record Seen : Type 0 where
+  pub s₁ : ℕ
+  pub s₂ : ℕ
+  pub s₃ : ℕ
+  pub read₁ : Chunk
+  pub read₂ : Chunk
+
+-- what is seen of a received word's bits
+unfoldable pub seen : Code → (x : ℕ → ℕ) → Seen
+seen C x =
+    record {
+      s₁ = majority (C .D) x;
+      s₂ = majority (C .D) (separator₂ C x);
+      s₃ = majority (C .D) (separator₃ C x);
+      read₁ = chunkReading C (chunk₁ C x);
+      read₂ = chunkReading C (chunk₂ C x);
+    }
+
 -- the rule that three separators name: 1 for b b c, 2 for b c c, 3 for b b b, and 0 for b c b
 unfoldable pub ruleOf : (s₁ s₂ s₃ : ℕ) → ℕ
 ruleOf s₁ s₂ s₃ = cond (eqb s₁ s₂) (cond (eqb s₂ s₃) 3 1) (cond (eqb s₂ s₃) 2 0)
 
--- the rule that a word's separators name
+-- the rule that the separators seen name, and so those of a received word's bits
+abbrev pub ruleSeen : Seen → ℕ
+ruleSeen s = ruleOf (s .s₁) (s .s₂) (s .s₃)
+
 unfoldable pub ruleNamed : Code → (x : ℕ → ℕ) → ℕ
-ruleNamed C x = ruleOf (majority (C .D) x) (majority (C .D) (separator₂ C x)) (majority (C .D) (separator₃ C x))
+ruleNamed C x = ruleSeen (seen C x)
 
 -- the positions that a rule allows: from low to high, ends included
 pub record Range : Type 0 where
@@ -64,42 +87,54 @@ pub data Allowed : Type 0 where
 abbrev pub range₁ : Code → (p : ℕ) → Range
 range₁ C p = record { rule = 1; low = start C (p - 1) + C .D + changedWeight C (p - 1); high = start C p }
 
--- what chunk 1 allows by it, refusals included
-unfoldable pub rule₁ : Code → (read₁ : Chunk) → Allowed
-rule₁ C (Codeword p e) = cond (eqb p 0) (refusedBy 12) (fromTo (range₁ C p))
-rule₁ C Unreadable = refusedBy 10
-
 -- rule 2: chunk 2 reads p; allowed are r(p) to r(p) + 2D + A(p)
 abbrev pub range₂ : Code → (p : ℕ) → Range
 range₂ C p = record { rule = 2; low = start C p; high = start C p + 2 * C .D + changedWeight C p }
-
--- what chunk 2 allows by it, refusals included
-unfoldable pub rule₂ : Code → (read₂ : Chunk) → Allowed
-rule₂ C (Codeword p e) = cond (eqb p (lastCodeword C)) (refusedBy 12) (fromTo (range₂ C p))
-rule₂ C Unreadable = refusedBy 10
 
 -- rule 3: both chunks read the same p; allowed are r(p) - D to r(p) + D, cut to 0 and the last position
 abbrev pub range₃ : Code → (p : ℕ) → Range
 range₃ C p = record { rule = 3; low = start C p - C .D; high = min (start C p + C .D) (lastPosition C) }
 
--- what the two chunks allow by it, refusals included
-unfoldable pub rule₃ : Code → (read₁ read₂ : Chunk) → Allowed
-rule₃ C (Codeword p e) (Codeword q f) = cond (eqb p q) (fromTo (range₃ C p)) (refusedBy 11)
-rule₃ C (Codeword p e) Unreadable = refusedBy 10
-rule₃ C Unreadable (Codeword q f) = refusedBy 10
-rule₃ C Unreadable Unreadable = refusedBy 10
+-- what each rule allows where its chunks read p
+pub record Rules : Type 0 where
+  pub rule₁ : (p : ℕ) → Allowed
+  pub rule₂ : (p : ℕ) → Allowed
+  pub rule₃ : (p : ℕ) → Allowed
+
+-- on a track with two ends: there is no block before the first codeword, and none after the last
+unfoldable pub twoEnds : Code → Rules
+twoEnds C =
+    record {
+      rule₁ = λ p. cond (eqb p 0) (refusedBy 12) (fromTo (range₁ C p));
+      rule₂ = λ p. cond (eqb p (lastCodeword C)) (refusedBy 12) (fromTo (range₂ C p));
+      rule₃ = λ p. fromTo (range₃ C p);
+    }
+
+-- what a rule allows that names one chunk, and what one allows that names both
+unfoldable pub byChunk : (allows : ℕ → Allowed) (read : Chunk) → Allowed
+byChunk allows (Codeword p e) = allows p
+byChunk allows Unreadable = refusedBy 10
+
+unfoldable pub byBoth : (allows : ℕ → Allowed) (read₁ read₂ : Chunk) → Allowed
+byBoth allows (Codeword p e) (Codeword q f) = cond (eqb p q) (allows p) (refusedBy 11)
+byBoth allows (Codeword p e) Unreadable = refusedBy 10
+byBoth allows Unreadable (Codeword q f) = refusedBy 10
+byBoth allows Unreadable Unreadable = refusedBy 10
 
 -- what the rule with this number allows, or refusal 9 if it is 0; only the code chunks that the rule names are read
-unfoldable pub allowedBy : Code → (x : ℕ → ℕ) (rule : ℕ) → Allowed
-allowedBy C x rule =
-    cond (eqb rule 1) (rule₁ C (chunkReading C (chunk₁ C x)))
-    (cond (eqb rule 2) (rule₂ C (chunkReading C (chunk₂ C x)))
-    (cond (eqb rule 3) (rule₃ C (chunkReading C (chunk₁ C x)) (chunkReading C (chunk₂ C x)))
+unfoldable pub allowedBy : Rules → Seen → (rule : ℕ) → Allowed
+allowedBy R s rule =
+    cond (eqb rule 1) (byChunk (R .rule₁) (s .read₁))
+    (cond (eqb rule 2) (byChunk (R .rule₂) (s .read₂))
+    (cond (eqb rule 3) (byBoth (R .rule₃) (s .read₁) (s .read₂))
     (refusedBy 9)))
 
--- what the word's separators and chunks allow
+-- what the separators and chunks seen allow, and so those of a received word's bits, on a track with two ends
+abbrev pub allowedSeen : Rules → Seen → Allowed
+allowedSeen R s = allowedBy R s (ruleSeen s)
+
 unfoldable pub allowed : Code → (x : ℕ → ℕ) → Allowed
-allowed C x = allowedBy C x (ruleNamed C x)
+allowed C x = allowedBy (twoEnds C) (seen C x) (ruleNamed C x)
 
 -- the residual of a position: in how many of all d bits its word is unlike the received word
 unfoldable pub residual : Code → (x : ℕ → ℕ) (position : ℕ) → ℕ
@@ -110,12 +145,12 @@ unfoldable pub nearestIn : (residual : ℕ → ℕ) → Range → ℕ
 nearestIn residual range = leastAt residual (range .low) (range .high - range .low)
 
 -- the allowed position whose word has fewest bits unlike the received word, the smallest on a tie; that count; and the rule
-unfoldable pub nearest : Code → (x : ℕ → ℕ) → Allowed → ReadAnswer
-nearest C x (fromTo range) =
-    let position : ℕ = nearestIn (residual C x) range in
-    At (record { position = position; residual = residual C x position; rule = range .rule })
-nearest C x (refusedBy refusal) = Refused refusal
+unfoldable pub nearest : (residual : ℕ → ℕ) → Allowed → ReadAnswer
+nearest residual (fromTo range) =
+    let position : ℕ = nearestIn residual range in
+    At (record { position = position; residual = residual position; rule = range .rule })
+nearest residual (refusedBy refusal) = Refused refusal
 
 -- the reading of a received word, given as a bit function
 unfoldable pub reading : Code → (x : ℕ → ℕ) → ReadAnswer
-reading C x = nearest C x (allowed C x)
+reading C x = nearest (residual C x) (allowed C x)

@@ -9,8 +9,8 @@ use borrow.Author.Tests.{eqb-false}
 use Rattle.bits.proofs.Numbers.{by-test}
 use Rattle.model.specs.Card.{Code}
 use Rattle.model.specs.Order.{lastCodeword, changedWeight, start, lastPosition}
-use Rattle.model.specs.Reading.{chunkReading, chunk₁, chunk₂, Range, Allowed, fromTo, refusedBy}
-use Rattle.model.specs.Reading.{rule₁, rule₂, rule₃, allowedBy, ruleNamed, allowed}
+use Rattle.model.specs.Reading.{Seen, seen, ruleSeen, ruleNamed, Range, Allowed, fromTo, refusedBy}
+use Rattle.model.specs.Reading.{twoEnds, byChunk, byBoth, allowedBy, allowedSeen, allowed}
 use Rattle.model.specs.declared.Chunk.{Chunk}
 use Rattle.model.specs.declared.Chunk.the-variants.{Codeword, Unreadable}
 use Rattle.code_theory.specs.Promise.{ChunkPromise}
@@ -30,6 +30,10 @@ pub record Allows (C : Code) (x : ℕ → ℕ) (position : ℕ) : Type 0 where
   pub from-low : range .low ≤ position
   pub to-high : position ≤ range .high
 
+-- a chunk reads as a codeword of the code, if any
+abbrev OfCode : Code → Chunk → Type 0
+OfCode C read = (p e : ℕ) → read ≡ Codeword p e → p ≤ lastCodeword C
+
 module _ (C : Code) (promise : ChunkPromise C) where
   -- rule 1: the part of block i from offset D + A(i) on
   end-of-block : (i : ℕ) → i + 1 ≤ lastCodeword C
@@ -41,8 +45,8 @@ module _ (C : Code) (promise : ChunkPromise C) where
     isometric-part C (start C i) (start C (i + 1)) (isometric-block C promise i (omega arith)) (omega arith) (omega arith),
   )
 
-  rule₁-isometric : (c : Chunk) → ((p e : ℕ) → c ≡ Codeword p e → p ≤ lastCodeword C) → IsometricOnTrack C (rule₁ C c)
-  unfolding rule₁ IsometricOnTrack
+  rule₁-isometric : (c : Chunk) → OfCode C c → IsometricOnTrack C (byChunk (twoEnds C .rule₁) c)
+  unfolding twoEnds byChunk IsometricOnTrack
   rule₁-isometric (Codeword p e) h =
       by-test (IsometricOnTrack C) (eqb p 0) (λ _. tt)
       (λ f.
@@ -53,8 +57,8 @@ module _ (C : Code) (promise : ChunkPromise C) where
   rule₁-isometric Unreadable h = tt
 
   -- rule 2: the part of block p up to offset 2D + A(p)
-  rule₂-isometric : (c : Chunk) → ((p e : ℕ) → c ≡ Codeword p e → p ≤ lastCodeword C) → IsometricOnTrack C (rule₂ C c)
-  unfolding rule₂ IsometricOnTrack
+  rule₂-isometric : (c : Chunk) → OfCode C c → IsometricOnTrack C (byChunk (twoEnds C .rule₂) c)
+  unfolding twoEnds byChunk IsometricOnTrack
   rule₂-isometric (Codeword p e) h =
       by-test (IsometricOnTrack C) (eqb p (lastCodeword C)) (λ _. tt)
       (λ f.
@@ -67,8 +71,8 @@ module _ (C : Code) (promise : ChunkPromise C) where
   rule₂-isometric Unreadable h = tt
 
   -- rule 3: the positions within D steps of a start
-  rule₃-isometric : (c c′ : Chunk) → ((p e : ℕ) → c ≡ Codeword p e → p ≤ lastCodeword C) → IsometricOnTrack C (rule₃ C c c′)
-  unfolding rule₃ IsometricOnTrack
+  rule₃-isometric : (c c′ : Chunk) → OfCode C c → IsometricOnTrack C (byBoth (twoEnds C .rule₃) c c′)
+  unfolding twoEnds byBoth IsometricOnTrack
   rule₃-isometric (Codeword p e) (Codeword q f) h =
       by-test (IsometricOnTrack C) (eqb p q)
       (λ _. (omega (arith, start-on-track C promise p (h p e refl)), omega arith, isometric-around C promise p (h p e refl)))
@@ -77,16 +81,16 @@ module _ (C : Code) (promise : ChunkPromise C) where
   rule₃-isometric Unreadable (Codeword q f) h = tt
   rule₃-isometric Unreadable Unreadable h = tt
 
-  pub allowed-isometric : (x : ℕ → ℕ) → IsometricOnTrack C (allowed C x)
-  unfolding allowed allowedBy IsometricOnTrack
-  allowed-isometric x =
-      by-test (IsometricOnTrack C) (eqb rule 1) (λ _. rule₁-isometric _ (codeword-of (chunk₁ C x)))
-      (λ _. by-test (IsometricOnTrack C) (eqb rule 2) (λ _. rule₂-isometric _ (codeword-of (chunk₂ C x)))
-      (λ _. by-test (IsometricOnTrack C) (eqb rule 3) (λ _. rule₃-isometric _ _ (codeword-of (chunk₁ C x)))
+  -- whatever is seen, as long as a chunk reads as codewords of the code only
+  pub seen-isometric : (s : Seen) → OfCode C (s .read₁) → OfCode C (s .read₂) → IsometricOnTrack C (allowedSeen (twoEnds C) s)
+  unfolding allowedBy IsometricOnTrack
+  seen-isometric s h₁ h₂ =
+      by-test (IsometricOnTrack C) (eqb (ruleSeen s) 1) (λ _. rule₁-isometric _ h₁)
+      (λ _. by-test (IsometricOnTrack C) (eqb (ruleSeen s) 2) (λ _. rule₂-isometric _ h₂)
+      (λ _. by-test (IsometricOnTrack C) (eqb (ruleSeen s) 3) (λ _. rule₃-isometric _ _ h₁)
       (λ _. tt)))
-    where
-      rule : ℕ
-      rule = ruleNamed C x
 
-      codeword-of : (chunk : ℕ → ℕ) (p e : ℕ) → chunkReading C chunk ≡ Codeword p e → p ≤ lastCodeword C
-      codeword-of chunk p e r = promise .chunks .within chunk p e r .0
+  pub allowed-isometric : (x : ℕ → ℕ) → IsometricOnTrack C (allowed C x)
+  unfolding allowed ruleNamed seen
+  allowed-isometric x =
+      seen-isometric (seen C x) (λ p e r. promise .chunks .within _ p e r .0) (λ p e r. promise .chunks .within _ p e r .0)

@@ -61,7 +61,7 @@ module _ (C : Code) (promise : ChunkPromise C) (x : ℕ → ℕ) where
         none-smaller = least .none-smaller;
       }
 
-  reading-of : (a : Allowed) → allowed C x ≡ a → IsReading C x (nearest C x a)
+  reading-of : (a : Allowed) → allowed C x ≡ a → IsReading C x (nearest (residual C x) a)
   unfolding nearest IsReading IsometricOnTrack
   reading-of (fromTo range) is = nearest-is range is (allowed-range range is .0) (allowed-range range is .1)
   reading-of (refusedBy refusal) is = is

@@ -13,7 +13,7 @@ use Rattle.bits.proofs.Numbers.{lt-or-le, eq-or-ne, by-test}
 use Rattle.model.specs.Card.{Code}
 use Rattle.model.specs.Order.{lastCodeword, changedWeight, blockLength, start, lastPosition}
 use Rattle.model.specs.Reading.{majority, chunk₁, separator₂, chunk₂, separator₃}
-use Rattle.model.specs.Reading.{range₂, range₃, rule₁, rule₂, rule₃, allowedBy, allowed}
+use Rattle.model.specs.Reading.{range₂, range₃, seen, twoEnds, byChunk, byBoth, allowedBy, allowed}
 use Rattle.code_theory.specs.Promise.{ChunkPromise}
 use Rattle.position_theory.proofs.Allowed.{Allows}
 use Rattle.position_theory.proofs.Blocks.{start-on-track}
@@ -29,7 +29,7 @@ majority-bit D y = by-test (λ b. b < 2) (ltb D (2 * sumBelow y D)) (λ _. omega
 module _ (C : Code) (x : ℕ → ℕ) (b c p position : ℕ) where
   by-rule₁ : SeparatorsRead C x b b c → (b ≡ c → ⊥) → ReadsAs C (chunk₁ C x) (p + 1)
       → start C p + C .D + changedWeight C p ≤ position → position ≤ start C (p + 1) → Allows C x position
-  unfolding allowed allowedBy rule₁ ReadsAs
+  unfolding allowed allowedBy twoEnds seen byChunk ReadsAs
   by-rule₁ s ne r low high =
       record {
         range = record { rule = 1; low = start C p + C .D + changedWeight C p; high = start C (p + 1) };
@@ -40,7 +40,7 @@ module _ (C : Code) (x : ℕ → ℕ) (b c p position : ℕ) where
 
   by-rule₂ : SeparatorsRead C x b c c → (b ≡ c → ⊥) → ReadsAs C (chunk₂ C x) p → p < lastCodeword C
       → start C p ≤ position → position ≤ start C p + 2 * C .D + changedWeight C p → Allows C x position
-  unfolding allowed allowedBy rule₂ ReadsAs
+  unfolding allowed allowedBy twoEnds seen byChunk ReadsAs
   by-rule₂ s ne r inside low high =
       record {
         range = range₂ C p;
@@ -52,7 +52,7 @@ module _ (C : Code) (x : ℕ → ℕ) (b c p position : ℕ) where
 module _ (C : Code) (x : ℕ → ℕ) (b p position : ℕ) where
   by-rule₃ : SeparatorsRead C x b b b → ReadsAs C (chunk₁ C x) p → ReadsAs C (chunk₂ C x) p
       → start C p ≤ position + C .D → position ≤ start C p + C .D → position ≤ lastPosition C → Allows C x position
-  unfolding allowed allowedBy rule₃ ReadsAs
+  unfolding allowed allowedBy twoEnds seen byBoth ReadsAs
   by-rule₃ s r r′ low high on-track =
       record {
         range = range₃ C p;

@@ -4,7 +4,7 @@ use mathlib.Core.Path.{_≡_, refl}
 use Prim.Native.Nat.{ℕ}
 use Rattle.bits.specs.Sums.{from}
 use Rattle.model.specs.Card.{Code}
-use Rattle.model.specs.Reading.{chunkReading, rule₃, nearest}
+use Rattle.model.specs.Reading.{chunkReading, Allowed, byBoth, nearest}
 use Rattle.model.specs.declared.Chunk.{Chunk}
 use Rattle.model.specs.declared.Chunk.the-variants.{Codeword, Unreadable}
 use Rattle.model.specs.declared.ReadAnswer.the-variants.{Refused}
@@ -12,7 +12,8 @@ use Rattle.model.specs.declared.ReadAnswer.the-variants.{Refused}
 pub read-from : (C : Code) (x : ℕ → ℕ) (at there : ℕ) → at ≡ there → chunkReading C (from at x) ≡ chunkReading C (from there x)
 read-from C x at there e = rw e
 
-pub unreadable-first : (C : Code) (x : ℕ → ℕ) (second : Chunk) → Refused 10 ≡ nearest C x (rule₃ C Unreadable second)
-unfolding nearest rule₃
-unreadable-first C x (Codeword p e) = refl
-unreadable-first C x Unreadable = refl
+pub unreadable-first : (residual : ℕ → ℕ) (allows : ℕ → Allowed) (second : Chunk)
+    → Refused 10 ≡ nearest residual (byBoth allows Unreadable second)
+unfolding nearest byBoth
+unreadable-first residual allows (Codeword p e) = refl
+unreadable-first residual allows Unreadable = refl

@@ -13,7 +13,7 @@ use Rattle.bits.specs.Places.{place}
 use Rattle.bits.proofs.Numbers.{eq-or-ne}
 use Rattle.model.specs.Answers.{wordLength, spareSet, readWord}
 use Rattle.model.specs.Card.{Code}
-use Rattle.model.specs.Reading.{ruleNamed, allowedBy, allowed, nearest, reading}
+use Rattle.model.specs.Reading.{seen, ruleNamed, twoEnds, allowedBy, allowed, residual, nearest, reading}
 use Rattle.model.specs.declared.ReadAnswer.the-variants.{Refused}
 use Rattle.chunk.specs.FirstRefusal.{refusalIf, firstOf}
 use Rattle.chunk.proofs.FirstRefusal.{none-by-tests}
@@ -45,7 +45,7 @@ module _ (C : Code) (received : List ℕ) (whole : length received ≡ wordLengt
   first-refused refusal is ne = rw (eq-eqb (length received) (wordLength C) whole) (by-spare (spareSet C received) is)
     where
       by-spare : (t : Bool) → refusal ≡ firstOf (refusalIf t 8) (refusalIf (eqb (ruleNamed C (place received)) 0) 9)
-          → Refused refusal ≡ cond t (Refused 8) (nearest C (place received) (allowedBy C (place received) (ruleNamed C (place received))))
+          → Refused refusal ≡ cond t (Refused 8) (nearest (residual C (place received)) (allowed C (place received)))
       by-spare true = λ e. rw e
       by-spare false =
           ⊎-elim
@@ -55,6 +55,7 @@ module _ (C : Code) (received : List ℕ) (whole : length received ≡ wordLengt
           (eq-or-ne (ruleNamed C (place received)) 0)
 
   pub read-by-rule : spareSet C received ≡ false
-      → nearest C (place received) (allowedBy C (place received) (ruleNamed C (place received))) ≡ readWord C received
+      → nearest (residual C (place received)) (allowedBy (twoEnds C) (seen C (place received)) (ruleNamed C (place received)))
+      ≡ readWord C received
   unfolding reading allowed
   read-by-rule none = sym (read-if-whole C received whole none)

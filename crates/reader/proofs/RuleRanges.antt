@@ -10,7 +10,7 @@ use Rattle.bits.specs.Places.{place}
 use Rattle.model.specs.Card.{Code}
 use Rattle.model.specs.Order.{lastCodeword, start, lastPosition}
 use Rattle.model.specs.Words.{wordBits, word}
-use Rattle.model.specs.Reading.{range₁, range₂, fromTo, nearest}
+use Rattle.model.specs.Reading.{range₁, range₂, fromTo, residual, nearest}
 use Rattle.code_theory.specs.Promise.{Sound}
 use Rattle.code_theory.proofs.Promise.{promise}
 use Rattle.position_theory.proofs.Words.{apart, apart-separator₁, apart-chunk₁, apart-separator₂, apart-chunk₂}
@@ -31,7 +31,7 @@ module _ (C : Code) (sound : Sound C) (i : ℕ) (inside : i < lastCodeword C) (x
   past-separator₁ passed = passed .position-is ∙ omega (arith, apart-separator₁ C i)
 
   pub rule₁-answer : (at to : ℕ) → at ≡ C .D + C .n → to ≡ wordBits C → s .low ≡ start C i + distance at (word C i) (word C (i + 1))
-      → PassedPlaces C i x to s → (p : ℕ) → p ≡ i + 1 → foundAt s 1 ≡ nearest C (place x) (fromTo (range₁ C p))
+      → PassedPlaces C i x to s → (p : ℕ) → p ≡ i + 1 → foundAt s 1 ≡ nearest (residual C (place x)) (fromTo (range₁ C p))
   rule₁-answer at to is-separator₂ is-end low passed p next =
       let block : p - 1 ≡ i = omega arith in
       rw (block, next)
@@ -39,7 +39,7 @@ module _ (C : Code) (sound : Sound C) (i : ℕ) (inside : i < lastCodeword C) (x
       (rw is-separator₂ at low ∙ omega (arith, apart-chunk₁ C (promise C sound) i inside)) (at-next-start (rw is-end at passed)))
 
   pub rule₂-answer : (to : ℕ) → to ≡ C .D + C .n + C .D → s .low ≡ start C i + distance 0 (word C i) (word C (i + 1))
-      → PassedPlaces C i x to s → foundAt s 2 ≡ nearest C (place x) (fromTo (range₂ C i))
+      → PassedPlaces C i x to s → foundAt s 2 ≡ nearest (residual C (place x)) (fromTo (range₂ C i))
   unfolding distance sumBelow
   rule₂-answer to is-chunk₂ low passed =
       answer-of-search C (place x) (range₂ C i) s (passed .scanned) (low ∙ omega arith)

@@ -49,6 +49,6 @@ module _ (f : ℕ → ℕ) (s : Scan) (scanned : Scanned f s) (residual : ℕ) (
 
 -- the answer of a search that has come from low to high
 pub answer-of-search : (C : Code) (x : ℕ → ℕ) (range : Range) (s : Scan) → Scanned (residual C x) s → s .low ≡ range .low
-    → s .position ≡ range .high → foundAt s (range .rule) ≡ nearest C x (fromTo range)
+    → s .position ≡ range .high → foundAt s (range .rule) ≡ nearest (residual C x) (fromTo range)
 unfolding foundAt nearest nearestIn
 answer-of-search C x range s scanned l h = rw (← l, ← h, ← (scanned .nearest), scanned .least)

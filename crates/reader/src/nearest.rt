@@ -67,7 +67,7 @@ fn found(s: Scan, rule: u32) -> ReadAnswer
 // Rule 1, chunk 1 reading p: the nearest from r(p-1) + D + A(p-1), where separator 2 begins to change, to r(p).
 pub fn nearest_before(code: DecodedCode, x: [u8; 40], p: u32) -> ReadAnswer
     requires { ⌜ Sound (meaning code) × NothingSpare (meaning code) x × (1 ≤ p) × (p ≤ lastCodeword (meaning code)) ⌝ }
-    ensures { λ r. ⌜ r ≡ nearest (meaning code) (place x) (fromTo (range₁ (meaning code) p)) ⌝ }
+    ensures { λ r. ⌜ r ≡ nearest (residual (meaning code) (place x)) (fromTo (range₁ (meaning code) p)) ⌝ }
 {
     let at = layout::layout_of(code);
     found(search_block(code, x, p - 1, at.separator2, at.bits), 1)
@@ -76,7 +76,7 @@ pub fn nearest_before(code: DecodedCode, x: [u8; 40], p: u32) -> ReadAnswer
 // Rule 2, chunk 2 reading p: the nearest from r(p) to r(p) + 2D + A(p), where separator 2 has changed.
 pub fn nearest_after(code: DecodedCode, x: [u8; 40], p: u32) -> ReadAnswer
     requires { ⌜ Sound (meaning code) × NothingSpare (meaning code) x × (p < lastCodeword (meaning code)) ⌝ }
-    ensures { λ r. ⌜ r ≡ nearest (meaning code) (place x) (fromTo (range₂ (meaning code) p)) ⌝ }
+    ensures { λ r. ⌜ r ≡ nearest (residual (meaning code) (place x)) (fromTo (range₂ (meaning code) p)) ⌝ }
 {
     let at = layout::layout_of(code);
     found(search_block(code, x, p, 0, at.chunk2), 2)
@@ -107,7 +107,7 @@ fn search_after_start(code: DecodedCode, x: [u8; 40], p: u32, s: Scan) -> Scan
 // Rule 3, both chunks reading p: the nearest from r(p) - D to r(p) + D, cut to the track.
 pub fn nearest_around(code: DecodedCode, x: [u8; 40], p: u32) -> ReadAnswer
     requires { ⌜ Sound (meaning code) × NothingSpare (meaning code) x × (p ≤ lastCodeword (meaning code)) ⌝ }
-    ensures { λ r. ⌜ r ≡ nearest (meaning code) (place x) (fromTo (range₃ (meaning code) p)) ⌝ }
+    ensures { λ r. ⌜ r ≡ nearest (residual (meaning code) (place x)) (fromTo (range₃ (meaning code) p)) ⌝ }
 {
     let before = search_before_start(code, x, p);
     if p == blocks::last_codeword(code) {

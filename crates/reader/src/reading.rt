@@ -6,7 +6,8 @@ ghost use Rattle.bits.specs.Places.{place};
 ghost use Rattle.model.specs.Answers.{readWord};
 ghost use Rattle.model.specs.Decoded.{meaning};
 ghost use Rattle.model.specs.Words.{wordBits};
-ghost use Rattle.model.specs.Reading.{chunkReading, chunk₁, chunk₂, rule₁, rule₂, rule₃, allowedBy, ruleNamed, nearest};
+ghost use Rattle.model.specs.Reading.{chunkReading, chunk₁, chunk₂, seen, twoEnds, byChunk, byBoth, allowedBy, ruleNamed};
+ghost use Rattle.model.specs.Reading.{residual, nearest};
 ghost use Rattle.code_theory.specs.Promise.{Sound};
 ghost use Rattle.reader.specs.Received.{NothingSpare};
 use super::nearest;
@@ -31,7 +32,7 @@ fn chunk_reading(code: DecodedCode, x: [u8; 40], at: u32) -> Chunk
 // What rule 1 answers: it reads chunk 1.
 fn by_rule1(code: DecodedCode, x: [u8; 40]) -> ReadAnswer
     requires { ⌜ Sound (meaning code) × NothingSpare (meaning code) x ⌝ }
-    ensures { λ r. ⌜ r ≡ nearest (meaning code) (place x) (rule₁ (meaning code) (chunkReading (meaning code) (chunk₁ (meaning code) (place x)))) ⌝ }
+    ensures { λ r. ⌜ r ≡ nearest (residual (meaning code) (place x)) (byChunk (twoEnds (meaning code) .rule₁) (chunkReading (meaning code) (chunk₁ (meaning code) (place x)))) ⌝ }
 {
     let at = layout::layout_of(code);
     match chunk_reading(code, x, at.chunk1) {
@@ -48,7 +49,7 @@ fn by_rule1(code: DecodedCode, x: [u8; 40]) -> ReadAnswer
 // What rule 2 answers: it reads chunk 2.
 fn by_rule2(code: DecodedCode, x: [u8; 40]) -> ReadAnswer
     requires { ⌜ Sound (meaning code) × NothingSpare (meaning code) x ⌝ }
-    ensures { λ r. ⌜ r ≡ nearest (meaning code) (place x) (rule₂ (meaning code) (chunkReading (meaning code) (chunk₂ (meaning code) (place x)))) ⌝ }
+    ensures { λ r. ⌜ r ≡ nearest (residual (meaning code) (place x)) (byChunk (twoEnds (meaning code) .rule₂) (chunkReading (meaning code) (chunk₂ (meaning code) (place x)))) ⌝ }
 {
     let at = layout::layout_of(code);
     match chunk_reading(code, x, at.chunk2) {
@@ -65,7 +66,7 @@ fn by_rule2(code: DecodedCode, x: [u8; 40]) -> ReadAnswer
 // What rule 3 answers: it reads both chunks, which must read alike.
 fn by_rule3(code: DecodedCode, x: [u8; 40]) -> ReadAnswer
     requires { ⌜ Sound (meaning code) × NothingSpare (meaning code) x ⌝ }
-    ensures { λ r. ⌜ r ≡ nearest (meaning code) (place x) (rule₃ (meaning code) (chunkReading (meaning code) (chunk₁ (meaning code) (place x))) (chunkReading (meaning code) (chunk₂ (meaning code) (place x)))) ⌝ }
+    ensures { λ r. ⌜ r ≡ nearest (residual (meaning code) (place x)) (byBoth (twoEnds (meaning code) .rule₃) (chunkReading (meaning code) (chunk₁ (meaning code) (place x))) (chunkReading (meaning code) (chunk₂ (meaning code) (place x)))) ⌝ }
 {
     let at = layout::layout_of(code);
     let Chunk::Codeword {
@@ -91,7 +92,7 @@ fn by_rule3(code: DecodedCode, x: [u8; 40]) -> ReadAnswer
 // What the rule with this number answers.
 fn by_rule(code: DecodedCode, x: [u8; 40], rule: u32) -> ReadAnswer
     requires { ⌜ Sound (meaning code) × NothingSpare (meaning code) x × (1 ≤ rule) × (rule ≤ 3) ⌝ }
-    ensures { λ r. ⌜ r ≡ nearest (meaning code) (place x) (allowedBy (meaning code) (place x) rule) ⌝ }
+    ensures { λ r. ⌜ r ≡ nearest (residual (meaning code) (place x)) (allowedBy (twoEnds (meaning code)) (seen (meaning code) (place x)) rule) ⌝ }
 {
     if rule == 1 {
         return by_rule1(code, x);

@@ -10,7 +10,7 @@ use Rattle.model.specs.Card.{highFirst, trackOf, rowOf, storedCheck, computedCh
 use Rattle.model.specs.Card.{withinLimits, rowTooWide, unusedRowSet, unusedByteSet, misplaced, dependent, cardRefusal}
 use Rattle.model.specs.Order.{gray, lastCodeword, codeword, changedRow, changedWeight, start, lastPosition}
 use Rattle.model.specs.Words.{fiveChunks, word, blockOf, wordAt}
-use Rattle.model.specs.Reading.{majority, chunkDistance, chunkReading, ruleOf, ruleNamed, rule₁, rule₂, rule₃}
+use Rattle.model.specs.Reading.{majority, chunkDistance, chunkReading, seen, ruleOf, ruleNamed, twoEnds, byChunk, byBoth}
 use Rattle.model.specs.Reading.{allowedBy, allowed, residual, nearestIn, nearest, reading}
 use Rattle.model.specs.Answers.{summaryOf, cardAnswer, spareSet, readWord}
 use Rattle.model.specs.Cases.{rowBytes, sealed, cardOf, cardB}
@@ -32,7 +32,7 @@ unfolding sumBelow distance joinAt
     withinLimits rowTooWide unusedRowSet unusedByteSet misplaced dependent cardRefusal
     gray lastCodeword codeword changedRow changedWeight start lastPosition
     fiveChunks word blockOf wordAt
-    majority chunkDistance chunkReading ruleOf ruleNamed rule₁ rule₂ rule₃
+    majority chunkDistance chunkReading seen ruleOf ruleNamed twoEnds byChunk byBoth
     allowedBy allowed residual nearestIn nearest reading
     summaryOf cardAnswer spareSet readWord
     rowBytes sealed cardOf cardB

@@ -9,8 +9,8 @@ use Rattle.model.specs.Card.{highFirst, trackOf, rowOf, storedCheck, computedCh
 use Rattle.model.specs.Card.{withinLimits, rowTooWide, unusedRowSet, unusedByteSet, misplaced, dependent, cardRefusal}
 use Rattle.model.specs.Order.{gray, lastCodeword, codeword, changedRow, changedWeight, start, lastPosition}
 use Rattle.model.specs.Words.{fiveChunks, word, blockOf, wordAt, wordBytes}
-use Rattle.model.specs.Reading.{majority, chunkDistance, chunkReading, ruleOf, rule₁, rule₂, rule₃}
-use Rattle.model.specs.Reading.{allowedBy, ruleNamed, allowed, residual, nearestIn, nearest, reading}
+use Rattle.model.specs.Reading.{majority, chunkDistance, chunkReading, seen, ruleOf, ruleNamed, twoEnds, byChunk, byBoth}
+use Rattle.model.specs.Reading.{allowedBy, allowed, residual, nearestIn, nearest, reading}
 use Rattle.model.specs.Answers.{summaryOf, cardAnswer, writeRefusal, writeAnswer, lentAfterWrite, spareSet, readWord, readAnswer}
 use Rattle.model.specs.Numbers.{cardStatus, cardValues, writeStatus, writeValues, readStatus, readValues}
 use Rattle.model.specs.Cases.{Case, rowBytes, sealed, cardOf, cardA, cardB, numbersOf, codewordPlaces, answerTo, starredCases}
@@ -24,8 +24,8 @@ unfolding sumBelow distance joinAt
     withinLimits rowTooWide unusedRowSet unusedByteSet misplaced dependent cardRefusal
     gray lastCodeword codeword changedRow changedWeight start lastPosition
     fiveChunks word blockOf wordAt wordBytes
-    majority chunkDistance chunkReading ruleOf rule₁ rule₂ rule₃
-    allowedBy ruleNamed allowed residual nearestIn nearest reading
+    majority chunkDistance chunkReading seen ruleOf ruleNamed twoEnds byChunk byBoth
+    allowedBy allowed residual nearestIn nearest reading
     summaryOf cardAnswer writeRefusal writeAnswer lentAfterWrite spareSet readWord readAnswer
     cardStatus cardValues writeStatus writeValues readStatus readValues
     rowBytes sealed cardOf cardA cardB numbersOf codewordPlaces answerTo starredCases

@@ -1,11 +1,11 @@
--- `reader::reading::by_rule1` meets its contract: each way out is a case of `rule₁`, by what chunk 1 reads as. Where it reads as
--- a codeword other than the first, its number is within the code, by the chunk promise, so there is a block before it to search.
--- Assumes nothing.
+-- `reader::reading::by_rule1` meets its contract: each way out is a case of `byChunk`, by what chunk 1 reads as. Where it
+-- reads as a codeword other than the first, its number is within the code, by the chunk promise, so there is a block before it
+-- to search. Assumes nothing.
 use mathlib.Core.Path.{_≡_, _∙_, sym}
 use borrow.Author.Tests.{eq-eqb, ne-eqb}
 use Rattle.bits.specs.Places.{place}
 use Rattle.model.specs.Decoded.{meaning}
-use Rattle.model.specs.Reading.{chunkReading, chunk₁, rule₁, nearest}
+use Rattle.model.specs.Reading.{chunkReading, chunk₁, twoEnds, byChunk, nearest}
 use Rattle.model.specs.declared.Chunk.the-variants.{Codeword}
 use Rattle.code_theory.proofs.Promise.{promise}
 use native.Mathlib.Omega.{arith}
@@ -30,7 +30,7 @@ codeword-read : (c : tie.After-number)
 codeword-read c = sym (chunk-read (c .before .before)) ∙ c .number .given .1
 
 returns : tie.Need-returns
-unfolding nearest rule₁
+unfolding nearest twoEnds byChunk
 returns c = rw (codeword-read (c .before .before), eq-eqb _ 0 (c .if1 .taken))
 
 nearest-before-requires : tie.Need-nearest-before-requires
@@ -41,11 +41,11 @@ nearest-before-requires c κs =
     (first .pre .0, first .pre .1, omega (arith, c .if1 .left), bound)
 
 returns-2 : tie.Need-returns-2
-unfolding nearest rule₁
+unfolding nearest twoEnds byChunk
 returns-2 c = rw (codeword-read (c .before .before .before), ne-eqb _ 0 (c .before .if1 .left)) (c .nearest-before .ensures)
 
 returns-3 : tie.Need-returns-3
-unfolding nearest rule₁
+unfolding nearest twoEnds byChunk
 returns-3 c = rw (sym (chunk-read (c .before .before)) ∙ c .enum-told .given .1)
 
 pub by-rule1-spec : {M : Type 1} → statement M

@@ -1,11 +1,11 @@
--- `reader::reading::by_rule2` meets its contract: each way out is a case of `rule₂`, by what chunk 2 reads as. Where it reads as
--- a codeword other than the last, its number is below the last's, by the chunk promise, so there is a block after it to search.
--- Assumes nothing.
+-- `reader::reading::by_rule2` meets its contract: each way out is a case of `byChunk`, by what chunk 2 reads as. Where it
+-- reads as a codeword other than the last, its number is below the last's, by the chunk promise, so there is a block after it
+-- to search. Assumes nothing.
 use mathlib.Core.Path.{_≡_, _∙_, sym}
 use borrow.Author.Tests.{eq-eqb, ne-eqb}
 use Rattle.bits.specs.Places.{place}
 use Rattle.model.specs.Decoded.{meaning}
-use Rattle.model.specs.Reading.{chunkReading, chunk₂, rule₂, nearest}
+use Rattle.model.specs.Reading.{chunkReading, chunk₂, twoEnds, byChunk, nearest}
 use Rattle.model.specs.declared.Chunk.the-variants.{Codeword}
 use Rattle.code_theory.proofs.Promise.{promise}
 use native.Mathlib.Omega.{arith}
@@ -30,7 +30,7 @@ codeword-read : (c : tie.After-number)
 codeword-read c = sym (chunk-read (c .before .before)) ∙ c .number .given .1
 
 returns : tie.Need-returns
-unfolding nearest rule₂
+unfolding nearest twoEnds byChunk
 returns c = rw (codeword-read (c .before .before .before), eq-eqb _ _ (c .if1 .taken ∙ c .before .last-codeword .ensures))
 
 nearest-after-requires : tie.Need-nearest-after-requires
@@ -41,14 +41,14 @@ nearest-after-requires c κs =
     (first .pre .0, first .pre .1, omega (arith, c .if1 .left, c .before .last-codeword .ensures, bound))
 
 returns-2 : tie.Need-returns-2
-unfolding nearest rule₂
+unfolding nearest twoEnds byChunk
 returns-2 c =
     let at-last = c .before .before in
     rw (codeword-read (at-last .before .before), ne-eqb _ _ (λ e. c .before .if1 .left (e ∙ sym (at-last .last-codeword .ensures))))
     (c .nearest-after .ensures)
 
 returns-3 : tie.Need-returns-3
-unfolding nearest rule₂
+unfolding nearest twoEnds byChunk
 returns-3 c = rw (sym (chunk-read (c .before .before)) ∙ c .enum-told .given .1)
 
 pub by-rule2-spec : {M : Type 1} → statement M

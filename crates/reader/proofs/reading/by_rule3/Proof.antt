@@ -1,11 +1,11 @@
--- `reader::reading::by_rule3` meets its contract: each way out is a case of `rule₃`, by what the two chunks read as. Where both
--- read as one codeword, its number is within the code, by the chunk promise, so there is a start to search around.
+-- `reader::reading::by_rule3` meets its contract: each way out is a case of `byBoth`, by what the two chunks read as. Where
+-- both read as one codeword, its number is within the code, by the chunk promise, so there is a start to search around.
 -- Assumes nothing.
 use mathlib.Core.Path.{_≡_, _∙_, sym}
 use borrow.Author.Tests.{eq-eqb, ne-eqb}
 use Rattle.bits.specs.Places.{place}
 use Rattle.model.specs.Decoded.{meaning}
-use Rattle.model.specs.Reading.{chunkReading, chunk₁, chunk₂, rule₃, nearest}
+use Rattle.model.specs.Reading.{chunkReading, chunk₁, chunk₂, twoEnds, byBoth, nearest}
 use Rattle.model.specs.declared.Chunk.the-variants.{Codeword}
 use Rattle.code_theory.proofs.Promise.{promise}
 use borrow.Author.Needs.{needs}
@@ -47,13 +47,13 @@ returns : tie.Need-returns
 returns c = rw (sym (chunk-read₁ (c .before .before)) ∙ c .enum-told .given .1) (unreadable-first _ _ _)
 
 returns-2 : tie.Need-returns-2
-unfolding nearest rule₃
+unfolding nearest twoEnds byBoth
 returns-2 c =
     let read₂ = c .before .before in
     rw (codeword-read₁ (read₂ .before .before), sym (chunk-read₂ read₂) ∙ c .enum-told2 .given .1)
 
 returns-3 : tie.Need-returns-3
-unfolding nearest rule₃
+unfolding nearest twoEnds byBoth
 returns-3 c =
     let known₂ = c .before .before in
     let known₁ = known₂ .before .before .before .before in
@@ -67,7 +67,7 @@ nearest-around-requires c κs =
     (start .pre .0, start .pre .1, bound)
 
 returns-4 : tie.Need-returns-4
-unfolding nearest rule₃
+unfolding nearest twoEnds byBoth
 returns-4 c =
     let known₂ = c .before .before .before in
     let known₁ = known₂ .before .before .before .before in
