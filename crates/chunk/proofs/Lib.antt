@@ -1,4 +1,3 @@
-pub mod FirstRefusal
 pub mod Bytes
 pub mod JoinedBytes
 pub mod CheckSum

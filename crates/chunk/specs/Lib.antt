@@ -1,2 +1,1 @@
-pub mod FirstRefusal
 pub mod DecodedFrom

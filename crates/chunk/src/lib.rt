@@ -4,5 +4,4 @@ pub mod codeword;
 pub mod decode;
 pub mod least_weight;
 pub mod powers;
-pub mod refusal;
 pub mod search;

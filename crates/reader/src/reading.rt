@@ -11,7 +11,6 @@ ghost use Rattle.model.specs.Reading.{residual, nearest};
 ghost use Rattle.code_theory.specs.Promise.{Sound};
 ghost use Rattle.reader.specs.Received.{NothingSpare};
 use super::nearest;
-use chunk::refusal;
 use chunk::search;
 use model::Chunk;
 use model::DecodedCode;
@@ -136,11 +135,12 @@ pub fn read(code: DecodedCode, word: &[u8]) -> ReadAnswer
     let x = words::received(word);
     let bits = layout::layout_of(code).bits;
     let rule = named_rule(code, x);
-    let spare = refusal::refusal_if(places::ones_from(x, bits, 8 * len as u32 - bits) != 0, 8);
-    let unnamed = refusal::refusal_if(rule == 0, 9);
-    let refusal = refusal::first_of(spare, unnamed);
-    if refusal != 0 {
-        return ReadAnswer::Refused(refusal);
+    let spare = places::ones_from(x, bits, 8 * len as u32 - bits);
+    if spare != 0 {
+        return ReadAnswer::Refused(8);
+    }
+    if rule == 0 {
+        return ReadAnswer::Refused(9);
     }
     by_rule(code, x, rule)
 }
