@@ -9,18 +9,20 @@ use borrow.Author.Tests.{eqb-false}
 use Rattle.bits.proofs.Numbers.{by-test}
 use Rattle.model.specs.Card.{Code}
 use Rattle.model.specs.Order.{lastCodeword, changedWeight, start, lastPosition}
+use Rattle.model.specs.Words.{wordBits, wordAt}
 use Rattle.model.specs.Reading.{Seen, seen, ruleSeen, ruleNamed, Range, Allowed, fromTo, refusedBy}
 use Rattle.model.specs.Reading.{twoEnds, byChunk, byBoth, allowedBy, allowedSeen, allowed}
 use Rattle.model.specs.declared.Chunk.{Chunk}
 use Rattle.model.specs.declared.Chunk.the-variants.{Codeword, Unreadable}
 use Rattle.code_theory.specs.Promise.{ChunkPromise}
 use Rattle.position_theory.proofs.Blocks.{start-on-track}
-use Rattle.position_theory.proofs.Isometry.{Isometric, isometric-part, isometric-block, isometric-around}
+use Rattle.position_theory.proofs.Ranges.{isometric-part}
+use Rattle.position_theory.proofs.Isometry.{IsometricTrack, isometric-block, isometric-around}
 
 -- a range that is not empty, on the track, and isometric; of a refusal nothing is said
 unfoldable pub IsometricOnTrack : Code → Allowed → Type 0
 IsometricOnTrack C (fromTo range) =
-    (range .low ≤ range .high) × (range .high ≤ lastPosition C) × Isometric C (range .low) (range .high)
+    (range .low ≤ range .high) × (range .high ≤ lastPosition C) × IsometricTrack C (range .low) (range .high)
 IsometricOnTrack C (refusedBy refusal) = Unit {0}
 
 -- the received word x allows this position
@@ -42,7 +44,8 @@ module _ (C : Code) (promise : ChunkPromise C) where
   end-of-block i inside = (
     omega (arith, promise .start-next i (omega arith)),
     start-on-track C promise (i + 1) inside,
-    isometric-part C (start C i) (start C (i + 1)) (isometric-block C promise i (omega arith)) (omega arith) (omega arith),
+    isometric-part (wordBits C) (wordAt C) (start C i) (start C (i + 1)) (isometric-block C promise i (omega arith)) (omega arith)
+        (omega arith),
   )
 
   rule₁-isometric : (c : Chunk) → OfCode C c → IsometricOnTrack C (byChunk (twoEnds C .rule₁) c)
@@ -65,7 +68,7 @@ module _ (C : Code) (promise : ChunkPromise C) where
       let inside : p < lastCodeword C = omega (arith, eqb-false p (lastCodeword C) f, h p e refl) in (
         omega arith,
         omega (arith, promise .start-next p inside, start-on-track C promise (p + 1) (omega arith)),
-        isometric-part C (start C p) (start C (p + 1)) (isometric-block C promise p inside) (omega arith)
+        isometric-part (wordBits C) (wordAt C) (start C p) (start C (p + 1)) (isometric-block C promise p inside) (omega arith)
             (omega (arith, promise .start-next p inside)),
       ))
   rule₂-isometric Unreadable h = tt

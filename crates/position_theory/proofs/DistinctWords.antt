@@ -19,7 +19,8 @@ use Rattle.code_theory.specs.Promise.{ChunkPromise}
 use Rattle.position_theory.specs.Damage.{WithinRadius, turnedInAll, turned, Near}
 use Rattle.position_theory.proofs.WordBytes.{length-of-word, no-spare-set, differing-words}
 use Rattle.position_theory.proofs.Blocks.{block-le, block-low, block-high}
-use Rattle.position_theory.proofs.Isometry.{Isometric, isometric-block}
+use Rattle.position_theory.proofs.Ranges.{Isometric}
+use Rattle.position_theory.proofs.Isometry.{isometric-block}
 use Rattle.position_theory.proofs.BoundedError.{error-bounded, near-loosen}
 
 module _ (C : Code) (promise : ChunkPromise C) where

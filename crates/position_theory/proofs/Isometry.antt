@@ -8,25 +8,19 @@ use native.Mathlib.Nat.{le-dest, eq-or-lt-of-le, eq-zero-or-pos}
 use native.Mathlib.Omega.{arith}
 use Rattle.bits.specs.Sums.{distance}
 use Rattle.bits.proofs.Numbers.{lt-or-le}
-use Rattle.bits.proofs.Distance.{distance-ext, distance-self, distance-through}
+use Rattle.bits.proofs.Distance.{distance-ext, distance-through}
 use Rattle.bits.proofs.Walk.{walk-isometry, walk-before, walk-after}
 use Rattle.model.specs.Card.{Code}
 use Rattle.model.specs.Order.{lastCodeword, blockLength, start, lastPosition}
 use Rattle.model.specs.Words.{wordBits, word, wordAt}
 use Rattle.code_theory.specs.Promise.{ChunkPromise}
+use Rattle.position_theory.proofs.Ranges.{Isometric, isometric-part, isometric-point}
 use Rattle.position_theory.proofs.Words.{word-bit, apart, apart-separator₁, apart-chunk₂}
 use Rattle.position_theory.proofs.Blocks.{word-in-block, word-at-start}
 
--- of two positions from low to high the words differ in as many bits as the positions in steps
-unfoldable pub Isometric : Code → (low high : ℕ) → Type 0
-Isometric C low high =
-    (q q′ : ℕ) → low ≤ q → q ≤ q′ → q′ ≤ high → distance (wordBits C) (wordAt C q) (wordAt C q′) + q ≡ q′
-
--- a part of such a range is one
-pub isometric-part : (C : Code) (low high : ℕ) {low′ high′ : ℕ} → Isometric C low high → low ≤ low′ → high′ ≤ high
-    → Isometric C low′ high′
-unfolding Isometric
-isometric-part C low high far l h q q′ a b c = far q q′ (omega arith) b (omega arith)
+-- the words of a track's positions
+abbrev pub IsometricTrack : Code → (low high : ℕ) → Type 0
+IsometricTrack C = Isometric (wordBits C) (wordAt C)
 
 module _ (C : Code) (promise : ChunkPromise C) where
   block-apart : (i m m′ : ℕ) → i < lastCodeword C → m ≤ m′ → m′ ≤ blockLength C i
@@ -36,7 +30,7 @@ module _ (C : Code) (promise : ChunkPromise C) where
       (walk-isometry (word-bit C i) (word-bit C (i + 1)) (wordBits C) m m′ h (rw (apart C promise i inside) h′))
 
   -- a block and its end
-  pub isometric-block : (i : ℕ) → i < lastCodeword C → Isometric C (start C i) (start C (i + 1))
+  pub isometric-block : (i : ℕ) → i < lastCodeword C → IsometricTrack C (start C i) (start C (i + 1))
   unfolding Isometric
   isometric-block i inside q q′ a b c =
       let offset = le-dest a in
@@ -66,18 +60,15 @@ module _ (C : Code) (promise : ChunkPromise C) where
       (walk-after (word C i) (word C (i + 1)) (offset .0) b (rw (apart-separator₁ C i) (omega arith)))
 
   -- up to D steps before a start, and after it
-  isometric-before : (i : ℕ) → i < lastCodeword C → Isometric C (start C (i + 1) - C .D) (start C (i + 1))
+  isometric-before : (i : ℕ) → i < lastCodeword C → IsometricTrack C (start C (i + 1) - C .D) (start C (i + 1))
   isometric-before i inside =
-      isometric-part C (start C i) (start C (i + 1)) (isometric-block i inside) (omega (arith, promise .start-next i inside)) (omega arith)
+      isometric-part (wordBits C) (wordAt C) (start C i) (start C (i + 1)) (isometric-block i inside)
+      (omega (arith, promise .start-next i inside)) (omega arith)
 
-  isometric-after : (i : ℕ) → i < lastCodeword C → Isometric C (start C i) (start C i + C .D)
+  isometric-after : (i : ℕ) → i < lastCodeword C → IsometricTrack C (start C i) (start C i + C .D)
   isometric-after i inside =
-      isometric-part C (start C i) (start C (i + 1)) (isometric-block i inside) (omega arith) (omega (arith, promise .start-next i inside))
-
-  -- a range of one position
-  isometric-point : (s q q′ : ℕ) → s ≤ q → q ≤ q′ → q′ ≤ s → distance (wordBits C) (wordAt C q) (wordAt C q′) + q ≡ q′
-  isometric-point s q q′ a b c =
-      let same : q′ ≡ q = omega arith in rw (same, distance-self (wordBits C) (wordAt C q)) (omega arith)
+      isometric-part (wordBits C) (wordAt C) (start C i) (start C (i + 1)) (isometric-block i inside) (omega arith)
+      (omega (arith, promise .start-next i inside))
 
   -- from before a start to after it: the two words agree with the start's word at all places but those of separator 3, and
   -- of separator 1
@@ -119,7 +110,8 @@ module _ (C : Code) (promise : ChunkPromise C) where
       (eq-or-lt-of-le h)
 
   -- the positions within D steps of a start, as far as there are any
-  pub isometric-around : (i : ℕ) → i ≤ lastCodeword C → Isometric C (start C i - C .D) (min (start C i + C .D) (lastPosition C))
+  pub isometric-around : (i : ℕ) → i ≤ lastCodeword C
+      → IsometricTrack C (start C i - C .D) (min (start C i + C .D) (lastPosition C))
   unfolding Isometric lastPosition
   isometric-around i h q q′ a b c =
       ⊎-elim
@@ -135,7 +127,7 @@ module _ (C : Code) (promise : ChunkPromise C) where
       (lt-or-le (start C i) q′))
       (λ (l : start C i ≤ q).
       ⊎-elim
-      (λ (e : i ≡ lastCodeword C). isometric-point (start C i) q q′ l b (rw e (omega arith)))
+      (λ (e : i ≡ lastCodeword C). isometric-point (wordBits C) (wordAt C) (start C i) q q′ l b (rw e (omega arith)))
       (λ (l′ : i < lastCodeword C). isometric-after i l′ q q′ l b (omega arith))
       (eq-or-lt-of-le h))
       (lt-or-le q (start C i))
