@@ -13,8 +13,8 @@ const CHANGES: [u64; 17] = [
     0x200_200_ff_00,
     0x200_200_ff_00,
     0x200_200_ff_00,
-    // the check's bytes: one more, and the highest bit turned
-    0x1fe_1fe_ff_01,
+    // the highest bit of one of the check's bytes turned
+    0x1fe_1fe_ff_80,
     0x1ff_1ff_ff_80,
     // n 0 and 65; k 0, 13 and one more than n
     0x000_000_00_00,
