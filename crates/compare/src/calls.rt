@@ -6,9 +6,13 @@ use crate::tally::Counts;
 // Counts a call: by what the second reader answered, as number `which` of a group of counts, and at `place` if the
 // library's answer is unlike that.
 fn answered(counts: &mut Counts, group: usize, which: u8, place: usize, unlike: bool) {
-    tally::one_of(counts, group, which);
-    tally::one_more(counts, tally::COMPARED);
-    tally::one_more_if(counts, place, unlike);
+    tally::add(
+        counts,
+        std::num::wrapping_add_usize(group, which as usize),
+        1,
+    );
+    tally::add(counts, tally::COMPARED, 1);
+    tally::add(counts, place, unlike as u64);
 }
 
 // A check of a card.
@@ -88,10 +92,10 @@ pub fn read(counts: &mut Counts, answer: library::Reading, plain: second::Readin
     let kind = tally::kind(plain.refusal);
     answered(counts, tally::WORDS, kind, tally::WORDS_UNLIKE, unlike);
     if plain.refusal == 0 {
-        tally::one_of(
+        tally::add(
             counts,
-            tally::RULES,
-            std::num::wrapping_sub_u8(plain.rule, 1),
+            std::num::wrapping_add_usize(tally::RULES - 1, plain.rule as usize),
+            1,
         );
     }
 }

@@ -42,22 +42,10 @@ pub const NOT_NEIGHBOURS: usize = 36;
 
 pub const PAST_BOUND: usize = 37;
 
-// One more in a place.
-pub fn one_more(counts: &mut Counts, place: usize) {
+// So many more in a place.
+pub fn add(counts: &mut Counts, place: usize, more: u64) {
     if place < 38 {
-        counts[place] = std::num::wrapping_add_u64(counts[place], 1);
-    }
-}
-
-// One more of a group, by a number from 0 on.
-pub fn one_of(counts: &mut Counts, group: usize, which: u8) {
-    one_more(counts, std::num::wrapping_add_usize(group, which as usize));
-}
-
-// One more if a test came out so.
-pub fn one_more_if(counts: &mut Counts, place: usize, test: bool) {
-    if test {
-        one_more(counts, place);
+        counts[place] = std::num::wrapping_add_u64(counts[place], more);
     }
 }
 

@@ -3,6 +3,7 @@ use crate::calls;
 use crate::library;
 use crate::tally;
 use crate::tally::Counts;
+use second::bits;
 use second::search;
 use second::walk;
 use second::walk::Walk;
@@ -36,22 +37,19 @@ fn start(counts: &mut Counts, card: &[u8], block: u32, value: u64) {
 // The positions, one after the other: words are written, and at some of them words are read.
 pub fn positions(counts: &mut Counts, card: &[u8], p: second::Prepared, id: u64) {
     let s = layout::sizes_of(second::prepared_facts(p));
+    let starts = p.starts;
     let last = p.last as u64;
-    let first = walk::from_start(p);
-    let mut behind = first;
-    let mut here = first;
+    let mut behind = walk::from_start(p);
+    let mut here = behind;
     let mut before = library::nothing();
     let mut at: u64 = 0;
     while at <= last {
-        let wrote = write(counts, card, s.bits, here, before, id);
-        before = wrote;
+        before = write(counts, card, s.bits, here, before, id);
         if choice::is_read(here, id) {
-            let nearer = follow(behind, at, s.bits as u64);
-            behind = nearer;
-            read(counts, card, p, s, behind, here, id);
+            behind = follow(behind, at, s.bits as u64);
+            read(counts, card, &starts, s, behind, here, id);
         }
-        let next = walk::step(here);
-        here = next;
+        here = walk::step(here);
         at += 1;
     }
 }
@@ -101,16 +99,16 @@ fn write(
 
 // The words of two neighbouring positions, which are one bit apart.
 fn neighbours(counts: &mut Counts, one: [u8; 48], next: [u8; 48]) {
-    tally::one_more(counts, tally::NEIGHBOURS);
-    let apart = damage::unlike(damage::front(one), damage::front(next), 0, 320);
-    tally::one_more_if(counts, tally::NOT_NEIGHBOURS, apart != 1);
+    let apart = bits::differing(&bits::unpack(&one[0..40]), &bits::unpack(&next[0..40]), 320);
+    tally::add(counts, tally::NEIGHBOURS, 1);
+    tally::add(counts, tally::NOT_NEIGHBOURS, (apart != 1) as u64);
 }
 
 // The words of a position.
 fn read(
     counts: &mut Counts,
     card: &[u8],
-    p: second::Prepared,
+    starts: &[u32; 4096],
     s: Sizes,
     behind: Walk,
     here: Walk,
@@ -121,7 +119,16 @@ fn read(
     while q < words::COUNT {
         let received = words::word_number(s, behind, here, q, id);
         let word = received.word;
-        read_one(counts, card, p, behind, at, s.bits, word, received.turned);
+        read_one(
+            counts,
+            card,
+            starts,
+            behind,
+            at,
+            s.bits,
+            word,
+            received.turned,
+        );
         q += 1;
     }
 }
@@ -130,7 +137,7 @@ fn read(
 fn read_one(
     counts: &mut Counts,
     card: &[u8],
-    p: second::Prepared,
+    starts: &[u32; 4096],
     behind: Walk,
     at: u64,
     bits: usize,
@@ -139,7 +146,7 @@ fn read_one(
 ) {
     let len = layout::byte_count(bits);
     let answer = library::read(card, &word[0..len]);
-    let plain = second::read_along(p, behind, &word[0..len]);
+    let plain = second::read_along(starts, behind, &word[0..len]);
     calls::read(counts, answer, plain);
     if turned < damage::TOO_MANY {
         let by_library = off(at, answer.refusal, answer.position);
@@ -159,9 +166,11 @@ fn off(at: u64, refusal: u32, position: u32) -> u64 {
 // A word damaged within the radius: it must be read, no further off than twice the bits turned.
 fn bounded(counts: &mut Counts, turned: u64, by_library: u64, by_second: u64) {
     let twice = std::num::wrapping_add_u64(turned, turned);
-    tally::one_more(counts, tally::WITHIN);
     tally::greatest(counts, tally::MOST_TURNED, turned);
     tally::greatest(counts, tally::MOST_OFF, by_second);
-    tally::one_more_if(counts, tally::AT_BOUND, 0 < turned && by_second == twice);
-    tally::one_more_if(counts, tally::PAST_BOUND, twice < by_library);
+    tally::add(counts, tally::WITHIN, 1);
+    tally::add(counts, tally::PAST_BOUND, (twice < by_library) as u64);
+    if 0 < turned {
+        tally::add(counts, tally::AT_BOUND, (by_second == twice) as u64);
+    }
 }

@@ -1,6 +1,11 @@
 // Cards that are refused, by every call alike, and with no byte of the lent word changed.
+ghost use Prim.Native.Nat.{_<_};
+use super::calls;
 use super::cards;
 use super::say;
+
+// All five calls on 512 bytes, as a line of crate::calls.
+const ALL_CALLS: u64 = 0x4_00_00000200;
 
 // A card a line, in hexadecimal: n, k, rows 0 and 1, and one more byte, its place and its value.
 const REFUSED: [u64; 22] = [
@@ -35,16 +40,35 @@ const REFUSED: [u64; 22] = [
     0x03_01_00_00_01fd_01,
 ];
 
+// Byte j of a line, the last being 0.
+fn byte(line: u64, j: u32) -> u32
+    ensures { λ r. ⌜ r < 256 ⌝ }
+{
+    ((line >> (8 * (j % 8))) % 256) as u32
+}
+
 // The card of one line of the table.
 fn line(line: u64) {
-    let n = (line / 0x1_0000_0000_0000 % 256) as u32;
-    let k = (line / 0x100_0000_0000 % 256) as u32;
-    let row0 = (line / 0x1_0000_0000 % 256) as u32;
-    let row1 = (line / 0x100_0000 % 256) as u32;
-    let byte = (line % 0x100_0000) as u32;
-    let card = cards::sealed(cards::made(&[n, 0x100 + k, 0xb00 + row0, 0x1300 + row1, byte]));
-    say::describe(&[n, k, row0, row1, byte / 256, byte % 256]);
-    whole(b"", &card);
+    let mut card = [0u8; 513];
+    card[0] = byte(line, 6) as u8;
+    card[1] = byte(line, 5) as u8;
+    card[11] = byte(line, 4) as u8;
+    card[19] = byte(line, 3) as u8;
+    describe(line);
+    calls::call(
+        cards::sealed(cards::with(card, line % 0x100_0000)),
+        ALL_CALLS,
+    );
+}
+
+// What the card holds: n, k, rows 0 and 1, and one more byte.
+fn describe(line: u64) {
+    say::say_number(b"n ", byte(line, 6));
+    say::say_number(b" k ", byte(line, 5));
+    say::say_number(b" rows ", byte(line, 4));
+    say::say_number(b" ", byte(line, 3));
+    say::say_number(b" byte ", (line / 256 % 0x1_0000) as u32);
+    say::say_number(b" ", byte(line, 0));
 }
 
 // The cards of the table.
@@ -54,53 +78,4 @@ pub fn refused() {
         line(REFUSED[i]);
         i += 1;
     }
-}
-
-// A card of 512 bytes.
-fn whole(case: &[u8], card: &[u8; 512]) {
-    say::all_calls(case, card);
-}
-
-// The first `len` bytes of a card.
-fn first(case: &[u8], card: &[u8], len: usize) {
-    if len <= card.len() {
-        say::all_calls(case, &card[0..len]);
-    }
-}
-
-// Refusal 1, and before 3.
-pub fn lengths(card: &[u8; 512]) {
-    let mut longer = [0u8; 513];
-    longer[0] = 3;
-    longer[1] = 1;
-    longer[3] = 14;
-    longer[11] = 7;
-    longer[511] = 145;
-    say::all_calls(b"no bytes", b"");
-    first(b"511 bytes of card B", card, 511);
-    say::all_calls(b"511 zero bytes", &[0u8; 511]);
-    say::all_calls(b"card B and one byte more", &longer);
-}
-
-// Refusal 2, and before 3. Card B's check is 145. A card whose check is 12 does not carry 65,533, which is 12 modulo 65,521.
-pub fn checks() {
-    let other = cards::made(&[0x003, 0x101, 0x30e, 0xb07, 0x1ff92]);
-    let high = cards::made(&[0xb01, 0x1feff, 0x1fffd]);
-    let none = cards::made(&[0x101, 0xb01]);
-    whole(b"card B with check 146", &other);
-    whole(b"check 65,533 for 12", &high);
-    whole(b"n 0 and no check", &none);
-}
-
-// A card's fault comes before those of the word, the position and the block.
-pub fn before_the_rest() {
-    let card = cards::sealed(cards::made(&[0x003, 0x102, 0xb03, 0x1303]));
-    rest(b"rows 3 and 3", &card);
-}
-
-// A lent and a received word of a wrong length, and a position and a block that no card has.
-fn rest(case: &[u8], card: &[u8; 512]) {
-    say::writes(case, card, 1, &[4294967295]);
-    say::read(case, card, b"\xff");
-    say::numbers(case, card, &[4294967295]);
 }

@@ -1,16 +1,11 @@
 // Cards built in code.
 ghost use Prim.Native.Nat.{_<_};
 
-// Bytes that are zero but for some: 0xb07 says that the byte at place 11, b in hexadecimal, is 7.
-pub fn made(bytes: &[u32]) -> [u8; 512] {
-    let mut card = [0u8; 512];
-    let mut i: usize = 0;
-    while i < bytes.len() {
-        let byte = bytes[i];
-        card[(byte / 256 % 512) as usize] = (byte % 256) as u8;
-        i += 1;
-    }
-    card
+// The card, of 512 bytes and one more, with one of them changed: 0xb07 says that the byte at place 11, b in hexadecimal, is 7.
+pub fn with(card: [u8; 513], byte: u64) -> [u8; 513] {
+    let mut next = card;
+    next[(byte / 256 % 512) as usize] = (byte % 256) as u8;
+    next
 }
 
 // A byte as a wider number.
@@ -21,7 +16,7 @@ fn wide(b: u8) -> u64
 }
 
 // The check that a card should carry: the sum over places 0 to 509 of (place + 1) × byte, modulo 65,521.
-fn check_of(card: [u8; 512]) -> u64 {
+fn check_of(card: [u8; 513]) -> u64 {
     let mut total: u64 = 0;
     let mut place: usize = 0;
     while place < 510 {
@@ -32,7 +27,7 @@ fn check_of(card: [u8; 512]) -> u64 {
 }
 
 // The card with its check, high byte first.
-pub fn sealed(card: [u8; 512]) -> [u8; 512] {
+pub fn sealed(card: [u8; 513]) -> [u8; 513] {
     let check = check_of(card);
     let mut next = card;
     next[510] = (check / 256 % 256) as u8;

@@ -2,99 +2,279 @@
 // once for their order, and on the ends of every range. The file stdout is written by hand, a line a case, from document 01's
 // cards, table and rules; it is never taken from what the program writes.
 mod bad_cards;
+mod calls;
 mod cards;
+mod names;
 mod say;
-mod sizes;
 
-// Card B. First the words of document 01's example and of its list, then a spare bit set, alone and with separators 0 1 0;
-// refusal 12 by rules 1 and 2; both ends by rule 3; and codewords that are not of the separators' parity, which rule 3 reads.
-// The lent bytes hold aa, with the spare bit set: a write sets it to zero.
-fn card_b(case: &[u8], card: &[u8; 512]) {
-    say::check(case, card);
-    say::stored_check(case, card);
-    say::numbers(case, card, &[0, 1, 2, 15, 16, 4294967295]);
-    say::writes(case, card, 2, &[0, 7, 15, 16, 4294967295]);
-    say::reads(
-        case,
-        card,
-        2,
-        b"\x7f\x00\x5f\x00\xc0\x01\x00\x80\x00\x70\x00\x0e",
-    );
-    say::reads(
-        case,
-        card,
-        2,
-        b"\x7f\x80\xc0\x81\xc7\x01\xc0\x7f\x01\x00\xff\x3f\x38\x0e",
-    );
-}
+// Document 01's cards, their words and the ends of their ranges, each line as crate::calls has it.
+const OF_DOCUMENT_01: [u64; 104] = [
+    // card B: n 3, k 1, track 14, row 7
+    0x0_00_00000000,
+    0x1_00_00000000,
+    0x2_00_00000003,
+    0x2_00_00000101,
+    0x2_00_0000030e,
+    0x2_00_00000b07,
+    0x3_00_00000000,
+    // the check, what it carries, numbers and writes at the ends. The lent bytes hold aa, with the spare bit set: a write sets
+    // it to zero
+    0x5_00_00000000,
+    0x6_00_00000000,
+    0x7_00_00000000,
+    0x7_00_00000001,
+    0x7_00_00000002,
+    0x7_00_0000000f,
+    0x7_00_00000010,
+    0x7_00_ffffffff,
+    0x8_02_00000000,
+    0x8_02_00000007,
+    0x8_02_0000000f,
+    0x8_02_00000010,
+    0x8_02_ffffffff,
+    // the words of document 01's example and of its list
+    0x9_02_7f000000,
+    0x9_02_5f000000,
+    0x9_02_c0010000,
+    0x9_02_00800000,
+    0x9_02_00700000,
+    0x9_02_000e0000,
+    // a spare bit set, alone and with separators 0 1 0
+    0x9_02_7f800000,
+    0x9_02_c0810000,
+    // refusal 12 by rules 1 and 2
+    0x9_02_c7010000,
+    0x9_02_c07f0000,
+    // both ends by rule 3, and codewords that are not of the separators' parity, which rule 3 reads
+    0x9_02_01000000,
+    0x9_02_ff3f0000,
+    0x9_02_380e0000,
+    // refusal 6 of a write and of a read, and before 7 and 8
+    0x8_00_0000000f,
+    0x8_01_0000000f,
+    0x8_01_00000010,
+    0x8_03_0000000f,
+    0x9_00_00000000,
+    0x9_01_00000000,
+    0x9_01_7f000000,
+    0x9_03_00000000,
+    0x9_03_7f800000,
+    // card A: n 3, k 2, rows 3 and 6
+    0x0_00_00000001,
+    0x1_00_00000000,
+    0x2_00_00000003,
+    0x2_00_00000102,
+    0x2_00_00000b03,
+    0x2_00_00001306,
+    0x3_00_00000000,
+    // the check, blocks and positions; the codewords in order stand in the words of the starts
+    0x5_00_00000000,
+    0x7_00_00000000,
+    0x7_00_00000001,
+    0x7_00_00000002,
+    0x7_00_00000003,
+    0x7_00_00000004,
+    0x7_00_0000001e,
+    0x7_00_0000001f,
+    0x8_02_00000000,
+    0x8_02_0000000a,
+    0x8_02_00000014,
+    0x8_02_0000001e,
+    0x8_02_0000001f,
+    0x8_02_00000005,
+    0x8_02_00000009,
+    // position 5 ties, 9 reads by rule 1, and one word is refused
+    0x9_02_2f000000,
+    0x9_02_ef050000,
+    0x9_02_04000000,
+    // position 3 has a half changed chunk that its rule does not name
+    0x9_02_07000000,
+    // around start 20, on both sides, ties go to the smallest
+    0x9_02_94060000,
+    0x9_02_96020000,
+    0x9_02_950a0000,
+    // refusal 9: separators 0 1 0, whose chunk 1 is no codeword, and 1 0 1
+    0x9_02_64000000,
+    0x9_02_030c0000,
+    // refusal 10: rule 1 with chunk 1 no codeword, rule 2 with chunk 2, rule 3 with chunk 1, chunk 2 and both
+    0x9_02_67000000,
+    0x9_02_83000000,
+    0x9_02_84010000,
+    0x9_02_8c000000,
+    0x9_02_84000000,
+    // refusal 11: rule 3 with codewords that differ
+    0x9_02_8c020000,
+    // three cards of document 01 that are refused; the fourth, of 511 bytes, is among the bad cards
+    0x0_00_00000002,
+    0x1_00_00000000,
+    0x5_00_00000000,
+    0x0_00_00000003,
+    0x1_00_00000000,
+    0x2_00_0000000d,
+    0x2_00_0000010d,
+    0x3_00_00000000,
+    0x5_00_00000000,
+    0x0_00_00000004,
+    0x1_00_00000000,
+    0x2_00_00000003,
+    0x2_00_00000102,
+    0x2_00_00000b03,
+    0x2_00_00001303,
+    0x3_00_00000000,
+    0x5_00_00000000,
+    // rows whose least weight is not the code's least distance
+    0x0_00_00000005,
+    0x1_00_00000000,
+    0x2_00_00000003,
+    0x2_00_00000102,
+    0x2_00_00000b07,
+    0x2_00_00001303,
+    0x3_00_00000000,
+    0x5_00_00000000,
+];
 
-// Refusal 6 of a write and of a read, and before 7 and 8.
-fn card_b_lengths(case: &[u8], card: &[u8; 512]) {
-    say::writes(case, card, 0, &[15]);
-    say::writes(case, card, 1, &[15, 16]);
-    say::writes(case, card, 3, &[15]);
-    say::read(case, card, b"");
-    say::reads(case, card, 1, b"\x00\x7f");
-    say::reads(case, card, 3, b"\x00\x00\x00\x7f\x80\x00");
-}
+// Cards of a wrong length or check, which every call refuses.
+const WRONG_CHECK: [u64; 40] = [
+    // refusal 1, and before 3
+    0x0_00_00000006,
+    0x1_00_00000000,
+    0x2_00_00000003,
+    0x2_00_00000101,
+    0x2_00_0000030e,
+    0x2_00_00000b07,
+    0x3_00_00000000,
+    0x4_00_00000000,
+    0x0_00_00000007,
+    0x4_00_000001ff,
+    0x0_00_00000008,
+    0x1_00_00000000,
+    0x4_00_000001ff,
+    0x0_00_00000009,
+    0x1_00_00000000,
+    0x2_00_00000003,
+    0x2_00_00000101,
+    0x2_00_0000030e,
+    0x2_00_00000b07,
+    0x3_00_00000000,
+    0x4_00_00000201,
+    // refusal 2, and before 3; card B's check is 145
+    0x0_00_0000000a,
+    0x1_00_00000000,
+    0x2_00_00000003,
+    0x2_00_00000101,
+    0x2_00_0000030e,
+    0x2_00_00000b07,
+    0x2_00_0001ff92,
+    0x4_00_00000200,
+    // a card whose check is 12 does not carry 65,533, which is 12 modulo 65,521
+    0x0_00_0000000b,
+    0x1_00_00000000,
+    0x2_00_00000b01,
+    0x2_00_0001feff,
+    0x2_00_0001fffd,
+    0x4_00_00000200,
+    0x0_00_0000000c,
+    0x1_00_00000000,
+    0x2_00_00000101,
+    0x2_00_00000b01,
+    0x4_00_00000200,
+];
 
-// Card A. The codewords in order stand in the words of the starts. Position 5 ties, 9 reads by rule 1, and one word is refused.
-// Position 3 has a half changed chunk that its rule does not name. Around start 20, on both sides, ties go to the smallest.
-fn card_a(case: &[u8], card: &[u8; 512]) {
-    say::check(case, card);
-    say::numbers(case, card, &[0, 1, 2, 3, 4, 30, 31]);
-    say::writes(case, card, 2, &[0, 10, 20, 30, 31, 5, 9]);
-    say::reads(case, card, 2, b"\x2f\x00\xef\x05\x04\x00");
-    say::reads(case, card, 2, b"\x07\x00\x94\x06\x96\x02\x95\x0a");
-}
-
-// Refusal 9: separators 0 1 0, whose chunk 1 is no codeword, and 1 0 1.
-// Refusals 10 and 11: rule 1 with chunk 1 no codeword, rule 2 with chunk 2, rule 3 with chunk 1, chunk 2 and both; and rule 3 with
-// codewords that differ.
-fn card_a_refused(case: &[u8], card: &[u8; 512]) {
-    say::reads(case, card, 2, b"\x64\x00\x03\x0c");
-    say::reads(
-        case,
-        card,
-        2,
-        b"\x67\x00\x83\x00\x84\x01\x8c\x00\x84\x00\x8c\x02",
-    );
-}
-
-// A card that is only checked.
-fn check(case: &[u8], card: [u8; 512]) {
-    say::check(case, &card);
-}
-
-// Document 01's other cards: three that are refused (the fourth, of 511 bytes, is among the bad cards), and rows whose least weight
-// is not the code's least distance.
-fn other_cards() {
-    check(b"512 zero bytes", [0u8; 512]);
-    check(b"k 13", cards::sealed(cards::made(&[0x00d, 0x10d])));
-    check(
-        b"rows 3 and 3",
-        cards::sealed(cards::made(&[0x003, 0x102, 0xb03, 0x1303])),
-    );
-    check(
-        b"rows 7 and 3",
-        cards::sealed(cards::made(&[0x003, 0x102, 0xb07, 0x1303])),
-    );
-}
+// The order of refusals, and the smallest and the largest codes and words.
+const SIZES: [u64; 82] = [
+    // a card's fault comes before those of the word, the position and the block: a lent and a received word of a wrong length,
+    // and a position and a block that no card has
+    0x0_00_00000004,
+    0x1_00_00000000,
+    0x2_00_00000003,
+    0x2_00_00000102,
+    0x2_00_00000b03,
+    0x2_00_00001303,
+    0x3_00_00000000,
+    0x8_01_ffffffff,
+    0x9_01_ffffffff,
+    0x7_00_ffffffff,
+    // n 1, k 1: a word of 5 bits in one byte, with a spare bit above them
+    0x0_00_0000000d,
+    0x1_00_00000000,
+    0x2_00_00000001,
+    0x2_00_00000101,
+    0x2_00_00000b01,
+    0x3_00_00000000,
+    0x5_00_00000000,
+    0x8_01_00000005,
+    0x8_01_00000006,
+    0x9_01_1f000000,
+    0x9_01_07000000,
+    0x9_01_20000000,
+    // n 5, rows 3, 6, 12 and 24: a word of 16 bits, none spare; 150 is the last position
+    0x0_00_0000000e,
+    0x1_00_00000000,
+    0x2_00_00000005,
+    0x2_00_00000104,
+    0x2_00_00000b03,
+    0x2_00_00001306,
+    0x2_00_00001b0c,
+    0x2_00_00002318,
+    0x3_00_00000000,
+    0x5_00_00000000,
+    0x8_02_00000096,
+    0x8_02_00000097,
+    0x9_02_e3f10000,
+    0x9_02_00800000,
+    // n 64, and a row of 64 ones: the widest word, 40 bytes, and one byte fewer and more; 320 is the last position
+    0x0_00_0000000f,
+    0x1_00_00000000,
+    0x2_00_00000040,
+    0x2_00_00000101,
+    0x2_00_000004ff,
+    0x2_00_000005ff,
+    0x2_00_000006ff,
+    0x2_00_000007ff,
+    0x2_00_000008ff,
+    0x2_00_000009ff,
+    0x2_00_00000aff,
+    0x2_00_00000bff,
+    0x3_00_00000000,
+    0x5_00_00000000,
+    0x8_27_00000140,
+    0x8_28_00000140,
+    0x8_28_00000141,
+    0x8_29_00000140,
+    0x9_28_ffffffff,
+    // n and k 12, row z being 2^z, and a track number with a high byte, 258; 4095 is the last block, 20475 the last position
+    0x0_00_00000010,
+    0x1_00_00000000,
+    0x2_00_0000000c,
+    0x2_00_0000010c,
+    0x2_00_00000201,
+    0x2_00_00000302,
+    0x2_00_00000b01,
+    0x2_00_00001302,
+    0x2_00_00001b04,
+    0x2_00_00002308,
+    0x2_00_00002b10,
+    0x2_00_00003320,
+    0x2_00_00003b40,
+    0x2_00_00004380,
+    0x2_00_00004a01,
+    0x2_00_00005202,
+    0x2_00_00005a04,
+    0x2_00_00006208,
+    0x3_00_00000000,
+    0x5_00_00000000,
+    0x7_00_00000fff,
+    0x7_00_00001000,
+    0x7_00_00004ffb,
+    0x7_00_00004ffc,
+    0x8_04_00004ffb,
+    0x8_04_00004ffc,
+    0x9_04_01300006,
+];
 
 fn main() {
-    let a = cards::sealed(cards::made(&[0x003, 0x102, 0xb03, 0x1306]));
-    let b = cards::sealed(cards::made(&[0x003, 0x101, 0x30e, 0xb07]));
-    card_b(b"card B", &b);
-    card_b_lengths(b"card B", &b);
-    card_a(b"card A", &a);
-    card_a_refused(b"card A", &a);
-    other_cards();
-    bad_cards::lengths(&b);
-    bad_cards::checks();
+    calls::run(&OF_DOCUMENT_01);
+    calls::run(&WRONG_CHECK);
     bad_cards::refused();
-    bad_cards::before_the_rest();
-    sizes::smallest();
-    sizes::no_spare_bit();
-    sizes::widest();
-    sizes::twelve_rows();
+    calls::run(&SIZES);
 }

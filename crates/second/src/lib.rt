@@ -110,24 +110,32 @@ fn no_word(number: u8) -> Word {
 // Writes the word of a position into a lent word of `lent_len` bytes.
 pub fn write(card: &[u8], position: u64, lent_len: usize) -> Word {
     let p = prepare(card);
-    let held = p.card;
-    let c = code::within_limits(held);
-    if c.refusal != 0 {
-        return no_word(c.refusal);
-    }
-    let len = bits::byte_count(bits::bit_count(c.n, c.distance));
-    if lent_len != len {
-        return no_word(6);
-    }
-    if (p.last as u64) < position {
-        return no_word(7);
+    let c = p.card;
+    let refusal = write_refusal(c, p.last, position, lent_len);
+    if refusal != 0 {
+        return no_word(refusal);
     }
     let bytes = walk::word_bytes(walk::further(walk::from_start(p), position));
     Word {
         refusal: 0,
-        len,
+        len: lent_len,
         bytes,
     }
+}
+
+// The refusal of a write: the card's, 6 or 7; or 0.
+fn write_refusal(card: code::Checked, last: u32, position: u64, lent_len: usize) -> u8 {
+    let c = code::within_limits(card);
+    if c.refusal != 0 {
+        return c.refusal;
+    }
+    if lent_len != bits::byte_count(bits::bit_count(c.n, c.distance)) {
+        return 6;
+    }
+    if (last as u64) < position {
+        return 7;
+    }
+    0
 }
 
 // A refused reading.
@@ -143,42 +151,37 @@ fn no_reading(number: u8) -> Reading {
 // Reads a received word of a card.
 pub fn read(card: &[u8], word: &[u8]) -> Reading {
     let p = prepare(card);
-    read_along(p, walk::from_start(p), word)
+    let starts = p.starts;
+    read_along(&starts, walk::from_start(p), word)
 }
 
-// Reads a received word of a prepared card. The search walks to the first allowed position from where `w`, a walk of
-// the same card, stands, or from position 0 if `w` is past it. Both give the same answer; a caller who reads words in
-// the order of their positions saves steps.
-pub fn read_along(p: Prepared, w: Walk, word: &[u8]) -> Reading {
-    let held = p.card;
+// Reads a received word of a prepared card, of which `starts` are the starts. The search walks to the first allowed position from
+// where `w`, a walk of the same card, stands, or from position 0 if `w` is past it. Both give the same answer; a caller who reads
+// words in the order of their positions saves steps.
+pub fn read_along(starts: &[u32; 4096], w: Walk, word: &[u8]) -> Reading {
+    let held = w.card;
     let c = code::within_limits(held);
     if c.refusal != 0 {
         return no_reading(c.refusal);
     }
-    let d = bits::bit_count(c.n, c.distance);
-    if word.len() != bits::byte_count(d) {
+    if word.len() != bits::byte_count(bits::bit_count(c.n, c.distance)) {
         return no_reading(6);
     }
-    let received = bits::unpack(word);
-    if bits::spare_bit_set(&received, d) {
-        return no_reading(8);
-    }
-    read_bits(c, p, w, &received)
+    read_bits(c, starts, w, bits::unpack(word))
 }
 
-// Reads a received word whose length and spare bits are right, given as its bits.
-fn read_bits(c: code::Checked, p: Prepared, w: Walk, received: &[u8; 320]) -> Reading
+// Reads a received word whose length is right, given as its bits.
+fn read_bits(c: code::Checked, starts: &[u32; 4096], w: Walk, received: [u8; 320]) -> Reading
     requires { ⌜ (c .n ≤ 64) × (c .k ≤ 12) × (c .distance ≤ 64) ⌝ }
 {
-    let starts = p.starts;
-    let range = search::allowed_positions(c, &starts, p.last, received);
+    if bits::spare_bit_set(&received, bits::bit_count(c.n, c.distance)) {
+        return no_reading(8);
+    }
+    let range = search::allowed_positions(c, starts, w.last, &received);
     if range.refusal != 0 {
         return no_reading(range.refusal);
     }
-    if (w.position as u64) <= range.low {
-        return read_range(c, w, range, received);
-    }
-    read_range(c, walk::from_start(p), range, received)
+    read_range(c, walk::not_past(w, range.low), range, &received)
 }
 
 // The nearest of the allowed positions, sought from a walk that stands at the first of them or below.

@@ -284,10 +284,8 @@ pub fn nearest(
     };
     let mut position = low;
     while position <= high {
-        let next_best = nearer(best, position, bits::differing(&tried, word, d));
-        best = next_best;
-        let next_stand = steps::advance(c, stand, 1, &mut tried);
-        stand = next_stand;
+        best = nearer(best, position, bits::differing(&tried, word, d));
+        stand = steps::advance(c, stand, 1, &mut tried);
         position += 1;
     }
     best

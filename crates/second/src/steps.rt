@@ -160,8 +160,7 @@ pub fn advance(c: code::Checked, at: Stand, steps: u64, word: &mut [u8; 320]) ->
     let mut stand = at;
     let mut left = steps;
     while 0 < left {
-        let next = turn(&rows, n, distance, top, stand, word);
-        stand = next;
+        stand = turn(&rows, n, distance, top, stand, word);
         left -= 1;
     }
     stand

@@ -1,6 +1,6 @@
 // A walk along a track, one position after another, for a caller that goes through many words in the order of their positions.
 ghost use mathlib.Core.Path.{_≡_};
-ghost use Prim.Native.Nat.{_+_, _<_};
+ghost use Prim.Native.Nat.{_+_, _≤_, _<_};
 use crate::Prepared;
 use crate::bits;
 use crate::code;
@@ -21,16 +21,34 @@ pub fn from_start(p: Prepared) -> Walk
     ensures { λ r. ⌜ r .position ≡ 0 ⌝ }
 {
     let c = p.card;
-    let rows = c.rows;
+    at_start(c, p.last)
+}
+
+// The walk at position 0 of a card with a last position.
+fn at_start(card: code::Checked, last: u32) -> Walk
+    ensures { λ r. ⌜ r .position ≡ 0 ⌝ }
+{
+    let rows = card.rows;
     let stand = steps::first_stand(&rows);
     let bits = steps::first_word();
     Walk {
         position: 0,
-        last: p.last,
-        card: c,
+        last,
+        card,
         stand,
         bits,
     }
+}
+
+// The walk itself, or the same at position 0 again if it is past a position.
+pub fn not_past(w: Walk, position: u64) -> Walk
+    ensures { λ r. ⌜ r .position ≤ position ⌝ }
+{
+    if (w.position as u64) <= position {
+        return w;
+    }
+    let c = w.card;
+    at_start(c, w.last)
 }
 
 // The walk one position further, with one bit turned. At the last position it stays.

@@ -1,8 +1,9 @@
-// Bits of a word turned, and bits turned counted.
+// Bits of a word turned, and bits turned counted. A word is its single bits, place p at index p, as the second reader has it.
 use crate::layout;
 use crate::layout::Sizes;
 use crate::numbers;
-use second::code;
+use crate::numbers::plus;
+use crate::numbers::within_320;
 
 // Which of a chunk's places are turned: the first ones, the last ones, ones that follow each other, or scattered ones, of
 // which some may be the same, and are then turned back.
@@ -18,18 +19,12 @@ pub const SCATTERED: u64 = 3;
 pub const TOO_MANY: u64 = 1000;
 
 // The word with the bit at a place turned.
-pub fn turned(word: [u8; 40], place: usize) -> [u8; 40] {
+pub fn turned(word: [u8; 320], place: usize) -> [u8; 320] {
     let mut next = word;
     if place < 320 {
-        let j = place / 8;
-        next[j] = next[j] ^ (1u8 << (place % 8));
+        next[place] = next[place] ^ 1;
     }
     next
-}
-
-// The word with the bit at a place turned if `by` is 1.
-pub fn turned_if(word: [u8; 40], place: usize, by: u64) -> [u8; 40] {
-    if by == 1 { turned(word, place) } else { word }
 }
 
 // The place of turn i among `size`.
@@ -51,20 +46,17 @@ fn place_of(i: usize, size: usize, which: u64, seed: u64) -> usize {
 
 // The word with so many of the `size` bits from place `low` on turned.
 pub fn damaged(
-    word: [u8; 40],
+    word: [u8; 320],
     low: usize,
     size: usize,
     count: usize,
     which: u64,
     seed: u64,
-) -> [u8; 40] {
+) -> [u8; 320] {
     let mut next = word;
     let mut i: usize = 0;
     while i < count {
-        let one = turned(
-            next,
-            std::num::wrapping_add_usize(low, place_of(i, size, which, seed)),
-        );
+        let one = turned(next, plus(low, place_of(i, size, which, seed)));
         next = one;
         i += 1;
     }
@@ -72,7 +64,14 @@ pub fn damaged(
 }
 
 // The word with so many bits of chunk c turned.
-pub fn in_chunk(word: [u8; 40], s: Sizes, c: u64, count: usize, which: u64, seed: u64) -> [u8; 40] {
+pub fn in_chunk(
+    word: [u8; 320],
+    s: Sizes,
+    c: u64,
+    count: usize,
+    which: u64,
+    seed: u64,
+) -> [u8; 320] {
     damaged(
         word,
         layout::chunk_start(s, c),
@@ -84,7 +83,7 @@ pub fn in_chunk(word: [u8; 40], s: Sizes, c: u64, count: usize, which: u64, seed
 }
 
 // The word with so many bits of every chunk turned.
-pub fn in_all(word: [u8; 40], s: Sizes, count: usize, which: u64, seed: u64) -> [u8; 40] {
+pub fn in_all(word: [u8; 320], s: Sizes, count: usize, which: u64, seed: u64) -> [u8; 320] {
     let one = in_chunk(word, s, 0, count, which, seed);
     let two = in_chunk(one, s, 1, count, which, seed);
     let three = in_chunk(two, s, 2, count, which, seed);
@@ -92,32 +91,22 @@ pub fn in_all(word: [u8; 40], s: Sizes, count: usize, which: u64, seed: u64) -> 
     in_chunk(four, s, 4, count, which, seed)
 }
 
-// Whether two words differ at a place, as a number.
-fn unlike_at(a: [u8; 40], b: [u8; 40], place: usize) -> u64 {
-    if place < 320 {
-        let j = place / 8;
-        return code::bit(code::wide(a[j] ^ b[j]), place % 8);
-    }
-    0
-}
-
 // In how many of the `size` places from `low` on two words differ.
-pub fn unlike(a: [u8; 40], b: [u8; 40], low: usize, size: usize) -> u64 {
+fn unlike(a: [u8; 320], b: [u8; 320], low: usize, size: usize) -> u64 {
+    let high = within_320(plus(low, size));
     let mut count: u64 = 0;
-    let mut i: usize = 0;
-    while i < size {
-        let next = std::num::wrapping_add_u64(
-            count,
-            unlike_at(a, b, std::num::wrapping_add_usize(low, i)),
-        );
-        count = next;
-        i += 1;
+    let mut p = low;
+    while p < high {
+        if a[p] != b[p] {
+            count = std::num::wrapping_add_u64(count, 1);
+        }
+        p += 1;
     }
     count
 }
 
 // The bits turned between two words, if no chunk has more of them than the radius, else TOO_MANY.
-pub fn turned_within(s: Sizes, sent: [u8; 40], word: [u8; 40]) -> u64 {
+pub fn turned_within(s: Sizes, sent: [u8; 320], word: [u8; 320]) -> u64 {
     let t = s.radius as u64;
     let mut sum: u64 = 0;
     let mut c: u64 = 0;
@@ -139,23 +128,12 @@ pub fn turned_within(s: Sizes, sent: [u8; 40], word: [u8; 40]) -> u64 {
 }
 
 // The sum, modulo 2, of three words.
-pub fn sum_of_three(a: [u8; 40], b: [u8; 40], c: [u8; 40]) -> [u8; 40] {
-    let mut sum = [0u8; 40];
+pub fn sum_of_three(a: [u8; 320], b: [u8; 320], c: [u8; 320]) -> [u8; 320] {
+    let mut sum = [0u8; 320];
     let mut j: usize = 0;
-    while j < 40 {
+    while j < 320 {
         sum[j] = a[j] ^ b[j] ^ c[j];
         j += 1;
     }
     sum
-}
-
-// The first 40 of 48 bytes.
-pub fn front(bytes: [u8; 48]) -> [u8; 40] {
-    let mut word = [0u8; 40];
-    let mut j: usize = 0;
-    while j < 40 {
-        word[j] = bytes[j];
-        j += 1;
-    }
-    word
 }

@@ -6,10 +6,57 @@ use crate::cards;
 // of the rows and bytes, 15 and 16 make the rows of a small card dependent.
 pub const FAULTS: u64 = 17;
 
+// What a fault does to a card's bytes, in hexadecimal: a place; another; a mask; a number. The byte at the first place becomes
+// the bits of the other's byte that the mask has, and the number more. A fault of the length leaves the byte after a card as it is.
+const CHANGES: [u64; 17] = [
+    0x200_200_ff_00,
+    0x200_200_ff_00,
+    0x200_200_ff_00,
+    0x200_200_ff_00,
+    // the highest bit of one of the check's bytes turned
+    0x1fe_1fe_ff_80,
+    0x1ff_1ff_ff_80,
+    // n 0 and 65; k 0, 13 and one more than n
+    0x000_000_00_00,
+    0x000_000_00_41,
+    0x001_001_00_00,
+    0x001_001_00_0d,
+    0x001_000_ff_01,
+    // a bit at place 63; an unused row, the first and the last unused byte not zero
+    0x004_004_7f_80,
+    0x063_063_00_01,
+    0x064_064_00_01,
+    0x1fd_1fd_00_ff,
+    // row 0 zero, row 1 like row 0
+    0x00b_00b_00_00,
+    0x013_00b_ff_00,
+];
+
 // A card, with no check yet, with two faults, and with its check, which is right unless one of them is a fault of the check.
 pub fn two(card: [u8; 513], a: u64, b: u64) -> [u8; 513] {
     let bytes = faulty(faulty(card, a), b);
     check_with(check_with(cards::sealed(bytes), a), b)
+}
+
+// A sealed card with a fault of the check.
+fn check_with(card: [u8; 513], fault: u64) -> [u8; 513] {
+    if fault == 4 || fault == 5 {
+        faulty(card, fault)
+    } else {
+        card
+    }
+}
+
+// A card with a fault.
+fn faulty(card: [u8; 513], fault: u64) -> [u8; 513] {
+    let mut next = card;
+    let change = CHANGES[(fault % FAULTS) as usize];
+    let byte = card[(change / 0x1_0000 % 0x1000 % 513) as usize] & (change / 0x100 % 256) as u8;
+    next[(change / 0x1000_0000 % 513) as usize] = std::num::wrapping_add_u8(
+        byte,
+        (change % 256) as u8,
+    );
+    next
 }
 
 // The length of a card with two faults. Where both are of the length, it is the first one's.
@@ -34,76 +81,4 @@ fn length_with(fault: u64, len: usize) -> usize
         return 0;
     }
     len
-}
-
-// A sealed card with a fault of the check.
-fn check_with(card: [u8; 513], fault: u64) -> [u8; 513] {
-    if fault == 4 {
-        return changed(card, 510, card[510] ^ 1);
-    }
-    if fault == 5 {
-        return changed(card, 511, card[511] ^ 128);
-    }
-    card
-}
-
-// A card, with no check yet, with a fault.
-fn faulty(card: [u8; 513], fault: u64) -> [u8; 513] {
-    if fault < 11 {
-        return sizes_with(card, fault);
-    }
-    rows_with(card, fault)
-}
-
-// A card with a fault of n or k.
-fn sizes_with(card: [u8; 513], fault: u64) -> [u8; 513] {
-    if fault == 6 {
-        return changed(card, 0, 0);
-    }
-    if fault == 7 {
-        return changed(card, 0, 65);
-    }
-    if fault == 8 {
-        return changed(card, 1, 0);
-    }
-    if fault == 9 {
-        return changed(card, 1, 13);
-    }
-    if fault == 10 {
-        return changed(card, 1, std::num::wrapping_add_u8(card[0], 1));
-    }
-    card
-}
-
-// A card with a fault of its rows: a bit at place 63, an unused row and unused bytes not zero, row 0 zero, row 1 like
-// row 0.
-fn rows_with(card: [u8; 513], fault: u64) -> [u8; 513] {
-    if fault == 11 {
-        return changed(card, 4, card[4] | 128);
-    }
-    if fault == 12 {
-        return changed(card, 99, 1);
-    }
-    if fault == 13 {
-        return changed(card, 100, 1);
-    }
-    if fault == 14 {
-        return changed(card, 509, 255);
-    }
-    if fault == 15 {
-        return changed(card, 11, 0);
-    }
-    if fault == 16 {
-        return changed(card, 19, card[11]);
-    }
-    card
-}
-
-// The card with one byte changed.
-fn changed(card: [u8; 513], at: usize, to: u8) -> [u8; 513] {
-    let mut next = card;
-    if at < 512 {
-        next[at] = to;
-    }
-    next
 }

@@ -8,11 +8,11 @@ use second::code;
 
 // Words 22 to 26, made up: random bits; one codeword in both chunks, two codewords, the first and the last codeword, with
 // whole separators of any values; and one codeword in both chunks, damaged within the radius.
-pub fn made(card: code::Checked, s: Sizes, q: u64, seed: u64) -> [u8; 40] {
+pub fn made(card: code::Checked, s: Sizes, q: u64, seed: u64) -> [u8; 320] {
     let k = card.k as u64;
     let a = numbers::low_bits(k, numbers::random(seed, 1));
     if q == 22 {
-        return damage::damaged([0u8; 40], 0, s.bits, s.bits, damage::SCATTERED, seed);
+        return damage::damaged([0u8; 320], 0, s.bits, s.bits, damage::SCATTERED, seed);
     }
     if q == 23 {
         return assembled(card, s, a, a, seed);
@@ -39,16 +39,15 @@ pub fn made(card: code::Checked, s: Sizes, q: u64, seed: u64) -> [u8; 40] {
 }
 
 // A word with codewords a and b in its code chunks, and separators that are the lowest bits of the seed.
-fn assembled(card: code::Checked, s: Sizes, a: u64, b: u64, seed: u64) -> [u8; 40] {
+fn assembled(card: code::Checked, s: Sizes, a: u64, b: u64, seed: u64) -> [u8; 320] {
     let rows = card.rows;
     let first = code::codeword(&rows, a);
     let second = code::codeword(&rows, b);
-    let count = s.bits;
-    let mut word = [0u8; 40];
+    let count = numbers::within_320(s.bits);
+    let mut word = [0u8; 320];
     let mut p: usize = 0;
     while p < count {
-        let next = damage::turned_if(word, p, assembled_bit(s, first, second, seed, p));
-        word = next;
+        word[p] = (assembled_bit(s, first, second, seed, p) % 2) as u8;
         p += 1;
     }
     word

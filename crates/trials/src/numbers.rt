@@ -1,4 +1,5 @@
 // Numbers that look random, the lowest bits of a number, and sums.
+ghost use Prim.Native.Nat.{_≤_};
 
 // A number that looks random, of two numbers: four steps of a multiply-with-carry generator.
 pub fn random(a: u64, b: u64) -> u64 {
@@ -28,4 +29,11 @@ pub fn low_bits(n: u64, x: u64) -> u64 {
 // may, it asks for no proof of that.
 pub fn plus(a: usize, b: usize) -> usize {
     std::num::wrapping_add_usize(a, b)
+}
+
+// A number, or 320, the most places that a word has, if it is above that.
+pub fn within_320(x: usize) -> usize
+    ensures { λ r. ⌜ r ≤ 320 ⌝ }
+{
+    if x < 320 { x } else { 320 }
 }

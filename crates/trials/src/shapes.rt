@@ -25,13 +25,48 @@ pub const TRIANGULAR_ROWS: u64 = 4;
 // How many shapes there are.
 pub const SHAPES: u64 = 268;
 
-// Cyclic codes, by n, k and the generator, which is shifted: the Hamming codes of length 7 and 15, BCH codes of lengths
-// 15, 31 and 63, and the Golay code of length 23.
-const CYCLIC_N: [u64; 9] = [7, 15, 15, 15, 23, 31, 31, 63, 63];
+// Codes that are given one by one: n, k and the kind of rows, in hexadecimal, and what the rows are made from.
+//
+// Reed-Muller codes: RM(1, m) for m from 1 to 6, then RM(2, 2), RM(2, 3) and RM(2, 4). Cyclic codes, by the generator, which is
+// shifted: the Hamming codes of length 7 and 15, BCH codes of lengths 15, 31 and 63, and the Golay code of length 23. The largest
+// cards, with random rows and k from 9 to 12.
+const GIVEN: [u64; 24] = [
+    0x02_2_1,
+    0x04_3_1,
+    0x08_4_1,
+    0x10_5_1,
+    0x20_6_1,
+    0x40_7_1,
+    0x04_4_2,
+    0x08_7_2,
+    0x10_b_2,
+    0x07_4_0,
+    0x0f_b_0,
+    0x0f_7_0,
+    0x0f_5_0,
+    0x17_c_0,
+    0x1f_b_0,
+    0x1f_6_0,
+    0x3f_a_0,
+    0x3f_7_0,
+    0x0d_c_3,
+    0x14_c_3,
+    0x21_9_3,
+    0x28_a_3,
+    0x3f_b_3,
+    0x40_c_3,
+];
 
-const CYCLIC_K: [u64; 9] = [4, 11, 7, 5, 12, 11, 6, 10, 7];
-
-const CYCLIC_G: [u64; 9] = [
+const GIVEN_FROM: [u64; 24] = [
+    0,
+    0,
+    0,
+    0,
+    0,
+    0,
+    0,
+    0,
+    0,
     0xB,
     0x13,
     0x1D1,
@@ -41,15 +76,16 @@ const CYCLIC_G: [u64; 9] = [
     0o313365047,
     0o157464165547,
     0o5231045543503271737,
+    262,
+    263,
+    264,
+    265,
+    266,
+    267,
 ];
 
-// The largest cards' n, with k from 9 to 12.
-const LARGE_N: [u64; 6] = [13, 20, 33, 40, 63, 64];
-
-const LARGE_K: [u64; 6] = [12, 12, 9, 10, 11, 12];
-
 // Shape i: repetition codes of every length, the codes of all words (D 1) and of all words of even weight (D 2) for
-// every k, Reed-Muller codes, cyclic codes, then random rows.
+// every k, Reed-Muller and cyclic codes, then random rows.
 pub fn shape_number(i: u64) -> Shape {
     if i < 64 {
         return shape_of(i + 1, 1, SHIFTED_ROWS, u64::MAX);
@@ -60,11 +96,8 @@ pub fn shape_number(i: u64) -> Shape {
     if i < 88 {
         return shape_of(i - 74, i - 75, SHIFTED_ROWS, 3);
     }
-    if i < 97 {
-        return reed_muller(i - 87);
-    }
     if i < 106 {
-        return cyclic((i - 97) as usize);
+        return given((i - 88) as usize);
     }
     random_shape(i)
 }
@@ -73,25 +106,9 @@ fn shape_of(n: u64, k: u64, rows: u64, from: u64) -> Shape {
     Shape { n, k, rows, from }
 }
 
-// Reed-Muller codes: RM(1, m) for m from 1 to 6, then RM(2, 2), RM(2, 3) and RM(2, 4).
-fn reed_muller(i: u64) -> Shape {
-    if i < 7 {
-        return shape_of(1u64 << i, i + 1, DEGREE_1_ROWS, 0);
-    }
-    if i == 7 {
-        return shape_of(4, 4, DEGREE_2_ROWS, 0);
-    }
-    if i == 8 {
-        return shape_of(8, 7, DEGREE_2_ROWS, 0);
-    }
-    shape_of(16, 11, DEGREE_2_ROWS, 0)
-}
-
-fn cyclic(i: usize) -> Shape {
-    if i < 9 {
-        return shape_of(CYCLIC_N[i], CYCLIC_K[i], SHIFTED_ROWS, CYCLIC_G[i]);
-    }
-    shape_of(1, 1, SHIFTED_ROWS, 1)
+fn given(i: usize) -> Shape {
+    let sizes = GIVEN[i % 24];
+    shape_of(sizes / 256, sizes / 16 % 16, sizes % 16, GIVEN_FROM[i % 24])
 }
 
 // Shapes with random rows: 120 with n up to 20 and k up to 6, of which some are dependent; 12 with k = n; 24 with n from
@@ -108,19 +125,11 @@ fn random_shape(i: u64) -> Shape {
     if i < 262 {
         return shape_of(a % 44 + 21, b % 8 + 1, RANDOM_ROWS, i);
     }
-    large(i - 262, i)
+    given((i - 244) as usize)
 }
 
 fn lesser(a: u64, b: u64) -> u64
     ensures { λ r. ⌜ r ≤ a ⌝ }
 {
     if b < a { b } else { a }
-}
-
-fn large(which: u64, from: u64) -> Shape {
-    let i = which as usize;
-    if i < 6 {
-        return shape_of(LARGE_N[i], LARGE_K[i], RANDOM_ROWS, from);
-    }
-    shape_of(1, 1, SHIFTED_ROWS, 1)
 }

@@ -5,6 +5,7 @@ use crate::layout::Sizes;
 use crate::made_up;
 use crate::numbers;
 use crate::numbers::plus;
+use second::bits;
 use second::walk;
 use second::walk::Walk;
 
@@ -27,18 +28,21 @@ pub struct Received {
 // bit set counts as damaged beyond the radius.
 pub fn word_number(s: Sizes, behind: Walk, here: Walk, q: u64, id: u64) -> Received {
     let seed = numbers::random(numbers::random(id, here.position as u64), q);
-    let word = bytes_of(s, behind, here, q, seed);
+    let sent = here.bits;
+    let bits = bits_of(s, behind, here, q, seed);
     let turned = if q < COUNT - 1 {
-        damage::turned_within(s, walk::word_bytes(here), word)
+        damage::turned_within(s, sent, bits)
     } else {
         damage::TOO_MANY
     };
+    let word = bits::pack(&bits);
     Received { word, turned }
 }
 
-fn bytes_of(s: Sizes, behind: Walk, here: Walk, q: u64, seed: u64) -> [u8; 40] {
+fn bits_of(s: Sizes, behind: Walk, here: Walk, q: u64, seed: u64) -> [u8; 320] {
+    let sent = here.bits;
     if q < MOVED {
-        return damaged(walk::word_bytes(here), s, q, seed);
+        return damaged(sent, s, q, seed);
     }
     if q < MADE {
         return moved(behind, here, s.radius as u64, q);
@@ -47,11 +51,11 @@ fn bytes_of(s: Sizes, behind: Walk, here: Walk, q: u64, seed: u64) -> [u8; 40] {
         let card = here.card;
         return made_up::made(card, s, q, seed);
     }
-    damage::turned(walk::word_bytes(here), s.bits)
+    damage::turned(sent, s.bits)
 }
 
 // Words 0 to 17: undamaged; t bits of one chunk, which follow each other; t + 1 scattered bits of one chunk; others.
-fn damaged(word: [u8; 40], s: Sizes, q: u64, seed: u64) -> [u8; 40] {
+fn damaged(word: [u8; 320], s: Sizes, q: u64, seed: u64) -> [u8; 320] {
     if q == 0 {
         return word;
     }
@@ -81,7 +85,7 @@ fn damaged(word: [u8; 40], s: Sizes, q: u64, seed: u64) -> [u8; 40] {
 }
 
 // Words 11 to 14, damaged within the radius in every chunk: its first bits, its last, scattered ones, or fewer.
-fn within(word: [u8; 40], s: Sizes, q: u64, seed: u64) -> [u8; 40] {
+fn within(word: [u8; 320], s: Sizes, q: u64, seed: u64) -> [u8; 320] {
     if q == 11 {
         return damage::in_all(word, s, s.radius, damage::FIRST, seed);
     }
@@ -103,12 +107,13 @@ fn up_to(most: usize, seed: u64) -> usize {
 }
 
 // The word so many steps after a walk.
-fn word_on(w: Walk, steps: u64) -> [u8; 40] {
-    walk::word_bytes(walk::further(w, steps))
+fn word_on(w: Walk, steps: u64) -> [u8; 320] {
+    let on = walk::further(w, steps);
+    on.bits
 }
 
 // The word so many steps before `here`, or the first of the walk `behind`.
-fn word_back(behind: Walk, here: Walk, steps: u64) -> [u8; 40] {
+fn word_back(behind: Walk, here: Walk, steps: u64) -> [u8; 320] {
     let from = std::num::wrapping_add_u64(behind.position as u64, steps);
     let at = here.position as u64;
     word_on(behind, if at < from { 0 } else { at - from })
@@ -117,9 +122,10 @@ fn word_back(behind: Walk, here: Walk, steps: u64) -> [u8; 40] {
 // Words 18 to 21, whose damage leads away from the position, across chunks and block starts: the word of the position t
 // before it or t after it (1 where t is 0); and its word with the turns before the last t undone, or those after the next
 // t done, which lies as near to the position 2t away.
-fn moved(behind: Walk, here: Walk, radius: u64, q: u64) -> [u8; 40] {
+fn moved(behind: Walk, here: Walk, radius: u64, q: u64) -> [u8; 320] {
     let step = if radius == 0 { 1 } else { radius };
     let twice = std::num::wrapping_add_u64(step, step);
+    let sent = here.bits;
     if q == 18 {
         return word_back(behind, here, step);
     }
@@ -128,14 +134,10 @@ fn moved(behind: Walk, here: Walk, radius: u64, q: u64) -> [u8; 40] {
     }
     if q == 20 {
         return damage::sum_of_three(
-            walk::word_bytes(here),
+            sent,
             word_back(behind, here, step),
             word_back(behind, here, twice),
         );
     }
-    damage::sum_of_three(
-        walk::word_bytes(here),
-        word_on(here, step),
-        word_on(here, twice),
-    )
+    damage::sum_of_three(sent, word_on(here, step), word_on(here, twice))
 }

@@ -7,7 +7,7 @@ use Rattle.trials.proofs.damage.damaged.Statement.{statement}
 use Rattle.trials.proofs.damage.damaged.Tie as tie
 
 abbrev Inv-loop : tie.InvT-loop
-Inv-loop low size count which seed next₀ i₀ next i = (i ≤ count) × (length next ≡ 40)
+Inv-loop low size count which seed next₀ i₀ next i = (i ≤ count) × (length next ≡ 320)
 
 abbrev μ-loop : tie.MeasureT-loop
 μ-loop low size count which seed next₀ i₀ next i = count - i

@@ -1,4 +1,4 @@
--- `trials::damage::sum_of_three` is safe and ends: its places stay below 40. Assumes nothing.
+-- `trials::damage::sum_of_three` is safe and ends: its places stay below 320. Assumes nothing.
 use Prim.Native.Nat.{_-_, _≤_}
 use mathlib.Core.Path.{_≡_}
 use lib.ListN.{length}
@@ -7,10 +7,10 @@ use Rattle.trials.proofs.damage.sum_of_three.Statement.{statement}
 use Rattle.trials.proofs.damage.sum_of_three.Tie as tie
 
 abbrev Inv-loop : tie.InvT-loop
-Inv-loop a b c sum₀ j₀ sum j = (j ≤ 40) × (length sum ≡ 40)
+Inv-loop a b c sum₀ j₀ sum j = (j ≤ 320) × (length sum ≡ 320)
 
 abbrev μ-loop : tie.MeasureT-loop
-μ-loop a b c sum₀ j₀ sum j = 40 - j
+μ-loop a b c sum₀ j₀ sum j = 320 - j
 
 pub sum-of-three-spec : {M : Type 1} → statement M
 sum-of-three-spec =

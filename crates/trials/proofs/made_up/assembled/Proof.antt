@@ -1,4 +1,4 @@
--- `trials::made_up::assembled` is safe and ends: it counts up to the word's bits. Assumes nothing.
+-- `trials::made_up::assembled` is safe and ends: its places stay below 320. Assumes nothing.
 use Prim.Native.Nat.{_-_, _≤_}
 use mathlib.Core.Path.{_≡_}
 use lib.ListN.{length}
@@ -7,7 +7,7 @@ use Rattle.trials.proofs.made_up.assembled.Statement.{statement}
 use Rattle.trials.proofs.made_up.assembled.Tie as tie
 
 abbrev Inv-loop : tie.InvT-loop
-Inv-loop s a b seed first second count word₀ p₀ word p = (p ≤ count) × (length word ≡ 40)
+Inv-loop s a b seed first second count word₀ p₀ word p = (count ≤ 320) × (length word ≡ 320)
 
 abbrev μ-loop : tie.MeasureT-loop
 μ-loop s a b seed first second count word₀ p₀ word p = count - p
@@ -20,9 +20,11 @@ assembled-spec =
     μ-loop
     (λ c κs. search needs)
     (λ c κs. search needs)
+    (λ c κs. search needs)
     (λ c. search needs)
     (λ c κs. search needs)
-    (λ c κs. search needs)
+    (λ c. search needs)
+    (λ c. search needs)
     (λ c. search needs)
     (λ c. search needs)
     (λ c. search needs)
