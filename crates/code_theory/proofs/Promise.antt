@@ -4,7 +4,7 @@ use mathlib.Core.Path.{_∙_, _≡_, refl, sym}
 use Prim.Native.Nat.{ℕ, _≤_}
 use native.Mathlib.Nat.{lt-of-not-le}
 use native.Mathlib.Omega.{arith}
-use lib.Pow.{lt-of-le-ones}
+use lib.Pow.{pow-mono, lt-of-le-ones}
 use Rattle.model.specs.Card.{Code, radius}
 use Rattle.model.specs.Order.{lastCodeword}
 use Rattle.model.specs.Reading.{chunkDistance, chunkReading}
@@ -25,10 +25,16 @@ reads C S x p l here =
     (λ j b. lt-of-not-le (λ near. omega (arith, one-within-radius C S x j p (omega arith) l near here)))
     here
 
+-- a code of one row or more has two codewords or more
+two-codewords : (C : Code) → Sound C → 1 ≤ lastCodeword C
+unfolding lastCodeword
+two-codewords C S = omega (arith, pow-mono {i = 1} {j = C .k} (S .k-low))
+
 pub promise : (C : Code) → Sound C → ChunkPromise C
 promise C S =
     record {
       D-pos = D-low C S;
+      two-codewords = two-codewords C S;
       chunks = record { reads = reads C S; within = reading-near C };
       start-zero = start-zero C;
       start-next = start-next C;

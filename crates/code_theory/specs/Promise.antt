@@ -35,6 +35,8 @@ pub record ReadsChunks (C : Code) (read : (ℕ → ℕ) → Chunk) : Type 0 wher
 -- which code needs, go by the card's limits)
 pub record ChunkPromise (C : Code) : Type 0 where
   pub D-pos : 1 ≤ C .D
+  -- there are two codewords at least, so every position lies on the way from one to the next
+  pub two-codewords : 1 ≤ lastCodeword C
   pub chunks : ReadsChunks C (chunkReading C)
   -- the first block starts at 0, and each one where the one before it ends
   pub start-zero : start C 0 ≡ 0

@@ -8,8 +8,7 @@ use Rattle.bits.specs.Sums.{sumBelow}
 use Rattle.bits.specs.Places.{bit, place, listOf, differingBits}
 use Rattle.model.specs.Card.{Code, computedCheck, storedCheck, codeOf}
 use Rattle.model.specs.Order.{codeword, lastPosition, start}
-use Rattle.model.specs.Words.{wordBytes}
-use Rattle.model.specs.Reading.{separator₂, separator₃}
+use Rattle.model.specs.Words.{separator₁, separator₂, separator₃, wordBytes}
 use Rattle.model.specs.Answers.{cardAnswer, writeAnswer, lentAfterWrite, readAnswer}
 use Rattle.model.specs.Numbers.{cardStatus, cardValues, writeStatus, writeValues, readStatus, readValues}
 
@@ -73,7 +72,7 @@ answerTo (bitsUnlike card position received) = differingBits (wordBytes (codeOf 
 answerTo (onesOfSeparators card received) =
     let C : Code = codeOf card in
     let x : ℕ → ℕ = place received in
-    sumBelow x (C .D) ∷ sumBelow (separator₂ C x) (C .D) ∷ sumBelow (separator₃ C x) (C .D) ∷ []
+    sumBelow (separator₁ C x) (C .D) ∷ sumBelow (separator₂ C x) (C .D) ∷ sumBelow (separator₃ C x) (C .D) ∷ []
 
 -- a question and what document 01 says
 pub record Case : Type 0 where

@@ -3,29 +3,17 @@
 use mathlib.Core.Bool.{cond}
 use Prim.Native.Nat.{ℕ, _+_, _-_, _*_, _^_, min}
 use lib.Dec.{leb, ltb, eqb}
-use Rattle.bits.specs.Sums.{sumBelow, distance, from}
+use Rattle.bits.specs.Sums.{sumBelow, distance}
 use Rattle.bits.specs.Places.{bit}
 use Rattle.bits.specs.Searches.{first, leastAt}
 use Rattle.model.specs.Card.{Code, radius}
 use Rattle.model.specs.Order.{codeword, lastCodeword, changedWeight, start, lastPosition}
-use Rattle.model.specs.Words.{wordBits, wordAt}
+use Rattle.model.specs.Words.{wordBits, wordAt, separator₁}
+pub use Rattle.model.specs.Words.{chunk₁, separator₂, chunk₂, separator₃}
 use Rattle.model.specs.declared.Chunk.{Chunk}
 use Rattle.model.specs.declared.Chunk.the-variants.{Codeword, Unreadable}
 use Rattle.model.specs.declared.ReadAnswer.{ReadAnswer}
 use Rattle.model.specs.declared.ReadAnswer.the-variants.{At, Refused}
-
--- the chunks of a word after the first, separator 1, which is its first D places
-abbrev pub chunk₁ : Code → (ℕ → ℕ) → ℕ → ℕ
-chunk₁ C = from (C .D)
-
-abbrev pub separator₂ : Code → (ℕ → ℕ) → ℕ → ℕ
-separator₂ C = from (C .D + C .n)
-
-abbrev pub chunk₂ : Code → (ℕ → ℕ) → ℕ → ℕ
-chunk₂ C = from (C .D + C .n + C .D)
-
-abbrev pub separator₃ : Code → (ℕ → ℕ) → ℕ → ℕ
-separator₃ C = from (C .D + C .n + C .D + C .n)
 
 -- a separator of D bits reads 1 if more than half its bits are 1, else 0; a tie reads 0
 unfoldable pub majority : (D : ℕ) (x : ℕ → ℕ) → ℕ
@@ -35,7 +23,8 @@ majority D x = cond (ltb D (2 * sumBelow x D)) 1 0
 unfoldable pub chunkDistance : Code → (x : ℕ → ℕ) (p : ℕ) → ℕ
 chunkDistance C x p = distance (C .n) (bit (codeword C p)) x
 
--- a code chunk reads as p if c(p) lies within t bits of it (the first such p; there is one at most, by the law `one-within-radius`)
+-- a code chunk reads as p if c(p) lies within t bits of it (the first such p; there is one at most, by the law
+-- `one-within-radius`)
 unfoldable pub chunkReading : Code → (x : ℕ → ℕ) → Chunk
 chunkReading C x =
     let p = first (λ i. leb (chunkDistance C x i) (radius C)) (2 ^ C .k) in
@@ -54,7 +43,7 @@ pub record Seen : Type 0 where
 unfoldable pub seen : Code → (x : ℕ → ℕ) → Seen
 seen C x =
     record {
-      s₁ = majority (C .D) x;
+      s₁ = majority (C .D) (separator₁ C x);
       s₂ = majority (C .D) (separator₂ C x);
       s₃ = majority (C .D) (separator₃ C x);
       read₁ = chunkReading C (chunk₁ C x);

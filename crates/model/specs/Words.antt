@@ -1,8 +1,9 @@
--- Document 01, "Order and words", second half: the word of a position, its bytes, and millimetres. Assumes nothing.
+-- Document 01, "Order and words", second half: the chunks of a word, the word of a position, its bytes, and millimetres.
+-- Assumes nothing.
 use mathlib.Core.List.{List}
-use Prim.Native.Nat.{ℕ, _+_, _-_, _*_, _%_}
+use Prim.Native.Nat.{ℕ, zero, suc, _+_, _-_, _*_, _%_}
 use lib.Dec.{leb}
-use Rattle.bits.specs.Sums.{joinAt}
+use Rattle.bits.specs.Sums.{joinAt, from}
 use Rattle.bits.specs.Walk.{walk}
 use Rattle.bits.specs.Places.{bit, pack}
 use Rattle.bits.specs.Searches.{greatest}
@@ -12,6 +13,38 @@ use Rattle.model.specs.Order.{codeword, lastCodeword, start}
 -- d, the bits of a word: 2n + 3D
 abbrev pub wordBits : Code → ℕ
 wordBits C = 2 * C .n + 3 * C .D
+
+-- The five chunks of a word by number: 0, 2 and 4 are the separators, of D bits each, and 1 and 3 the code chunks, of n. How many
+-- bits chunk c has, and how many stand before it:
+unfoldable pub chunkSize : (D n c : ℕ) → ℕ
+chunkSize D n zero = D
+chunkSize D n (suc zero) = n
+chunkSize D n (suc (suc c)) = chunkSize D n c
+
+unfoldable pub placesBefore : (D n c : ℕ) → ℕ
+placesBefore D n zero = 0
+placesBefore D n (suc zero) = D
+placesBefore D n (suc (suc c)) = placesBefore D n (suc c) + chunkSize D n (suc c)
+
+-- chunk c of a word, from its first place on
+abbrev pub chunkOf : Code → (c : ℕ) (x : ℕ → ℕ) → ℕ → ℕ
+chunkOf C c = from (placesBefore (C .D) (C .n) c)
+
+-- the chunks 0 to 4 by name (that they are these is the law `named-chunks`)
+abbrev pub separator₁ : Code → (ℕ → ℕ) → ℕ → ℕ
+separator₁ C x = x
+
+abbrev pub chunk₁ : Code → (ℕ → ℕ) → ℕ → ℕ
+chunk₁ C = from (C .D)
+
+abbrev pub separator₂ : Code → (ℕ → ℕ) → ℕ → ℕ
+separator₂ C = from (C .D + C .n)
+
+abbrev pub chunk₂ : Code → (ℕ → ℕ) → ℕ → ℕ
+chunk₂ C = from (C .D + C .n + C .D)
+
+abbrev pub separator₃ : Code → (ℕ → ℕ) → ℕ → ℕ
+separator₃ C = from (C .D + C .n + C .D + C .n)
 
 -- a word of five chunks: separator 1 (D bits), code chunk 1 (n), separator 2 (D), code chunk 2 (n), separator 3 (D)
 unfoldable pub fiveChunks : Code → (s₁ c₁ s₂ c₂ s₃ : ℕ → ℕ) → ℕ → ℕ

@@ -25,10 +25,10 @@ IsometricOnTrack C (fromTo range) =
     (range .low ≤ range .high) × (range .high ≤ lastPosition C) × IsometricTrack C (range .low) (range .high)
 IsometricOnTrack C (refusedBy refusal) = Unit {0}
 
--- the received word x allows this position
-pub record Allows (C : Code) (x : ℕ → ℕ) (position : ℕ) : Type 0 where
+-- what is allowed holds this position
+pub record Allows (a : Allowed) (position : ℕ) : Type 0 where
   pub range : Range
-  pub is : allowed C x ≡ fromTo range
+  pub is : a ≡ fromTo range
   pub from-low : range .low ≤ position
   pub to-high : position ≤ range .high
 

@@ -1,10 +1,10 @@
 -- Blocks follow one another from 0 to the last position: the starts rise, each position lies in exactly one block, and
 -- the word of the position m steps into block i is the walk of m steps from w(i) to w(i+1), the block's end included.
 -- Assumes nothing.
-use mathlib.Core.Path.{_≡_, sym}
+use mathlib.Core.Path.{_≡_, sym, _∙_}
 use mathlib.Core.Logic.{_⊎_, inl, inr, ⊎-elim}
-use Prim.Native.Nat.{ℕ, zero, suc, _+_, _-_, _≤_, _<_}
-use native.Mathlib.Nat.{eq-or-lt-of-le, eq-zero-or-pos, sub-self, add-sub-cancel-left}
+use Prim.Native.Nat.{ℕ, zero, suc, _+_, _-_, _*_, _≤_, _<_}
+use native.Mathlib.Nat.{le-dest, eq-or-lt-of-le, eq-zero-or-pos, sub-self, add-sub-cancel-left}
 use native.Mathlib.Numerals.{add-one}
 use native.Mathlib.Omega.{arith}
 use lib.Dec.{leb}
@@ -14,10 +14,11 @@ use Rattle.bits.specs.Walk.{walk}
 use Rattle.bits.proofs.Walk.{walk-none, walk-before}
 use Rattle.bits.proofs.Searches.{greatest-is, greatest-le, greatest-holds, greatest-above}
 use Rattle.model.specs.Card.{Code}
-use Rattle.model.specs.Order.{lastCodeword, blockLength, start, lastPosition}
-use Rattle.model.specs.Words.{wordBits, word, blockOf, wordAt}
+use Rattle.model.specs.Order.{lastCodeword, changedWeight, blockLength, start, lastPosition}
+use Rattle.model.specs.Words.{wordBits, chunkSize, placesBefore, word, blockOf, wordAt}
 use Rattle.code_theory.specs.Promise.{ChunkPromise}
-use Rattle.position_theory.proofs.Words.{word-bit, apart}
+use Rattle.position_theory.proofs.Words.{word-bit}
+use Rattle.position_theory.proofs.Between.{Next, stepsBefore, apart-before, words-apart}
 
 -- the position is one of the steps of block i, or, in the last block, which has none, its start
 pub record InBlock (C : Code) (position i : ℕ) : Type 0 where
@@ -25,6 +26,49 @@ pub record InBlock (C : Code) (position i : ℕ) : Type 0 where
   pub from-start : start C i ≤ position
   pub before-end : i < lastCodeword C → position < start C i + blockLength C i
   pub at-last : i ≡ lastCodeword C → position ≡ start C i
+
+-- the position stands some steps on the way through a block that is not the last, the block's end included
+pub record OnTheWay (C : Code) (position : ℕ) : Type 0 where
+  pub block : ℕ
+  pub steps : ℕ
+  pub inside : block < lastCodeword C
+  pub room : steps ≤ blockLength C block
+  pub is : start C block + steps ≡ position
+
+-- a block leads from one codeword to the next, and has as many steps as their words are apart
+module _ (C : Code) (promise : ChunkPromise C) (i : ℕ) (inside : i < lastCodeword C) where
+  pub next-codeword : Next C i (i + 1) (changedWeight C i)
+  next-codeword =
+      record {
+        from-codeword = omega arith;
+        to-codeword = omega arith;
+        parities = omega arith;
+        codewords = promise .step i inside;
+      }
+
+  pub block-steps : stepsBefore C (changedWeight C i) 5 ≡ blockLength C i
+  unfolding placesBefore chunkSize
+  block-steps = omega arith
+
+  -- how far w(i) and w(i+1) are apart up to the end of each chunk
+  pub apart-separator₁ : distance (C .D) (word C i) (word C (i + 1)) ≡ C .D
+  unfolding placesBefore chunkSize
+  apart-separator₁ = apart-before C next-codeword 1 (omega arith)
+
+  pub apart-chunk₁ : distance (C .D + C .n) (word C i) (word C (i + 1)) ≡ C .D + changedWeight C i
+  unfolding placesBefore chunkSize
+  apart-chunk₁ = apart-before C next-codeword 2 (omega arith)
+
+  pub apart-separator₂ : distance (C .D + C .n + C .D) (word C i) (word C (i + 1)) ≡ 2 * C .D + changedWeight C i
+  unfolding placesBefore chunkSize
+  apart-separator₂ = apart-before C next-codeword 3 (omega arith) ∙ omega arith
+
+  pub apart-chunk₂ : distance (C .D + C .n + C .D + C .n) (word C i) (word C (i + 1)) ≡ 2 * C .D + 2 * changedWeight C i
+  unfolding placesBefore chunkSize
+  apart-chunk₂ = apart-before C next-codeword 4 (omega arith) ∙ omega arith
+
+  pub apart : distance (wordBits C) (word C i) (word C (i + 1)) ≡ blockLength C i
+  apart = words-apart C next-codeword ∙ block-steps
 
 module _ (C : Code) where
   -- the block of a position is the last that starts at or before it
@@ -105,6 +149,33 @@ module _ (C : Code) (promise : ChunkPromise C) where
   in-its-block position h =
       let lies = lies-in-its-block position h in
       ⊎-elim (λ e. inl (lies .at-last e)) (λ l. inr (l, lies .before-end l)) (eq-or-lt-of-le (block-le C position))
+
+  -- each position, the last included, stands on the way from one codeword to the next
+  pub on-the-way : (position : ℕ) → position ≤ lastPosition C → OnTheWay C position
+  unfolding lastPosition
+  on-the-way position h =
+      ⊎-elim
+      (λ (e : blockOf C position ≡ lastCodeword C).
+      let before : (i : ℕ) × (1 + i ≡ lastCodeword C) = le-dest (promise .two-codewords) in
+      let here : blockOf C position ≡ before .0 + 1 = omega arith in
+      let last : position ≡ start C (before .0 + 1) = rw here at (lies-in-its-block position h .at-last e) in
+      record {
+        block = before .0;
+        steps = blockLength C (before .0);
+        inside = omega arith;
+        room = omega arith;
+        is = omega (arith, promise .start-next (before .0) (omega arith));
+      })
+      (λ (l : blockOf C position < lastCodeword C).
+      let offset = le-dest (block-low position) in
+      record {
+        block = blockOf C position;
+        steps = offset .0;
+        inside = l;
+        room = omega (arith, lies-in-its-block position h .before-end l);
+        is = offset .1;
+      })
+      (eq-or-lt-of-le (block-le C position))
 
   -- the steps that it stands into its block are no more than its block's words are apart
   pub steps-in-block : (position : ℕ) → position ≤ lastPosition C

@@ -1,13 +1,13 @@
 -- Demand 2, writing: the words of neighbouring positions differ in one bit, since both lie in one block; and no two
 -- positions share a word, since a word with nothing turned is read as each position that has it.
 -- Assumes nothing.
-use mathlib.Core.Path.{_≡_, _∙_}
+use mathlib.Core.Path.{_≡_, sym, _∙_}
 use mathlib.Core.Logic.{⊎-elim}
 use Prim.Native.Nat.{ℕ, _+_, _≤_, _<_}
 use native.Mathlib.Nat.{eq-or-lt-of-le}
 use native.Mathlib.Omega.{arith}
 use Rattle.bits.specs.Sums.{distance}
-use Rattle.bits.specs.Places.{differingBits}
+use Rattle.bits.specs.Places.{place, differingBits}
 use Rattle.bits.proofs.Distance.{distance-self}
 use Rattle.model.specs.Card.{Code}
 use Rattle.model.specs.Order.{lastCodeword, lastPosition}
@@ -16,7 +16,8 @@ use Rattle.model.specs.Answers.{readWord}
 use Rattle.model.specs.declared.ReadAnswer.{ReadAnswer}
 use Rattle.model.specs.declared.ReadAnswer.the-variants.{At, Refused}
 use Rattle.code_theory.specs.Promise.{ChunkPromise}
-use Rattle.position_theory.specs.Damage.{WithinRadius, turnedInAll, turned, Near}
+use Rattle.position_theory.specs.Damage.{turnedIn, ChunksWithin, WithinRadius, turned, Near}
+use Rattle.position_theory.proofs.Words.{five-distance}
 use Rattle.position_theory.proofs.WordBytes.{length-of-word, no-spare-set, differing-words}
 use Rattle.position_theory.proofs.Blocks.{block-le, block-low, block-high}
 use Rattle.position_theory.proofs.Ranges.{Isometric}
@@ -51,23 +52,18 @@ module _ (C : Code) (promise : ChunkPromise C) where
 
   -- an undamaged word is within the radius, with nothing turned
   undamaged : (position : ℕ) → WithinRadius C position (wordBytes C position)
+  unfolding ChunksWithin turnedIn
   undamaged position =
       record {
         right-length = length-of-word C position;
         spare-zero = no-spare-set C position;
-        chunks =
-            record {
-              in-separator₁ = rw distance-self (omega arith);
-              in-chunk₁ = rw distance-self (omega arith);
-              in-separator₂ = rw distance-self (omega arith);
-              in-chunk₂ = rw distance-self (omega arith);
-              in-separator₃ = rw distance-self (omega arith);
-            };
+        chunks = λ c b. rw distance-self (omega arith);
       }
 
   nothing-turned : (position : ℕ) → turned C position (wordBytes C position) ≡ 0
-  unfolding turned turnedInAll
-  nothing-turned position = simp distance-self
+  unfolding turned
+  nothing-turned position =
+      let u = place (wordBytes C position) in sym (five-distance C u u) ∙ distance-self (wordBits C) u
 
   -- two positions that are no steps from one answer are one
   one-answer : (answer : ReadAnswer) (p q : ℕ) → Near answer p 0 → Near answer q 0 → p ≡ q

@@ -1,11 +1,13 @@
 pub mod Ranges
 pub mod Words
+pub mod Between
 pub mod WordBytes
+pub mod Separators
+pub mod Telling
+pub mod TrueCases
 pub mod Blocks
 pub mod Isometry
 pub mod Allowed
-pub mod WholeChunks
-pub mod Separators
 pub mod TrueAllowed
 pub mod Nearest
 pub mod BoundedError

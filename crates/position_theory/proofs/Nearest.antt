@@ -47,7 +47,7 @@ module _ (C : Code) (promise : ChunkPromise C) (x : ℕ → ℕ) where
   reading-is-nearest = reading-of (allowed C x) refl
 
   -- the answer to a word that allows a position is as near to that position as the bits turned and the residual say
-  pub answer-near : (position : ℕ) → Allows C x position
+  pub answer-near : (position : ℕ) → Allows (allowed C x) position
       → Near (reading C x) position (residual C x position + residualOf (reading C x)) × (residualOf (reading C x) ≤ residual C x position)
   unfolding reading residual IsometricOnTrack
   answer-near position a =

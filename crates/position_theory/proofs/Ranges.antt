@@ -55,7 +55,8 @@ pub record NearestIn (residual : ℕ → ℕ) (range : Range) (q : ℕ) : Type 0
   pub none-nearer : (q′ : ℕ) → range .low ≤ q′ → q′ ≤ range .high → residual q ≤ residual q′
   pub none-smaller : (q′ : ℕ) → range .low ≤ q′ → q′ < q → residual q < residual q′
 
-pub nearest-in : (residual : ℕ → ℕ) (range : Range) → range .low ≤ range .high → NearestIn residual range (nearestIn residual range)
+pub nearest-in : (residual : ℕ → ℕ) (range : Range) → range .low ≤ range .high
+    → NearestIn residual range (nearestIn residual range)
 unfolding nearestIn
 nearest-in residual range h =
     let low = range .low in

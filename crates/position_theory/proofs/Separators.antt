@@ -1,9 +1,27 @@
--- The rule that a word's separators name, as tests on what they read. Assumes nothing.
+-- The rule that three separators name, as tests on what they read. Assumes nothing.
 use mathlib.Core.Path.{_≡_}
 use Prim.Native.Nat.{ℕ}
 use borrow.Author.Tests.{eq-eqb, ne-eqb}
 use Rattle.model.specs.Card.{Code}
-use Rattle.model.specs.Reading.{majority, separator₂, separator₃, seen, ruleOf, ruleNamed}
+use Rattle.model.specs.Words.{separator₂, separator₃}
+use Rattle.model.specs.Reading.{majority, seen, ruleOf, ruleNamed}
+
+module _ {s₁ s₂ s₃ : ℕ} where
+  pub rule₁-named : s₁ ≡ s₂ → (s₂ ≡ s₃ → ⊥) → ruleOf s₁ s₂ s₃ ≡ 1
+  unfolding ruleOf
+  rule₁-named e ne = rw (eq-eqb s₁ s₂ e, ne-eqb s₂ s₃ ne)
+
+  pub rule₂-named : (s₁ ≡ s₂ → ⊥) → s₂ ≡ s₃ → ruleOf s₁ s₂ s₃ ≡ 2
+  unfolding ruleOf
+  rule₂-named ne e = rw (ne-eqb s₁ s₂ ne, eq-eqb s₂ s₃ e)
+
+  pub rule₃-named : s₁ ≡ s₂ → s₂ ≡ s₃ → ruleOf s₁ s₂ s₃ ≡ 3
+  unfolding ruleOf
+  rule₃-named e e′ = rw (eq-eqb s₁ s₂ e, eq-eqb s₂ s₃ e′)
+
+  pub none-named : (s₁ ≡ s₂ → ⊥) → (s₂ ≡ s₃ → ⊥) → ruleOf s₁ s₂ s₃ ≡ 0
+  unfolding ruleOf
+  none-named ne ne′ = rw (ne-eqb s₁ s₂ ne, ne-eqb s₂ s₃ ne′)
 
 -- the three separators of the word x read s₁, s₂ and s₃
 pub record SeparatorsRead (C : Code) (x : ℕ → ℕ) (s₁ s₂ s₃ : ℕ) : Type 0 where
@@ -12,18 +30,18 @@ pub record SeparatorsRead (C : Code) (x : ℕ → ℕ) (s₁ s₂ s₃ : ℕ) : 
   pub third : majority (C .D) (separator₃ C x) ≡ s₃
 
 module _ {C : Code} {x : ℕ → ℕ} {s₁ s₂ s₃ : ℕ} (read : SeparatorsRead C x s₁ s₂ s₃) where
+  named-by : ruleNamed C x ≡ ruleOf s₁ s₂ s₃
+  unfolding ruleNamed seen
+  named-by = rw (read .first, read .second, read .third)
+
   pub names-rule₁ : s₁ ≡ s₂ → (s₂ ≡ s₃ → ⊥) → ruleNamed C x ≡ 1
-  unfolding ruleNamed seen ruleOf
-  names-rule₁ e ne = rw (read .first, read .second, read .third, eq-eqb s₁ s₂ e, ne-eqb s₂ s₃ ne)
+  names-rule₁ e ne = rw named-by (rule₁-named e ne)
 
   pub names-rule₂ : (s₁ ≡ s₂ → ⊥) → s₂ ≡ s₃ → ruleNamed C x ≡ 2
-  unfolding ruleNamed seen ruleOf
-  names-rule₂ ne e = rw (read .first, read .second, read .third, ne-eqb s₁ s₂ ne, eq-eqb s₂ s₃ e)
+  names-rule₂ ne e = rw named-by (rule₂-named ne e)
 
   pub names-rule₃ : s₁ ≡ s₂ → s₂ ≡ s₃ → ruleNamed C x ≡ 3
-  unfolding ruleNamed seen ruleOf
-  names-rule₃ e e′ = rw (read .first, read .second, read .third, eq-eqb s₁ s₂ e, eq-eqb s₂ s₃ e′)
+  names-rule₃ e e′ = rw named-by (rule₃-named e e′)
 
   pub names-none : (s₁ ≡ s₂ → ⊥) → (s₂ ≡ s₃ → ⊥) → ruleNamed C x ≡ 0
-  unfolding ruleNamed seen ruleOf
-  names-none ne ne′ = rw (read .first, read .second, read .third, ne-eqb s₁ s₂ ne, ne-eqb s₂ s₃ ne′)
+  names-none ne ne′ = rw named-by (none-named ne ne′)

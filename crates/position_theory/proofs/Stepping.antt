@@ -15,8 +15,8 @@ use Rattle.model.specs.Order.{lastCodeword, blockLength, start}
 use Rattle.model.specs.Words.{wordBits, word, wordAt}
 use Rattle.model.specs.Reading.{residual}
 use Rattle.code_theory.specs.Promise.{ChunkPromise}
-use Rattle.position_theory.proofs.Words.{word-bit, apart}
-use Rattle.position_theory.proofs.Blocks.{word-in-block}
+use Rattle.position_theory.proofs.Words.{word-bit}
+use Rattle.position_theory.proofs.Blocks.{apart, word-in-block}
 
 module _ (C : Code) (promise : ChunkPromise C) (i : ℕ) (inside : i < lastCodeword C) where
   -- no more steps are made below any place than the block has

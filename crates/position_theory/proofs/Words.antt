@@ -1,18 +1,19 @@
--- Words chunk by chunk: what stands in each of the five chunks of w(i), how the distance of two words adds up over the
--- chunks, and how far w(i) and w(i+1) are apart up to each chunk's end. Assumes nothing.
-use mathlib.Core.Path.{_≡_, refl}
-use Prim.Native.Nat.{ℕ, _+_, _*_, _%_, _<_}
-use native.Mathlib.Nat.{add-assoc, mod-lt}
+-- Words chunk by chunk: what stands in each of the five chunks of w(i), and how the distance of two words adds up over the
+-- chunks. Assumes nothing.
+use mathlib.Core.Path.{_≡_, refl, sym}
+use Prim.Native.Nat.{ℕ, zero, suc, _+_, _%_, _≤_, _<_}
+use native.Mathlib.Nat.{zero-add, add-assoc, mod-lt}
 use native.Mathlib.Omega.{arith}
-use Rattle.bits.specs.Sums.{distance}
+use Rattle.bits.specs.Sums.{sumBelow, distance}
 use Rattle.bits.specs.Places.{bit}
-use Rattle.bits.proofs.Distance.{distance-ext, distance-split, distance-everywhere}
+use Rattle.bits.proofs.Sums.{from-zero}
+use Rattle.bits.proofs.Distance.{distance-split}
 use Rattle.bits.proofs.Joins.{join-left, join-right, join-bit}
 use Rattle.model.specs.Card.{Code}
-use Rattle.model.specs.Order.{codeword, lastCodeword, changedWeight, blockLength}
-use Rattle.model.specs.Words.{wordBits, fiveChunks, word}
-use Rattle.model.specs.Reading.{chunk₁, separator₂, chunk₂, separator₃}
-use Rattle.code_theory.specs.Promise.{ChunkPromise}
+use Rattle.model.specs.Order.{codeword}
+use Rattle.model.specs.Words.{wordBits, chunkSize, placesBefore, chunkOf, fiveChunks, word}
+use Rattle.model.specs.Words.{separator₁, chunk₁, separator₂, chunk₂, separator₃}
+use Rattle.position_theory.specs.Damage.{turnedIn, turnedInAll}
 
 module _ (C : Code) (s₁ c₁ s₂ c₂ s₃ : ℕ → ℕ) where
   five-separator₁ : (p : ℕ) → p < C .D → fiveChunks C s₁ c₁ s₂ c₂ s₃ p ≡ s₁ p
@@ -68,68 +69,66 @@ module _ (C : Code) (i : ℕ) where
       code-bit : (p : ℕ) → bit (codeword C i) p < 2
       code-bit p = mod-lt _ (omega arith)
 
--- a word's places in the order of its chunks
-word-in-order : (C : Code) → wordBits C ≡ C .D + C .n + C .D + C .n + C .D
-word-in-order C = omega arith
+-- what stands in chunk c of w(i): the parity of i in a separator, c(i) in a code chunk
+unfoldable pub content : Code → (i c : ℕ) → ℕ → ℕ
+content C i zero = λ p. i % 2
+content C i (suc zero) = bit (codeword C i)
+content C i (suc (suc c)) = content C i c
+
+pub word-chunk : (C : Code) (i c : ℕ) → c < 5 → (p : ℕ) → p < chunkSize (C .D) (C .n) c
+    → chunkOf C c (word C i) p ≡ content C i c p
+unfolding chunkSize placesBefore content
+word-chunk C i zero b p h = rw zero-add (word-separator₁ C i p h)
+word-chunk C i (suc zero) b p h = word-chunk₁ C i p h
+word-chunk C i (suc (suc zero)) b p h = word-separator₂ C i p h
+word-chunk C i (suc (suc (suc zero))) b p h = word-chunk₂ C i p h
+word-chunk C i (suc (suc (suc (suc zero)))) b p h = word-separator₃ C i p
+word-chunk C i (suc (suc (suc (suc (suc c))))) b p h = absurd (omega arith)
+
+-- the chunks by name are those by number
+pub named-chunks : (C : Code) (x : ℕ → ℕ)
+    → (chunkOf C 0 x ≡ separator₁ C x) × (chunkOf C 1 x ≡ chunk₁ C x) × (chunkOf C 2 x ≡ separator₂ C x)
+    × (chunkOf C 3 x ≡ chunk₂ C x) × (chunkOf C 4 x ≡ separator₃ C x)
+unfolding placesBefore chunkSize
+named-chunks C x = (from-zero x, refl, refl, refl, refl)
+
+-- the chunks follow one another, and after the fifth the word ends
+pub chunk-ends : (D n c : ℕ) → placesBefore D n (suc c) ≡ placesBefore D n c + chunkSize D n c
+unfolding placesBefore chunkSize
+chunk-ends D n zero = sym (zero-add D)
+chunk-ends D n (suc c) = refl
+
+pub word-ends : (C : Code) → wordBits C ≡ placesBefore (C .D) (C .n) 5
+unfolding placesBefore chunkSize
+word-ends C = omega arith
+
+-- so no chunk reaches past the word's end
+pub chunk-fits : (C : Code) (c : ℕ) → c < 5 → placesBefore (C .D) (C .n) c + chunkSize (C .D) (C .n) c ≤ wordBits C
+unfolding placesBefore chunkSize
+chunk-fits C zero b = omega arith
+chunk-fits C (suc zero) b = omega arith
+chunk-fits C (suc (suc zero)) b = omega arith
+chunk-fits C (suc (suc (suc zero))) b = omega arith
+chunk-fits C (suc (suc (suc (suc zero)))) b = omega arith
+chunk-fits C (suc (suc (suc (suc (suc c))))) b = absurd (omega arith)
+
+-- no places, no distance
+pub distance-none : (u v : ℕ → ℕ) → distance 0 u v ≡ 0
+unfolding distance sumBelow
+distance-none u v = refl
 
 -- the distance of two words is the sum of the distances of their chunks
-pub five-distance : (C : Code) (x y : ℕ → ℕ)
-    → distance (wordBits C) x y
-    ≡ distance (C .D) x y + distance (C .n) (chunk₁ C x) (chunk₁ C y) + distance (C .D) (separator₂ C x) (separator₂ C y)
-    + distance (C .n) (chunk₂ C x) (chunk₂ C y) + distance (C .D) (separator₃ C x) (separator₃ C y)
-five-distance C x y =
+pub distance-by-chunks : (C : Code) (u x : ℕ → ℕ) (c : ℕ)
+    → distance (placesBefore (C .D) (C .n) c) u x ≡ sumBelow (λ c. turnedIn C c u x) c
+unfolding sumBelow turnedIn placesBefore
+distance-by-chunks C u x zero = distance-none u x
+distance-by-chunks C u x (suc c) =
     rw (
-      word-in-order C,
-      distance-split (C .D + C .n + C .D + C .n) (C .D) x y,
-      distance-split (C .D + C .n + C .D) (C .n) x y,
-      distance-split (C .D + C .n) (C .D) x y,
-      distance-split (C .D) (C .n) x y,
+      chunk-ends (C .D) (C .n) c,
+      distance-split (placesBefore (C .D) (C .n) c) (chunkSize (C .D) (C .n) c) u x,
+      distance-by-chunks C u x c,
     )
 
--- how far w(i) and w(i+1) are apart up to the end of each chunk: a separator's bits all change, and of a code chunk as many as the
--- changed row's weight
-module _ (C : Code) (i : ℕ) where
-  separators-apart : (u v : ℕ → ℕ) → ((p : ℕ) → p < C .D → u p ≡ i % 2) → ((p : ℕ) → p < C .D → v p ≡ (i + 1) % 2)
-      → distance (C .D) u v ≡ C .D
-  separators-apart u v hu hv = distance-everywhere u v (C .D) (λ p b. rw (hu p b, hv p b) (omega arith))
-
-  pub apart-separator₁ : distance (C .D) (word C i) (word C (i + 1)) ≡ C .D
-  apart-separator₁ = separators-apart _ _ (word-separator₁ C i) (word-separator₁ C (i + 1))
-
-module _ (C : Code) (promise : ChunkPromise C) (i : ℕ) (inside : i < lastCodeword C) where
-  chunks-apart : (u v : ℕ → ℕ) → ((p : ℕ) → p < C .n → u p ≡ bit (codeword C i) p)
-      → ((p : ℕ) → p < C .n → v p ≡ bit (codeword C (i + 1)) p) → distance (C .n) u v ≡ changedWeight C i
-  chunks-apart u v hu hv = rw (distance-ext (C .n) hu hv) (promise .step i inside)
-
-  pub apart-chunk₁ : distance (C .D + C .n) (word C i) (word C (i + 1)) ≡ C .D + changedWeight C i
-  apart-chunk₁ =
-      rw (
-        distance-split (C .D) (C .n) (word C i) (word C (i + 1)),
-        apart-separator₁ C i,
-        chunks-apart _ _ (word-chunk₁ C i) (word-chunk₁ C (i + 1)),
-      )
-
-  pub apart-separator₂ : distance (C .D + C .n + C .D) (word C i) (word C (i + 1)) ≡ 2 * C .D + changedWeight C i
-  apart-separator₂ =
-      rw (
-        distance-split (C .D + C .n) (C .D) (word C i) (word C (i + 1)),
-        apart-chunk₁,
-        separators-apart C i _ _ (word-separator₂ C i) (word-separator₂ C (i + 1)),
-      ) (omega arith)
-
-  pub apart-chunk₂ : distance (C .D + C .n + C .D + C .n) (word C i) (word C (i + 1)) ≡ 2 * C .D + 2 * changedWeight C i
-  apart-chunk₂ =
-      rw (
-        distance-split (C .D + C .n + C .D) (C .n) (word C i) (word C (i + 1)),
-        apart-separator₂,
-        chunks-apart _ _ (word-chunk₂ C i) (word-chunk₂ C (i + 1)),
-      ) (omega arith)
-
-  pub apart : distance (wordBits C) (word C i) (word C (i + 1)) ≡ blockLength C i
-  apart =
-      rw (
-        word-in-order C,
-        distance-split (C .D + C .n + C .D + C .n) (C .D) (word C i) (word C (i + 1)),
-        apart-chunk₂,
-        separators-apart C i _ _ (λ p _. word-separator₃ C i p) (λ p _. word-separator₃ C (i + 1) p),
-      ) (omega arith)
+pub five-distance : (C : Code) (u x : ℕ → ℕ) → distance (wordBits C) u x ≡ turnedInAll C u x
+unfolding turnedInAll
+five-distance C u x = rw (word-ends C) (distance-by-chunks C u x 5)

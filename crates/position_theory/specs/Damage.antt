@@ -3,30 +3,27 @@
 use mathlib.Core.Path.{_≡_}
 use mathlib.Core.Bool.{false}
 use mathlib.Core.List.{List}
-use Prim.Native.Nat.{ℕ, _+_, _≤_}
+use Prim.Native.Nat.{ℕ, _+_, _≤_, _<_}
 use lib.ListN.{length}
-use Rattle.bits.specs.Sums.{distance}
+use Rattle.bits.specs.Sums.{sumBelow, distance}
 use Rattle.bits.specs.Places.{place}
 use Rattle.model.specs.Card.{Code, radius}
-use Rattle.model.specs.Words.{wordBytes}
-use Rattle.model.specs.Reading.{chunk₁, separator₂, chunk₂, separator₃}
+use Rattle.model.specs.Words.{chunkSize, chunkOf, wordBytes}
 use Rattle.model.specs.Answers.{wordLength, spareSet}
 use Rattle.model.specs.declared.ReadAnswer.{ReadAnswer}
 use Rattle.model.specs.declared.ReadAnswer.the-variants.{At, Refused}
 
--- in each of the five chunks, x is unlike u in at most e places
-pub record ChunksWithin (C : Code) (e : ℕ) (u x : ℕ → ℕ) : Type 0 where
-  pub in-separator₁ : distance (C .D) u x ≤ e
-  pub in-chunk₁ : distance (C .n) (chunk₁ C u) (chunk₁ C x) ≤ e
-  pub in-separator₂ : distance (C .D) (separator₂ C u) (separator₂ C x) ≤ e
-  pub in-chunk₂ : distance (C .n) (chunk₂ C u) (chunk₂ C x) ≤ e
-  pub in-separator₃ : distance (C .D) (separator₃ C u) (separator₃ C x) ≤ e
+-- the number of bits turned in chunk c, of the chunks 0 to 4: the places of it in which x is unlike u
+unfoldable pub turnedIn : Code → (c : ℕ) (u x : ℕ → ℕ) → ℕ
+turnedIn C c u x = distance (chunkSize (C .D) (C .n) c) (chunkOf C c u) (chunkOf C c x)
 
--- the number of bits turned in all: the sum over the five chunks of the places in which x is unlike u
+-- in each of the five chunks at most e bits are turned
+unfoldable pub ChunksWithin : Code → (e : ℕ) (u x : ℕ → ℕ) → Type 0
+ChunksWithin C e u x = (c : ℕ) → c < 5 → turnedIn C c u x ≤ e
+
+-- the number of bits turned in all: the sum over the five chunks
 unfoldable pub turnedInAll : Code → (u x : ℕ → ℕ) → ℕ
-turnedInAll C u x =
-    distance (C .D) u x + distance (C .n) (chunk₁ C u) (chunk₁ C x) + distance (C .D) (separator₂ C u) (separator₂ C x)
-    + distance (C .n) (chunk₂ C u) (chunk₂ C x) + distance (C .D) (separator₃ C u) (separator₃ C x)
+turnedInAll C u x = sumBelow (λ c. turnedIn C c u x) 5
 
 -- the bits of the position's word that are turned in the received word
 unfoldable pub turned : Code → (position : ℕ) (received : List ℕ) → ℕ

@@ -13,8 +13,7 @@ use Rattle.model.specs.Words.{wordBits, word}
 use Rattle.model.specs.Reading.{range₁, range₂, fromTo, residual, nearest}
 use Rattle.code_theory.specs.Promise.{Sound}
 use Rattle.code_theory.proofs.Promise.{promise}
-use Rattle.position_theory.proofs.Words.{apart, apart-separator₁, apart-chunk₁, apart-separator₂, apart-chunk₂}
-use Rattle.position_theory.proofs.Blocks.{start-on-track}
+use Rattle.position_theory.proofs.Blocks.{apart, apart-separator₁, apart-chunk₁, apart-separator₂, apart-chunk₂, start-on-track}
 use Rattle.reader.specs.declared.scan.Scan.{Scan}
 use Rattle.reader.specs.Scanned.{foundAt}
 use Rattle.reader.specs.SearchReady.{PassedPlaces}
@@ -28,7 +27,7 @@ module _ (C : Code) (sound : Sound C) (i : ℕ) (inside : i < lastCodeword C) (x
 
   -- one that has passed separator 1 has made D steps
   pub past-separator₁ : PassedPlaces C i x (C .D) s → s .position ≡ start C i + C .D
-  past-separator₁ passed = passed .position-is ∙ omega (arith, apart-separator₁ C i)
+  past-separator₁ passed = passed .position-is ∙ omega (arith, apart-separator₁ C (promise C sound) i inside)
 
   pub rule₁-answer : (at to : ℕ) → at ≡ C .D + C .n → to ≡ wordBits C → s .low ≡ start C i + distance at (word C i) (word C (i + 1))
       → PassedPlaces C i x to s → (p : ℕ) → p ≡ i + 1 → foundAt s 1 ≡ nearest (residual C (place x)) (fromTo (range₁ C p))
