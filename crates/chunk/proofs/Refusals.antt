@@ -5,21 +5,22 @@ use mathlib.Core.List.{List}
 use Prim.Native.Nat.{ℕ}
 use borrow.Author.Tests.{eq-eqb, ne-eqb}
 use lib.ListN.{length}
+use Rattle.model.specs.Refusals.{firstRefusal}
 use Rattle.model.specs.Card.{lengthOf, rowCountOf, rowOf, storedCheck, computedCheck, withinLimits, misplaced, dependent, cardRefusal}
 use Rattle.model.specs.Card.{rowTooWide, unusedRowSet, unusedByteSet}
 
 module _ (b : List ℕ) where
   pub refusal-1 : (length b ≡ 512 → ⊥) → cardRefusal b ≡ 1
-  unfolding cardRefusal
+  unfolding cardRefusal firstRefusal
   refusal-1 short = rw (ne-eqb (length b) 512 short)
 
   pub refusal-2 : length b ≡ 512 → (storedCheck b ≡ computedCheck b → ⊥) → cardRefusal b ≡ 2
-  unfolding cardRefusal
+  unfolding cardRefusal firstRefusal
   refusal-2 whole wrong = rw (eq-eqb (length b) 512 whole, ne-eqb (storedCheck b) (computedCheck b) wrong)
 
   pub refusal-3 : length b ≡ 512 → storedCheck b ≡ computedCheck b → withinLimits (lengthOf b) (rowCountOf b) ≡ false
       → cardRefusal b ≡ 3
-  unfolding cardRefusal
+  unfolding cardRefusal firstRefusal
   refusal-3 whole checked outside =
       rw (eq-eqb (length b) 512 whole, eq-eqb (storedCheck b) (computedCheck b) checked, outside)
 
@@ -32,6 +33,6 @@ module _ (b : List ℕ) where
   -- past the third, a card is refused for what is misplaced, then for its rows
   pub refusal-4-5-or-0 : length b ≡ 512 → storedCheck b ≡ computedCheck b → withinLimits (lengthOf b) (rowCountOf b) ≡ true
       → cardRefusal b ≡ cond (misplaced b) 4 (cond (dependent (rowCountOf b) (rowOf b)) 5 0)
-  unfolding cardRefusal
+  unfolding cardRefusal firstRefusal
   refusal-4-5-or-0 whole checked limits =
       rw (eq-eqb (length b) 512 whole, eq-eqb (storedCheck b) (computedCheck b) checked, limits)

@@ -1,6 +1,7 @@
 pub mod TrailingZeros
 pub mod Gray
 pub mod Codewords
+pub mod Refusals
 pub mod SoundCard
 pub mod LeastWeight
 pub mod LeastOfSets

@@ -1,9 +1,9 @@
 -- A card of which no refusal holds gives a sound code: the test of each refusal is false, so what it tests for is not so.
 -- Assumes nothing.
 use mathlib.Core.Path.{_≡_, refl, ap, _∙_}
-use mathlib.Core.Bool.{Bool, true, false, cond, not, _&&_, _||_, false≢true}
+use mathlib.Core.Bool.{Bool, true, false, not, _&&_, _||_, false≢true}
 use mathlib.Core.List.{List}
-use Prim.Native.Nat.{ℕ, suc, _+_, _-_, _^_, _≤_, _<_}
+use Prim.Native.Nat.{ℕ, _+_, _-_, _^_, _≤_, _<_}
 use native.Mathlib.Omega.{arith}
 use lib.Dec.{leb, eqb}
 use lib.ListN.{length}
@@ -13,6 +13,7 @@ use Rattle.bits.proofs.Searches.{any-none, none-of-any}
 use Rattle.model.specs.Card.{lengthOf, rowCountOf, rowOf, storedCheck, computedCheck, sumOfRows, codeOf}
 use Rattle.model.specs.Card.{withinLimits, rowTooWide, unusedRowSet, unusedByteSet, misplaced, dependent, cardRefusal, SoundCard}
 use Rattle.code_theory.specs.Promise.{Sound}
+use Rattle.code_theory.proofs.Refusals.{NoneHolds, numbered, none-holds}
 
 -- ---- tests taken apart
 
@@ -23,28 +24,6 @@ both-left false t e = absurd (false≢true e)
 both-right : (s t : Bool) → (s && t) ≡ true → t ≡ true
 both-right true t e = e
 both-right false t e = absurd (false≢true e)
-
--- where the answer is 0, the first refusal does not hold, and the answer of those below it is 0
-not-this : (t : Bool) (number below : ℕ) → cond t (suc number) below ≡ 0 → t ≡ false
-not-this true number below e = absurd (omega arith)
-not-this false number below e = refl
-
-the-rest : (t : Bool) (number below : ℕ) → cond t (suc number) below ≡ 0 → below ≡ 0
-the-rest true number below e = omega arith
-the-rest false number below e = e
-
--- the first of refusals 1 to 5 whose test holds, or 0
-abbrev firstOfFive : (s t u v w : Bool) → ℕ
-firstOfFive s t u v w = cond s 1 (cond t 2 (cond u 3 (cond v 4 (cond w 5 0))))
-
-none-of-five : (s t u v w : Bool) → firstOfFive s t u v w ≡ 0
-    → (s ≡ false) × (t ≡ false) × (u ≡ false) × (v ≡ false) × (w ≡ false)
-none-of-five s t u v w e =
-    let e₂ = the-rest s 0 (cond t 2 (cond u 3 (cond v 4 (cond w 5 0)))) e in
-    let e₃ = the-rest t 1 (cond u 3 (cond v 4 (cond w 5 0))) e₂ in
-    let e₄ = the-rest u 2 (cond v 4 (cond w 5 0)) e₃ in
-    let e₅ = the-rest v 3 (cond w 5 0) e₄ in
-    (not-this s 0 _ e, not-this t 1 _ e₂, not-this u 2 _ e₃, not-this v 3 _ e₄, not-this w 4 0 e₅)
 
 all-of-five : (s t u v w : Bool) → (s && t && u && v && w) ≡ true
     → (s ≡ true) × (t ≡ true) × (u ≡ true) × (v ≡ true) × (w ≡ true)
@@ -101,21 +80,19 @@ pub record CardTests (b : List ℕ) : Type 0 where
   pub rows-independent : dependent (rowCountOf b) (rowOf b) ≡ false
 
 pub card-tests : (b : List ℕ) → SoundCard b → CardTests b
-unfolding cardRefusal misplaced
+unfolding cardRefusal misplaced NoneHolds numbered
 card-tests b e =
     let wide : Bool = rowTooWide (lengthOf b) (rowOf b) in
     let unused : Bool = unusedRowSet (rowCountOf b) (rowOf b) in
-    let none =
-    none-of-five (not (eqb (length b) 512)) (not (eqb (storedCheck b) (computedCheck b))) (not (withinLimits (lengthOf b) (rowCountOf b)))
-    (misplaced b) (dependent (rowCountOf b) (rowOf b)) e in
+    let (size, (check, (limits, (placed, (independent, _))))) = none-holds _ refl e in
     record {
-      size = eqb-true _ _ (not-false _ (none .0));
-      check = eqb-true _ _ (not-false _ (none .1));
-      limits = not-false _ (none .2);
-      rows-within = or-false-left wide unused (or-false-left (wide || unused) (unusedByteSet b) (none .3));
-      unused-rows-zero = or-false-right wide unused (or-false-left (wide || unused) (unusedByteSet b) (none .3));
-      unused-bytes-zero = or-false-right (wide || unused) (unusedByteSet b) (none .3);
-      rows-independent = none .4;
+      size = eqb-true _ _ (not-false _ size);
+      check = eqb-true _ _ (not-false _ check);
+      limits = not-false _ limits;
+      rows-within = or-false-left wide unused (or-false-left (wide || unused) (unusedByteSet b) placed);
+      unused-rows-zero = or-false-right wide unused (or-false-left (wide || unused) (unusedByteSet b) placed);
+      unused-bytes-zero = or-false-right (wide || unused) (unusedByteSet b) placed;
+      rows-independent = independent;
     }
 
 pub sound-card : (b : List ℕ) → SoundCard b → Sound (codeOf b)

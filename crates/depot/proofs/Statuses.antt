@@ -9,6 +9,7 @@ use lib.ListN.{length}
 use borrow.Author.Tests.{eqb-true}
 use Rattle.bits.specs.Places.{place}
 use Rattle.bits.proofs.Numbers.{by-test}
+use Rattle.model.specs.Refusals.{firstRefusal}
 use Rattle.model.specs.Card.{Code, cardRefusal, codeOf}
 use Rattle.model.specs.Order.{lastCodeword, lastPosition, start}
 use Rattle.model.specs.Words.{millimetresOf}
@@ -17,7 +18,7 @@ use Rattle.model.specs.Reading.{Allowed, fromTo, refusedBy, twoEnds, byChunk, b
 use Rattle.model.specs.Reading.{residual, nearest, reading}
 use Rattle.model.specs.Answers.{summaryOf, cardAnswer, cardFigures, writeRefusal, writeAnswer, startRefusal, startAnswer}
 use Rattle.model.specs.Answers.{millimetresRefusal, millimetresAnswer, wordLength, spareSet, readWord, readAnswer}
-use Rattle.model.specs.Answers.{refusalByRule, readRefusal, nearestPosition, readFigures}
+use Rattle.model.specs.Answers.{rowsByRule, readRefusal, nearestPosition, readFigures}
 use Rattle.model.specs.Numbers.{ifServed, chunkStatus, chunkValues, cardStatus, cardValues, writeStatus, writeValues}
 use Rattle.model.specs.Numbers.{readStatus, readValues, numberStatus, numberValues}
 use Rattle.model.specs.declared.Chunk.{Chunk}
@@ -76,13 +77,13 @@ number-told refusal number false above e = (refl, none-served refusal (number �
 
 pub start-told : (card : List ℕ) (block : ℕ)
     → Told numberStatus numberValues (startRefusal card block) (start (codeOf card) block ∷ []) (startAnswer card block)
-unfolding startAnswer startRefusal
+unfolding startAnswer startRefusal firstRefusal
 start-told card block =
     number-told (cardRefusal card) (start (codeOf card) block) (eqb (cardRefusal card) 0) (ltb (lastCodeword (codeOf card)) block) refl
 
 pub millimetres-told : (card : List ℕ) (position : ℕ)
     → Told numberStatus numberValues (millimetresRefusal card position) (millimetresOf position ∷ []) (millimetresAnswer card position)
-unfolding millimetresAnswer millimetresRefusal
+unfolding millimetresAnswer millimetresRefusal firstRefusal
 millimetres-told card position =
     number-told (cardRefusal card) (millimetresOf position) (eqb (cardRefusal card) 0) (ltb (lastPosition (codeOf card)) position) refl
 
@@ -105,11 +106,11 @@ module _ (C : Code) (x : ℕ → ℕ) where
 
   -- what is seen of a word whose separators name this rule allows no more than its refusal says
   abbrev ByRule : (rule : ℕ) → Seen → Allowed → Type 0
-  ByRule rule s = AllowedTold rule (refusalByRule C s rule)
+  ByRule rule s = AllowedTold rule (firstRefusal (rowsByRule C s rule))
 
   by-rule₁ : (s₁ s₂ s₃ : ℕ) (c c′ : Chunk)
       → ByRule 1 (record { s₁ = s₁; s₂ = s₂; s₃ = s₃; read₁ = c; read₂ = c′ }) (byChunk (twoEnds C .rule₁) c)
-  unfolding twoEnds byChunk refusalByRule chunkStatus chunkValues
+  unfolding twoEnds byChunk rowsByRule chunkStatus chunkValues firstRefusal
   by-rule₁ s₁ s₂ s₃ (Codeword p e) c′ = at-first (eqb p 0)
     where
       at-first : (t : Bool) → AllowedTold 1 (cond (t || false) 12 0) (cond t (refusedBy 12) (fromTo (range₁ C p)))
@@ -119,7 +120,7 @@ module _ (C : Code) (x : ℕ → ℕ) where
 
   by-rule₂ : (s₁ s₂ s₃ : ℕ) (c c′ : Chunk)
       → ByRule 2 (record { s₁ = s₁; s₂ = s₂; s₃ = s₃; read₁ = c; read₂ = c′ }) (byChunk (twoEnds C .rule₂) c′)
-  unfolding twoEnds byChunk refusalByRule chunkStatus chunkValues
+  unfolding twoEnds byChunk rowsByRule chunkStatus chunkValues firstRefusal
   by-rule₂ s₁ s₂ s₃ c (Codeword p e) = at-last (eqb p (lastCodeword C))
     where
       at-last : (t : Bool) → AllowedTold 2 (cond t 12 0) (cond t (refusedBy 12) (fromTo (range₂ C p)))
@@ -129,7 +130,7 @@ module _ (C : Code) (x : ℕ → ℕ) where
 
   by-rule₃ : (s₁ s₂ s₃ : ℕ) (c c′ : Chunk)
       → ByRule 3 (record { s₁ = s₁; s₂ = s₂; s₃ = s₃; read₁ = c; read₂ = c′ }) (byBoth (twoEnds C .rule₃) c c′)
-  unfolding twoEnds byBoth refusalByRule chunkStatus chunkValues
+  unfolding twoEnds byBoth rowsByRule chunkStatus chunkValues firstRefusal
   by-rule₃ s₁ s₂ s₃ (Codeword p e) (Codeword q f) = at-same (eqb p q)
     where
       at-same : (t : Bool) → AllowedTold 3 (cond (not t) 11 0) (cond t (fromTo (range₃ C p)) (refusedBy 11))
@@ -140,7 +141,7 @@ module _ (C : Code) (x : ℕ → ℕ) where
   by-rule₃ s₁ s₂ s₃ Unreadable Unreadable = none 3 10 refl
 
   no-rule : (s : Seen) → ByRule 0 s (allowedBy (twoEnds C) s 0)
-  unfolding refusalByRule allowedBy
+  unfolding rowsByRule allowedBy firstRefusal
   no-rule s = none 0 9 refl
 
   -- for every rule that three separators can name, or none
@@ -165,7 +166,7 @@ tests-told refusal by-rule served read told false whole spare e = (refl, none-se
 
 pub read-told : (card received : List ℕ)
     → Told readStatus readValues (readRefusal card received) (readFigures card received) (readAnswer card received)
-unfolding readAnswer readWord readRefusal readFigures reading allowed ruleNamed
+unfolding readAnswer readWord readRefusal readFigures reading allowed ruleNamed firstRefusal
 read-told card received =
     tests-told (cardRefusal card) _ _ _ (seen-told (codeOf card) (place received) (seen (codeOf card) (place received)))
     (eqb (cardRefusal card) 0) (eqb (length received) (wordLength (codeOf card))) (spareSet (codeOf card) received) refl

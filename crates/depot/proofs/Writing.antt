@@ -9,6 +9,7 @@ use borrow.Author.Tests.{eq-eqb, ne-eqb, lt-ltb, le-ltb}
 use native.Mathlib.Omega.{arith}
 use lib.Dec.{eqb, ltb}
 use lib.ListN.{length}
+use Rattle.model.specs.Refusals.{firstRefusal}
 use Rattle.model.specs.Card.{codeOf}
 use Rattle.model.specs.Decoded.{meaning}
 use Rattle.model.specs.Order.{lastPosition}
@@ -70,7 +71,7 @@ module _ (card : List ℕ) (position : ℕ) (lent : List ℕ) where
 
   -- refusals 1 to 5
   pub write-card-refused : (decoded : Decoded) → DecodedFrom card decoded → (decoded .refusal ≡ 0 → ⊥) → WriteMeets (Refused (decoded .refusal)) lent
-  unfolding writeRefusal
+  unfolding writeRefusal firstRefusal
   write-card-refused decoded from ne = refused (decoded .refusal) (rw (← (from .refusal), ne-eqb (decoded .refusal) 0 ne)) ne
 
 -- what is measured once the card has passed: the length of its words and its last position
@@ -85,7 +86,7 @@ module _ {card : List ℕ} {decoded : Decoded} {size last : ℕ} (measured : Mea
   is-code = measured .from .code (measured .passed)
 
   word-refusal : writeRefusal card position lent ≡ cond (not (eqb (length lent) size)) 6 (cond (ltb last position) 7 0)
-  unfolding writeRefusal
+  unfolding writeRefusal firstRefusal
   word-refusal =
       rw (← (measured .from .refusal), eq-eqb (decoded .refusal) 0 (measured .passed), ← is-code)
       (rw (← (measured .is-size), ← (measured .is-last)))

@@ -9,6 +9,7 @@ use lib.Dec.{leb, ltb, eqb}
 use lib.ListN.{length, getD}
 use Rattle.bits.specs.Places.{bytesFor, place}
 use Rattle.bits.specs.Searches.{anyBelow, first}
+use Rattle.model.specs.Refusals.{Row, row, rowsBy, firstRefusal}
 use Rattle.model.specs.Card.{Code, cardRefusal, codeOf, radius, trackOf}
 use Rattle.model.specs.Order.{lastCodeword, lastPosition, start}
 use Rattle.model.specs.Words.{wordBits, wordBytes, millimetresOf}
@@ -58,10 +59,11 @@ cardFigures b =
 -- write: the refusal's number, or 0 where the word is written
 unfoldable pub writeRefusal : (card : List ℕ) (position : ℕ) (lent : List ℕ) → ℕ
 writeRefusal card position lent =
-    cond (not (eqb (cardRefusal card) 0)) (cardRefusal card)
-    (cond (not (eqb (length lent) (wordLength (codeOf card)))) 6
-    (cond (ltb (lastPosition (codeOf card)) position) 7
-    0))
+    firstRefusal
+    (rowsBy (cardRefusal card)
+    ∷ row 6 (not (eqb (length lent) (wordLength (codeOf card))))
+    ∷ row 7 (ltb (lastPosition (codeOf card)) position)
+    ∷ [])
 
 -- write: the answer
 unfoldable pub writeAnswer : (card : List ℕ) (position : ℕ) (lent : List ℕ) → WriteAnswer
@@ -111,28 +113,27 @@ unreadable read = not (eqb (chunkStatus read) 0)
 abbrev pub codewordNumber : Chunk → ℕ
 codewordNumber read = getD (chunkValues read) 0 0
 
--- refusals 9 to 12, or 0, of what is seen of a word whose separators name this rule (0 for none)
-unfoldable pub refusalByRule : Code → Seen → (rule : ℕ) → ℕ
-refusalByRule C s rule =
+-- rows 9 to 12, of what is seen of a word whose separators name this rule (0 for none)
+unfoldable pub rowsByRule : Code → Seen → (rule : ℕ) → List Row
+rowsByRule C s rule =
     let p₁ : ℕ = codewordNumber (s .read₁) in
     let p₂ : ℕ = codewordNumber (s .read₂) in
-    cond (eqb rule 0) 9
-    (cond ((eqb rule 1 || eqb rule 3) && unreadable (s .read₁) || (eqb rule 2 || eqb rule 3) && unreadable (s .read₂)) 10
-    (cond (eqb rule 3 && not (eqb p₁ p₂)) 11
-    (cond (eqb rule 1 && eqb p₁ 0 || eqb rule 2 && eqb p₂ (lastCodeword C)) 12
-    0)))
-
-abbrev pub refusalSeen : Code → Seen → ℕ
-refusalSeen C s = refusalByRule C s (ruleSeen s)
+    row 9 (eqb rule 0)
+    ∷ row 10 ((eqb rule 1 || eqb rule 3) && unreadable (s .read₁) || (eqb rule 2 || eqb rule 3) && unreadable (s .read₂))
+    ∷ row 11 (eqb rule 3 && not (eqb p₁ p₂))
+    ∷ row 12 (eqb rule 1 && eqb p₁ 0 || eqb rule 2 && eqb p₂ (lastCodeword C))
+    ∷ []
 
 -- read: the refusal's number, or 0 where the word is read
 unfoldable pub readRefusal : (card received : List ℕ) → ℕ
 readRefusal card received =
     let C : Code = codeOf card in
-    cond (not (eqb (cardRefusal card) 0)) (cardRefusal card)
-    (cond (not (eqb (length received) (wordLength C))) 6
-    (cond (spareSet C received) 8
-    (refusalSeen C (seen C (place received)))))
+    let s : Seen = seen C (place received) in
+    firstRefusal
+    (rowsBy (cardRefusal card)
+    ∷ row 6 (not (eqb (length received) (wordLength C)))
+    ∷ row 8 (spareSet C received)
+    ∷ rowsByRule C s (ruleSeen s))
 
 -- the allowed position whose residual is least, the smallest on a tie (0 where none is allowed, which means nothing)
 unfoldable pub nearestPosition : (residual : ℕ → ℕ) → Allowed → ℕ
@@ -148,10 +149,7 @@ readFigures card received =
 
 -- block start: the refusal's number, or 0
 unfoldable pub startRefusal : (card : List ℕ) (block : ℕ) → ℕ
-startRefusal card block =
-    cond (not (eqb (cardRefusal card) 0)) (cardRefusal card)
-    (cond (ltb (lastCodeword (codeOf card)) block) 7
-    0)
+startRefusal card block = firstRefusal (rowsBy (cardRefusal card) ∷ row 7 (ltb (lastCodeword (codeOf card)) block) ∷ [])
 
 -- block start: r(block)
 unfoldable pub startAnswer : (card : List ℕ) (block : ℕ) → NumberAnswer
@@ -162,10 +160,7 @@ startAnswer card block =
 
 -- millimetres: the refusal's number, or 0
 unfoldable pub millimetresRefusal : (card : List ℕ) (position : ℕ) → ℕ
-millimetresRefusal card position =
-    cond (not (eqb (cardRefusal card) 0)) (cardRefusal card)
-    (cond (ltb (lastPosition (codeOf card)) position) 7
-    0)
+millimetresRefusal card position = firstRefusal (rowsBy (cardRefusal card) ∷ row 7 (ltb (lastPosition (codeOf card)) position) ∷ [])
 
 -- millimetres: the distance of a position from the buffer face
 unfoldable pub millimetresAnswer : (card : List ℕ) (position : ℕ) → NumberAnswer

@@ -3,7 +3,7 @@
 -- Assumes nothing.
 use mathlib.Core.Path.{_≡_}
 use mathlib.Core.Bool.{Bool, cond, not, _&&_, _||_}
-use mathlib.Core.List.{List}
+use mathlib.Core.List.{List, [], _∷_}
 use Prim.Native.Nat.{ℕ, zero, suc, _+_, _-_, _*_, _/_, _%_, _^_, min}
 use lib.Bits.{bitXor}
 use lib.Dec.{leb, ltb, eqb}
@@ -11,6 +11,7 @@ use lib.ListN.{length, getD}
 use Rattle.bits.specs.Sums.{sumBelow}
 use Rattle.bits.specs.Places.{bit, weight}
 use Rattle.bits.specs.Searches.{anyBelow}
+use Rattle.model.specs.Refusals.{row, firstRefusal}
 
 -- byte i of the card
 abbrev pub byte : (b : List ℕ) (i : ℕ) → ℕ
@@ -106,12 +107,13 @@ dependent k row = anyBelow (λ g. eqb (sumOfRows row k (g + 1)) 0) (2 ^ k - 1)
 -- the number of the refusal of a list of bytes as a card, the first in the table's order that holds; 0 for a sound card
 unfoldable pub cardRefusal : List ℕ → ℕ
 cardRefusal b =
-    cond (not (eqb (length b) 512)) 1
-    (cond (not (eqb (storedCheck b) (computedCheck b))) 2
-    (cond (not (withinLimits (lengthOf b) (rowCountOf b))) 3
-    (cond (misplaced b) 4
-    (cond (dependent (rowCountOf b) (rowOf b)) 5
-    0))))
+    firstRefusal
+    (row 1 (not (eqb (length b) 512))
+    ∷ row 2 (not (eqb (storedCheck b) (computedCheck b)))
+    ∷ row 3 (not (withinLimits (lengthOf b) (rowCountOf b)))
+    ∷ row 4 (misplaced b)
+    ∷ row 5 (dependent (rowCountOf b) (rowOf b))
+    ∷ [])
 
 -- a sound card: none of the refusals 1 to 5 holds of it
 abbrev pub SoundCard : List ℕ → Type 0

@@ -1,3 +1,4 @@
+pub mod Refusals
 pub mod Card
 pub mod Decoded
 pub mod Order

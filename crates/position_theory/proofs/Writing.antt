@@ -10,6 +10,7 @@ use lib.Dec.{eqb, ltb}
 use lib.ListN.{length}
 use borrow.Author.Tests.{eq-eqb, ne-eqb, eqb-true, eqb-false, le-ltb, ltb-false}
 use Rattle.bits.proofs.Numbers.{eq-or-ne}
+use Rattle.model.specs.Refusals.{firstRefusal}
 use Rattle.model.specs.Card.{cardRefusal, codeOf, SoundCard}
 use Rattle.model.specs.Order.{lastPosition}
 use Rattle.model.specs.Words.{wordBytes}
@@ -23,7 +24,7 @@ module _ (card : List ℕ) (position : ℕ) (lent : List ℕ) where
   refusal = writeRefusal card position lent
 
   pub written-if-servable : WrittenIfServable card position lent (writeAnswer card position lent)
-  unfolding WrittenIfServable writeAnswer writeRefusal
+  unfolding WrittenIfServable writeAnswer writeRefusal firstRefusal
   written-if-servable sound on-track whole =
       rw (
         eq-eqb (cardRefusal card) 0 sound,
@@ -49,7 +50,7 @@ module _ (card : List ℕ) (position : ℕ) (lent : List ℕ) where
       (eq-or-ne refusal 0)
 
   served : refusal ≡ 0 → SoundCard card × (position ≤ lastPosition (codeOf card))
-  unfolding writeRefusal
+  unfolding writeRefusal firstRefusal
   served =
       by-tests (eqb (cardRefusal card) 0) (eqb (length lent) (wordLength (codeOf card))) (ltb (lastPosition (codeOf card)) position)
       refl refl

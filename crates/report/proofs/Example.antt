@@ -6,6 +6,7 @@ use Rattle.bits.specs.Sums.{sumBelow, distance, joinAt}
 use Rattle.bits.specs.Walk.{walk}
 use Rattle.bits.specs.Places.{weight, place}
 use Rattle.bits.specs.Searches.{anyBelow, firstFrom, first, leastAt, greatest}
+use Rattle.model.specs.Refusals.{firstRefusal}
 use Rattle.model.specs.Card.{highFirst, trackOf, rowOf, storedCheck, computedCheck, sumOfRows, leastWeight, codeOf}
 use Rattle.model.specs.Card.{withinLimits, rowTooWide, unusedRowSet, unusedByteSet, misplaced, dependent, cardRefusal}
 use Rattle.model.specs.Order.{gray, lastCodeword, codeword, changedRow, changedWeight, start, lastPosition}
@@ -29,7 +30,7 @@ unfolding sumBelow distance joinAt
     weight place
     anyBelow firstFrom first leastAt greatest
     highFirst trackOf rowOf storedCheck computedCheck sumOfRows leastWeight codeOf
-    withinLimits rowTooWide unusedRowSet unusedByteSet misplaced dependent cardRefusal
+    firstRefusal withinLimits rowTooWide unusedRowSet unusedByteSet misplaced dependent cardRefusal
     gray lastCodeword codeword changedRow changedWeight start lastPosition
     fiveChunks word blockOf wordAt
     majority chunkDistance chunkReading seen ruleOf ruleNamed twoEnds byChunk byBoth

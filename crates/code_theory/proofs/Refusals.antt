@@ -1,0 +1,47 @@
+-- Rows of the table of refusals, for every call: where no row holds there is no refusal, the first row that holds is the answer, and
+-- where there is no refusal no row holds, since no row has the number 0. Assumes nothing.
+use mathlib.Core.Path.{_≡_, refl}
+use mathlib.Core.Bool.{Bool, true, false, cond, false≢true}
+use mathlib.Core.List.{List, [], _∷_, _++_}
+use Prim.Native.Nat.{ℕ}
+use borrow.Author.Tests.{eq-eqb, ne-eqb}
+use lib.Dec.{eqb}
+use Rattle.model.specs.Refusals.{Row, firstRefusal}
+
+-- none of the rows holds
+unfoldable pub NoneHolds : List Row → Type 0
+NoneHolds [] = Unit {0}
+NoneHolds (r ∷ rows) = (r .holds ≡ false) × NoneHolds rows
+
+-- whether each row has a number of the table
+unfoldable pub numbered : List Row → Bool
+numbered [] = true
+numbered (r ∷ rows) = cond (eqb (r .number) 0) false (numbered rows)
+
+pub none-refuses : (rows : List Row) → NoneHolds rows → firstRefusal rows ≡ 0
+unfolding NoneHolds firstRefusal
+none-refuses [] none = refl
+none-refuses (r ∷ rows) none = rw (none .0) (none-refuses rows (none .1))
+
+pub first-refuses : (before : List Row) (r : Row) (after : List Row) → NoneHolds before → r .holds ≡ true
+    → firstRefusal (before ++ (r ∷ after)) ≡ r .number
+unfolding NoneHolds firstRefusal
+first-refuses [] r after none holds = rw holds
+first-refuses (b ∷ before) r after none holds = rw (none .0) (first-refuses before r after (none .1) holds)
+
+-- where the answer is 0, a row with a number of the table does not hold, and the answer of those below it is 0
+not-this : (holds : Bool) (number below : ℕ) → (number ≡ 0 → ⊥) → cond holds number below ≡ 0 → (holds ≡ false) × (below ≡ 0)
+not-this true number below ne none = absurd (ne none)
+not-this false number below ne none = (refl, none)
+
+number-first : (number : ℕ) (rest : Bool) → cond (eqb number 0) false rest ≡ true → (number ≡ 0 → ⊥) × (rest ≡ true)
+number-first number rest e =
+    let ne : number ≡ 0 → ⊥ = λ zero. false≢true (rw (eq-eqb number 0 zero) at e) in (ne, rw (ne-eqb number 0 ne) at e)
+
+pub none-holds : (rows : List Row) → numbered rows ≡ true → firstRefusal rows ≡ 0 → NoneHolds rows
+unfolding NoneHolds numbered firstRefusal
+none-holds [] all none = tt
+none-holds (r ∷ rows) all none =
+    let (ne, rest) = number-first (r .number) (numbered rows) all in
+    let (here, below) = not-this (r .holds) (r .number) (firstRefusal rows) ne none in
+    (here, none-holds rows rest below)

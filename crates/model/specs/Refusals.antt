@@ -1,0 +1,23 @@
+-- Document 01, "Where a call can be turned down": the table of refusals. A call has the rows that it has the thing for, each with
+-- what it tests; they are checked downwards, and the first that holds is the answer. Assumes nothing.
+use mathlib.Core.Bool.{Bool, cond, not}
+use mathlib.Core.List.{List, [], _∷_}
+use Prim.Native.Nat.{ℕ}
+use lib.Dec.{eqb}
+
+-- a row of the table: its number, and whether its condition holds
+pub record Row : Type 0 where
+  pub number : ℕ
+  pub holds : Bool
+
+abbrev pub row : (number : ℕ) (holds : Bool) → Row
+row number holds = record { number = number; holds = holds }
+
+-- the rows of a part that has been checked already, by the number of its refusal, 0 where none holds
+abbrev pub rowsBy : (refusal : ℕ) → Row
+rowsBy refusal = row refusal (not (eqb refusal 0))
+
+-- the number of the first row that holds, or 0
+unfoldable pub firstRefusal : List Row → ℕ
+firstRefusal [] = 0
+firstRefusal (r ∷ rows) = cond (r .holds) (r .number) (firstRefusal rows)
