@@ -1,12 +1,13 @@
 -- What a call leaves by the count of the numbers that it was lent: the wrong count, a refusal, or every value stored. A run of
 -- stores over the whole of a list leaves just the values stored. Assumes nothing.
 use mathlib.Core.Path.{_≡_, refl, _∙_}
-use mathlib.Core.List.{List, append-nil}
+use mathlib.Core.List.{List, [], _∷_, append-nil}
 use Prim.Native.Nat.{ℕ, _+_, _≤_}
 use native.Mathlib.Omega.{arith}
 use borrow.Author.Tests.{eq-eqb, ne-eqb}
 use lib.ListN.{length}
 use lib.Seq.{sets, sets-eq, drop-length}
+use Rattle.model.specs.Numbers.{ifServed}
 use Rattle.dunnavish.specs.Crossing.{wrongCount, statusFor, leftBy, UnchangedUnlessZero}
 
 module _ (count : ℕ) (lent : List ℕ) where
@@ -35,3 +36,12 @@ all-stored values lent alike =
     let whole : 0 + length values ≡ length lent = omega arith in
     let within : 0 + length values ≤ length lent = omega arith in
     sets-eq values lent 0 within ∙ rw (whole, drop-length lent) (append-nil values)
+
+-- A refusal has no values, and an answer that is served has some: no call is refused by the number 0, so a status of 0 says that it
+-- was served.
+pub refusal-nonzero : (refusal first : ℕ) (rest : List ℕ) → [] ≡ ifServed refusal (first ∷ rest) → refusal ≡ 0 → ⊥
+unfolding ifServed
+refusal-nonzero refusal first rest none zero =
+    let served : [] ≡ first ∷ rest = rw zero at none in
+    let never : _≡_ {A = ℕ} 0 1 = cc in
+    omega arith

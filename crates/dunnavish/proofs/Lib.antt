@@ -1,3 +1,2 @@
 pub mod Lent
-pub mod NonzeroRefusals
 pub mod ReadDemands

@@ -5,10 +5,10 @@ use mathlib.Core.List.{[], _∷_}
 use native.Mathlib.Omega.{arith}
 use borrow.Author.Needs.{needs}
 use lib.ListN.{length-set}
+use Rattle.model.specs.Answers.{cardFigures}
 use Rattle.model.specs.Numbers.{cardStatus, cardValues}
 use Rattle.dunnavish.specs.Crossing.{cardCount}
-use Rattle.dunnavish.proofs.Lent.{wrong-count-changes-nothing, refusal-changes-nothing, values-are-left, all-stored}
-use Rattle.dunnavish.proofs.NonzeroRefusals.{card-refusal-nonzero}
+use Rattle.dunnavish.proofs.Lent.{wrong-count-changes-nothing, refusal-changes-nothing, values-are-left, all-stored, refusal-nonzero}
 use Rattle.dunnavish.proofs.dunnavish_check_card.Statement.{statement}
 use Rattle.dunnavish.proofs.dunnavish_check_card.Tie as tie
 
@@ -28,11 +28,12 @@ slice-write-values-7 : tie.Need-slice-write-values-7
 slice-write-values-7 c = simp length-set (omega arith)
 
 returns-2 : tie.Need-returns-2
-unfolding cardStatus cardValues
+unfolding cardStatus cardValues cardFigures
 returns-2 c =
     let asked = c .before .before .before in
+    let nonzero = refusal-nonzero _ _ _ (rw (c .before .answer .given .1) at (asked .check-card .ensures .1 .1)) in
     let refused = sym (asked .check-card .ensures .0) ∙ c .before .answer .given .1 in
-    rw refused (refusal-changes-nothing cardCount _ (asked .before .if1 .left) _ (card-refusal-nonzero _ refused) _)
+    rw refused (refusal-changes-nothing cardCount _ (asked .before .if1 .left) _ nonzero _)
 
 returns-3 : tie.Need-returns-3
 unfolding cardStatus cardValues

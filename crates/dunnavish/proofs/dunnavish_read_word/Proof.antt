@@ -1,12 +1,11 @@
 -- `dunnavish::dunnavish_read_word` meets its contract: the count of the lent numbers, then what the library answered; the bounds
 -- are those of the library's own contract. Assumes nothing.
-use mathlib.Core.Path.{sym, _∙_}
 use mathlib.Core.List.{[], _∷_}
 use borrow.Author.Needs.{needs}
+use Rattle.model.specs.Answers.{readFigures}
 use Rattle.model.specs.Numbers.{readStatus, readValues}
 use Rattle.dunnavish.specs.Crossing.{readCount}
-use Rattle.dunnavish.proofs.Lent.{refusal-changes-nothing, values-are-left, all-stored}
-use Rattle.dunnavish.proofs.NonzeroRefusals.{read-refusal-nonzero}
+use Rattle.dunnavish.proofs.Lent.{refusal-changes-nothing, values-are-left, all-stored, refusal-nonzero}
 use Rattle.dunnavish.proofs.ReadDemands.{wrong-count-claims-nothing, bounds-cross}
 use Rattle.dunnavish.proofs.dunnavish_read_word.Statement.{statement}
 use Rattle.dunnavish.proofs.dunnavish_read_word.Tie as tie
@@ -15,13 +14,14 @@ returns : tie.Need-returns
 returns c = wrong-count-claims-nothing _ _ _ (c .if1 .taken)
 
 returns-2 : tie.Need-returns-2
-unfolding readStatus readValues
+unfolding readStatus readValues readFigures
 returns-2 c =
     let asked = c .before .before .before in
     let answered = asked .read-word .ensures in
     let told = c .before .answer .given .1 in
+    let nonzero = refusal-nonzero _ _ _ (rw told at (answered .1 .1 .0)) in
     bounds-cross _ _ _ (asked .read-word .result) (answered .0) (answered .1 .1 .1 .0) (answered .1 .1 .1 .1 .0) _ _
-    (rw told (refusal-changes-nothing readCount _ (asked .before .if1 .left) _ (read-refusal-nonzero _ _ (sym (answered .0) ∙ told)) _))
+    (rw told (refusal-changes-nothing readCount _ (asked .before .if1 .left) _ nonzero _))
 
 returns-3 : tie.Need-returns-3
 unfolding readStatus readValues
