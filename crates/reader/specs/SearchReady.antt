@@ -11,6 +11,15 @@ use Rattle.model.specs.Reading.{residual}
 use Rattle.code_theory.specs.Promise.{Sound}
 use Rattle.reader.specs.declared.scan.Scan.{Scan}
 use Rattle.reader.specs.Scanned.{Scanned}
+use Rattle.reader.specs.Received.{NothingSpare}
+
+-- places from `at` to `to` of block i, to be searched for the word in x
+abbrev pub PartOfBlock : Code → (x : List ℕ) (i at to : ℕ) → Type 0
+PartOfBlock C x i at to = Sound C × NothingSpare C x × (i < lastCodeword C) × (at ≤ to) × (to ≤ wordBits C)
+
+-- the position at which the places below q of block i have been passed
+abbrev pub positionAt : Code → (i q : ℕ) → ℕ
+positionAt C i q = start C i + distance q (word C i) (word C (i + 1))
 
 -- u and v hold w(i) and w(i+1)
 pub record BlockWords (C : Code) (i : ℕ) (u v : List ℕ) : Type 0 where
@@ -22,7 +31,7 @@ pub record BlockWords (C : Code) (i : ℕ) (u v : List ℕ) : Type 0 where
 -- the search through the word x has passed the places below q of block i
 pub record PassedPlaces (C : Code) (i : ℕ) (x : List ℕ) (q : ℕ) (s : Scan) : Type 0 where
   pub within : q ≤ wordBits C
-  pub position-is : s .position ≡ start C i + distance q (word C i) (word C (i + 1))
+  pub position-is : s .position ≡ positionAt C i q
   pub scanned : Scanned (residual C (place x)) s
 
 -- the search may go from place at to place to of a block of some sound code
