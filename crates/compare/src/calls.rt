@@ -46,12 +46,12 @@ pub fn number(counts: &mut Counts, answer: library::Number, plain: second::Numbe
 pub fn numbers(counts: &mut Counts, card: &[u8], x: u32) {
     number(
         counts,
-        library::block_start(card, x),
+        library::plain_number(depot::block_start(card, x)),
         second::block_start(card, x as u64),
     );
     number(
         counts,
-        library::millimetres(card, x),
+        library::plain_number(depot::millimetres(card, x)),
         second::millimetres(card, x as u64),
     );
 }

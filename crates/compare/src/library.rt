@@ -109,15 +109,8 @@ pub fn read(card: &[u8], word: &[u8]) -> Reading {
     }
 }
 
-pub fn block_start(card: &[u8], block: u32) -> Number {
-    plain_number(depot::block_start(card, block))
-}
-
-pub fn millimetres(card: &[u8], position: u32) -> Number {
-    plain_number(depot::millimetres(card, position))
-}
-
-fn plain_number(answer: NumberAnswer) -> Number {
+// A block start or a distance.
+pub fn plain_number(answer: NumberAnswer) -> Number {
     match answer {
         NumberAnswer::Number(value) => Number {
             refusal: 0,

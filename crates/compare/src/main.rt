@@ -23,7 +23,7 @@ fn card(counts: &mut Counts, bytes: &[u8], id: u64) {
     let facts = second::prepared_facts(p);
     calls::check(counts, bytes, facts);
     if facts.refusal == 0 {
-        sound(counts, bytes, p, facts.k as u64, id);
+        track::positions(counts, bytes, p, id);
         ends(
             counts,
             bytes,
@@ -40,12 +40,6 @@ fn card(counts: &mut Counts, bytes: &[u8], id: u64) {
 fn refused(counts: &mut Counts, card: &[u8]) {
     length(counts, card, 0, 2);
     calls::numbers(counts, card, 0);
-}
-
-fn sound(counts: &mut Counts, card: &[u8], p: second::Prepared, k: u64, id: u64) {
-    let table = p.starts;
-    track::starts(counts, card, k, &table);
-    track::positions(counts, card, p, id);
 }
 
 // Blocks and positions at the ends of what there is, and past them; words of other lengths.
@@ -74,12 +68,9 @@ fn length(counts: &mut Counts, card: &[u8], position: u32, len: usize) {
     if 48 < len {
         return;
     }
+    let word = &zeros[0..len];
     calls::write(counts, card, position, len);
-    calls::read(
-        counts,
-        library::read(card, &zeros[0..len]),
-        second::read(card, &zeros[0..len]),
-    );
+    calls::read(counts, library::read(card, word), second::read(card, word));
 }
 
 // The cards of every shape.

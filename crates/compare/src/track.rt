@@ -15,29 +15,28 @@ use trials::numbers;
 use trials::words;
 
 // The start of every block, against the second reader's table of starts.
-pub fn starts(counts: &mut Counts, card: &[u8], k: u64, table: &[u32; 4096]) {
+fn blocks(counts: &mut Counts, card: &[u8], k: u64, starts: &[u32; 4096]) {
     let top = numbers::low_bits(k, 4095);
     let mut i: usize = 0;
     while i < 4096 {
         if i as u64 <= top {
-            start(counts, card, i as u32, search::start_of(table, i as u64));
+            let value = search::start_of(starts, i as u64);
+            calls::number(
+                counts,
+                library::plain_number(depot::block_start(card, i as u32)),
+                second::Number { refusal: 0, value },
+            );
         }
         i += 1;
     }
 }
 
-fn start(counts: &mut Counts, card: &[u8], block: u32, value: u64) {
-    calls::number(
-        counts,
-        library::block_start(card, block),
-        second::Number { refusal: 0, value },
-    );
-}
-
-// The positions, one after the other: words are written, and at some of them words are read.
+// The blocks, then the positions, one after the other: words are written, and at some of them words are read.
 pub fn positions(counts: &mut Counts, card: &[u8], p: second::Prepared, id: u64) {
-    let s = layout::sizes_of(second::prepared_facts(p));
+    let facts = second::prepared_facts(p);
+    let s = layout::sizes_of(facts);
     let starts = p.starts;
+    blocks(counts, card, facts.k as u64, &starts);
     let last = p.last as u64;
     let mut behind = walk::from_start(p);
     let mut here = behind;
@@ -144,13 +143,17 @@ fn read_one(
     word: [u8; 40],
     turned: u64,
 ) {
-    let len = layout::byte_count(bits);
-    let answer = library::read(card, &word[0..len]);
-    let plain = second::read_along(starts, behind, &word[0..len]);
+    let received = &word[0..layout::byte_count(bits)];
+    let answer = library::read(card, received);
+    let plain = second::read_along(starts, behind, received);
     calls::read(counts, answer, plain);
     if turned < damage::TOO_MANY {
-        let by_library = off(at, answer.refusal, answer.position);
-        bounded(counts, turned, by_library, off(at, 0, plain.position));
+        bounded(
+            counts,
+            turned,
+            off(at, answer.refusal, answer.position),
+            off(at, 0, plain.position),
+        );
     }
 }
 

@@ -63,12 +63,17 @@ fn line(line: u64) {
 
 // What the card holds: n, k, rows 0 and 1, and one more byte.
 fn describe(line: u64) {
-    say::say_number(b"n ", byte(line, 6));
-    say::say_number(b" k ", byte(line, 5));
-    say::say_number(b" rows ", byte(line, 4));
-    say::say_number(b" ", byte(line, 3));
-    say::say_number(b" byte ", (line / 256 % 0x1_0000) as u32);
-    say::say_number(b" ", byte(line, 0));
+    say::say_with(
+        b"n # k # rows # # byte # #",
+        &[
+            byte(line, 6),
+            byte(line, 5),
+            byte(line, 4),
+            byte(line, 3),
+            (line / 256 % 0x1_0000) as u32,
+            byte(line, 0),
+        ],
+    );
 }
 
 // The cards of the table.

@@ -134,23 +134,25 @@ fn carried(card: &[u8]) {
 fn write(card: &[u8], position: u32, len: usize)
     requires { ⌜ len < 64 ⌝ }
 {
-    let mut lent = [170u8; 64];
+    let mut bytes = [170u8; 64];
+    let lent = &mut bytes[0..len];
     say::say_number(b", write ", position);
     say::say(b" in");
-    say::say_bytes(&lent[0..len]);
+    say::say_bytes(lent);
     say::say(b":");
-    say::write(card, position, &mut lent[0..len]);
+    say::write(card, position, lent);
 }
 
 // A read of a word.
 fn read(card: &[u8], value: u32, len: usize)
     requires { ⌜ len < 64 ⌝ }
 {
-    let word = bytes_of(value);
+    let bytes = bytes_of(value);
+    let word = &bytes[0..len];
     say::say(b", read");
-    say::say_bytes(&word[0..len]);
+    say::say_bytes(word);
     say::say(b":");
-    say::read(card, &word[0..len]);
+    say::read(card, word);
 }
 
 // The four bytes of a value, high byte first, again and again.

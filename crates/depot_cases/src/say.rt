@@ -9,10 +9,29 @@ pub fn say(text: &[u8]) {
     io::write_all(STDOUT_FILENO, text);
 }
 
+fn say_plain(n: u32) {
+    io::print_decimal(STDOUT_FILENO, n as u64);
+}
+
 // A text, and a number after it.
 pub fn say_number(text: &[u8], n: u32) {
     say(text);
-    io::print_decimal(STDOUT_FILENO, n as u64);
+    say_plain(n);
+}
+
+// The text, each # in it being the next of the numbers.
+pub fn say_with(text: &[u8], numbers: &[u32]) {
+    let mut next: usize = 0;
+    let mut at: usize = 0;
+    while at < text.len() {
+        if text[at] != b'#' {
+            say(&text[at..at + 1]);
+        } else if next < numbers.len() {
+            say_plain(numbers[next]);
+            next += 1;
+        }
+        at += 1;
+    }
 }
 
 fn say_byte(b: u8) {
@@ -36,13 +55,10 @@ fn say_refusal(refusal: u32) {
 pub fn check(card: &[u8]) {
     match depot::check_card(card) {
         CardAnswer::Sound(s) => {
-            say_number(b" n ", s.n);
-            say_number(b" k ", s.k);
-            say_number(b" track ", s.track);
-            say_number(b" distance ", s.distance);
-            say_number(b" radius ", s.radius);
-            say_number(b" bits ", s.bits);
-            say_number(b" last ", s.last);
+            say_with(
+                b" n # k # track # distance # radius # bits # last #",
+                &[s.n, s.k, s.track, s.distance, s.radius, s.bits, s.last],
+            );
         }
         CardAnswer::Refused(refusal) => {
             say_refusal(refusal);
@@ -67,9 +83,10 @@ pub fn write(card: &[u8], position: u32, word: &mut [u8]) {
 pub fn read(card: &[u8], word: &[u8]) {
     match depot::read_word(card, word) {
         ReadAnswer::At(read) => {
-            say_number(b" at ", read.position);
-            say_number(b" residual ", read.residual);
-            say_number(b" rule ", read.rule);
+            say_with(
+                b" at # residual # rule #",
+                &[read.position, read.residual, read.rule],
+            );
         }
         ReadAnswer::Refused(refusal) => {
             say_refusal(refusal);

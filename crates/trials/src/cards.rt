@@ -14,23 +14,6 @@ fn row_byte(s: Shape, b: u64) -> u8 {
     0
 }
 
-// Byte b of a card, up to its rows.
-fn card_byte(s: Shape, track: u64, b: u64) -> u8 {
-    if b == 0 {
-        return (s.n % 256) as u8;
-    }
-    if b == 1 {
-        return (s.k % 256) as u8;
-    }
-    if b == 2 {
-        return (track / 256 % 256) as u8;
-    }
-    if b == 3 {
-        return (track % 256) as u8;
-    }
-    row_byte(s, b - 4)
-}
-
 // The card of shape i, for some track.
 pub fn of_shape(i: u64) -> [u8; 513] {
     sealed(card_of(shapes::shape_number(i), numbers::random(i, 0)))
@@ -39,9 +22,13 @@ pub fn of_shape(i: u64) -> [u8; 513] {
 // A card of a shape, with a zero byte after its 512 and no check yet.
 pub fn card_of(s: Shape, track: u64) -> [u8; 513] {
     let mut card = [0u8; 513];
+    card[0] = (s.n % 256) as u8;
+    card[1] = (s.k % 256) as u8;
+    card[2] = (track / 256 % 256) as u8;
+    card[3] = (track % 256) as u8;
     let mut b: usize = 0;
-    while b < 100 {
-        card[b] = card_byte(s, track, b as u64);
+    while b < 96 {
+        card[4 + b] = row_byte(s, b as u64);
         b += 1;
     }
     card

@@ -7,7 +7,7 @@ use crate::cards;
 pub const FAULTS: u64 = 17;
 
 // What a fault does to a card's bytes, in hexadecimal: a place; another; a mask; a number. The byte at the first place becomes
-// the bits of the other's byte that the mask has, and the number more. A fault of the length leaves the byte after a card as it is.
+// the bits of the other's byte that the mask has, and the number more. Faults 0 to 3 leave the byte after the card as it is.
 const CHANGES: [u64; 17] = [
     0x200_200_ff_00,
     0x200_200_ff_00,

@@ -5,10 +5,10 @@ use Rattle.compare.proofs.track.positions.Statement.{statement}
 use Rattle.compare.proofs.track.positions.Tie as tie
 
 abbrev Inv-loop : tie.InvT-loop
-Inv-loop counts₀ card p id s last behind₀ here₀ before₀ at₀ counts behind here before at = (at ≤ last + 1) × (last < 4294967296)
+Inv-loop counts₀ card id s starts last behind₀ here₀ before₀ at₀ counts behind here before at = (at ≤ last + 1) × (last < 4294967296)
 
 abbrev μ-loop : tie.MeasureT-loop
-μ-loop counts₀ card p id s last behind₀ here₀ before₀ at₀ counts behind here before at = last + 1 - at
+μ-loop counts₀ card id s starts last behind₀ here₀ before₀ at₀ counts behind here before at = last + 1 - at
 
 pub positions-spec : {M : Type 1} → statement M
 positions-spec =
@@ -17,6 +17,8 @@ positions-spec =
     Inv-loop
     μ-loop
     (λ c κs. search needs)
+    (λ c κs. search needs)
+    (λ c. search needs)
     (λ c κs. search needs)
     (λ c. search needs)
     (λ c κs. search needs)
