@@ -119,8 +119,9 @@ uint32_t dunnavish_check_card(const uint8_t *card, size_t card_bytes, uint32_t *
 uint32_t dunnavish_write_word(const uint8_t *card, size_t card_bytes, uint32_t position, uint8_t *word, size_t word_bytes);
 
 /*
- * Read a received word. Answers 0 to 6, 8 to 12, or 100. On 0 the three values are those of the indices below. If each of the
- * word's five chunks has at most t bits turned, the answer is 0 and the position is off by at most twice the bits turned in all.
+ * Read a received word. Answers 0 to 6, 8 to 12, or 100. On 0 the three values are those of the indices below. If three values are
+ * lent and each of the word's five chunks has at most t bits turned, the answer is 0 and the position is off by at most twice the
+ * bits turned in all, and by at most the bits turned and the residual together.
  */
 enum dunnavish_read_value {
     DUNNAVISH_READ_POSITION = 0, /* the position, from 0 to the last */
