@@ -16,7 +16,7 @@ fn answered(counts: &mut Counts, group: usize, which: u8, place: usize, unlike: 
 }
 
 // A check of a card.
-pub fn check(counts: &mut Counts, card: &[u8], plain: second::CardFacts) {
+pub fn check(counts: &mut Counts, card: &[u8], plain: second_reader::CardFacts) {
     let unlike = facts_unlike(library::check(card), plain);
     answered(
         counts,
@@ -28,7 +28,7 @@ pub fn check(counts: &mut Counts, card: &[u8], plain: second::CardFacts) {
 }
 
 // Whether two answers to a check differ: some bit of some field does.
-fn facts_unlike(a: library::Facts, b: second::CardFacts) -> bool {
+fn facts_unlike(a: library::Facts, b: second_reader::CardFacts) -> bool {
     let sizes = (a.n ^ b.n as u32) | (a.k ^ b.k as u32) | (a.distance ^ b.distance);
     let words = (a.radius ^ b.radius) | (a.bits ^ b.bits) | (a.last ^ b.last);
     let others = (a.refusal ^ b.refusal as u32) | (a.track ^ b.track as u32);
@@ -36,7 +36,7 @@ fn facts_unlike(a: library::Facts, b: second::CardFacts) -> bool {
 }
 
 // A block start or a distance.
-pub fn number(counts: &mut Counts, answer: library::Number, plain: second::Number) {
+pub fn number(counts: &mut Counts, answer: library::Number, plain: second_reader::Number) {
     let unlike = answer.refusal != plain.refusal as u32 || answer.value != plain.value;
     let kind = tally::kind(plain.refusal);
     answered(counts, tally::NUMBERS, kind, tally::NUMBERS_UNLIKE, unlike);
@@ -47,12 +47,12 @@ pub fn numbers(counts: &mut Counts, card: &[u8], x: u32) {
     number(
         counts,
         library::plain_number(depot::block_start(card, x)),
-        second::block_start(card, x as u64),
+        second_reader::block_start(card, x as u64),
     );
     number(
         counts,
         library::plain_number(depot::millimetres(card, x)),
-        second::millimetres(card, x as u64),
+        second_reader::millimetres(card, x as u64),
     );
 }
 
@@ -61,12 +61,12 @@ pub fn write(counts: &mut Counts, card: &[u8], position: u32, len: usize) {
     written(
         counts,
         library::write(card, position, len),
-        second::write(card, position as u64, len),
+        second_reader::write(card, position as u64, len),
     );
 }
 
 // What both wrote.
-pub fn written(counts: &mut Counts, answer: library::Wrote, plain: second::Word) {
+pub fn written(counts: &mut Counts, answer: library::Wrote, plain: second_reader::Word) {
     let wrote = answer.lent;
     let bytes = plain.bytes;
     let right = left(bytes, plain.len);
@@ -87,7 +87,7 @@ fn left(word: [u8; 40], len: usize) -> [u8; 48] {
 }
 
 // What both read.
-pub fn read(counts: &mut Counts, answer: library::Reading, plain: second::Reading) {
+pub fn read(counts: &mut Counts, answer: library::Reading, plain: second_reader::Reading) {
     let unlike = reading_unlike(answer, plain);
     let kind = tally::kind(plain.refusal);
     answered(counts, tally::WORDS, kind, tally::WORDS_UNLIKE, unlike);
@@ -101,7 +101,7 @@ pub fn read(counts: &mut Counts, answer: library::Reading, plain: second::Readin
 }
 
 // Whether two readings differ: some bit of some field does.
-fn reading_unlike(a: library::Reading, b: second::Reading) -> bool {
+fn reading_unlike(a: library::Reading, b: second_reader::Reading) -> bool {
     let place = (a.position ^ b.position) | (a.residual ^ b.residual);
     let kind = (a.refusal ^ b.refusal as u32) | (a.rule ^ b.rule as u32);
     (place | kind) != 0

@@ -19,8 +19,8 @@ use trials::shapes;
 
 // A card of any bytes.
 fn card(counts: &mut Counts, bytes: &[u8], id: u64) {
-    let p = second::prepare(bytes);
-    let facts = second::prepared_facts(p);
+    let p = second_reader::prepare(bytes);
+    let facts = second_reader::prepared_facts(p);
     calls::check(counts, bytes, facts);
     if facts.refusal == 0 {
         track::positions(counts, bytes, p, id);
@@ -70,7 +70,11 @@ fn length(counts: &mut Counts, card: &[u8], position: u32, len: usize) {
     }
     let word = &zeros[0..len];
     calls::write(counts, card, position, len);
-    calls::read(counts, library::read(card, word), second::read(card, word));
+    calls::read(
+        counts,
+        library::read(card, word),
+        second_reader::read(card, word),
+    );
 }
 
 // The cards of every shape.

@@ -3,10 +3,10 @@ use crate::calls;
 use crate::library;
 use crate::tally;
 use crate::tally::Counts;
-use second::bits;
-use second::search;
-use second::walk;
-use second::walk::Walk;
+use second_reader::bits;
+use second_reader::search;
+use second_reader::walk;
+use second_reader::walk::Walk;
 use trials::choice;
 use trials::damage;
 use trials::layout;
@@ -24,7 +24,7 @@ fn blocks(counts: &mut Counts, card: &[u8], k: u64, starts: &[u32; 4096]) {
             calls::number(
                 counts,
                 library::plain_number(depot::block_start(card, i as u32)),
-                second::Number { refusal: 0, value },
+                second_reader::Number { refusal: 0, value },
             );
         }
         i += 1;
@@ -32,8 +32,8 @@ fn blocks(counts: &mut Counts, card: &[u8], k: u64, starts: &[u32; 4096]) {
 }
 
 // The blocks, then the positions, one after the other: words are written, and at some of them words are read.
-pub fn positions(counts: &mut Counts, card: &[u8], p: second::Prepared, id: u64) {
-    let facts = second::prepared_facts(p);
+pub fn positions(counts: &mut Counts, card: &[u8], p: second_reader::Prepared, id: u64) {
+    let facts = second_reader::prepared_facts(p);
     let s = layout::sizes_of(facts);
     let starts = p.starts;
     blocks(counts, card, facts.k as u64, &starts);
@@ -82,7 +82,7 @@ fn write(
     calls::written(
         counts,
         wrote,
-        second::Word {
+        second_reader::Word {
             refusal: 0,
             len,
             bytes,
@@ -145,7 +145,7 @@ fn read_one(
 ) {
     let received = &word[0..layout::byte_count(bits)];
     let answer = library::read(card, received);
-    let plain = second::read_along(starts, behind, received);
+    let plain = second_reader::read_along(starts, behind, received);
     calls::read(counts, answer, plain);
     if turned < damage::TOO_MANY {
         bounded(

@@ -1,5 +1,5 @@
 -- Document 01, "Two cards to try": every case marked *, and with them the cards' figures and the refused cards and words
--- that it names, as one table of questions and answers. That the definitions answer so is one theorem, in crate starred_cases.
+-- that it names, as one table of questions and answers. That the definitions answer so is one theorem, `starred-cases`.
 -- Assumes nothing.
 use mathlib.Core.List.{List, [], _∷_, _++_}
 use Prim.Native.Nat.{ℕ, zero, suc, _-_, _*_, _/_, _%_}

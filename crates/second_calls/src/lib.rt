@@ -15,7 +15,7 @@ pub extern "C" fn second_check_card(card: &[u8], values: &mut [u32]) -> u32 {
     if values.len() != 7 {
         return WRONG_COUNT;
     }
-    let facts = second::prepared_facts(second::prepare(card));
+    let facts = second_reader::prepared_facts(second_reader::prepare(card));
     if facts.refusal != 0 {
         return facts.refusal as u32;
     }
@@ -33,7 +33,7 @@ pub extern "C" fn second_check_card(card: &[u8], values: &mut [u32]) -> u32 {
 #[no_mangle]
 pub extern "C" fn second_write_word(card: &[u8], position: u32, word: &mut [u8]) -> u32 {
     let count = word.len();
-    let written = second::write(card, position as u64, count);
+    let written = second_reader::write(card, position as u64, count);
     if written.refusal != 0 {
         return written.refusal as u32;
     }
@@ -52,7 +52,7 @@ pub extern "C" fn second_read_word(card: &[u8], word: &[u8], values: &mut [u32])
     if values.len() != 3 {
         return WRONG_COUNT;
     }
-    let reading = second::read(card, word);
+    let reading = second_reader::read(card, word);
     if reading.refusal != 0 {
         return reading.refusal as u32;
     }

@@ -3,7 +3,7 @@ use crate::numbers;
 use crate::rows;
 use crate::shapes;
 use crate::shapes::Shape;
-use second::code;
+use second_reader::code;
 
 // Byte b of a card's twelve rows: eight bytes a row, high byte first.
 fn row_byte(s: Shape, b: u64) -> u8 {

@@ -2,7 +2,7 @@
 ghost use Prim.Native.Nat.{_≤_};
 use crate::numbers;
 use crate::numbers::plus;
-use second::walk::Walk;
+use second_reader::walk::Walk;
 
 // Up to this last position every position is written; on longer tracks about 2,000 are.
 const WRITE_ALL: u64 = 25000;

@@ -11,7 +11,7 @@ pub struct Sizes {
 }
 
 // The sizes of a card.
-pub fn sizes_of(facts: second::CardFacts) -> Sizes {
+pub fn sizes_of(facts: second_reader::CardFacts) -> Sizes {
     Sizes {
         n: facts.n as usize,
         distance: facts.distance as usize,

@@ -3,8 +3,8 @@ use crate::damage;
 use crate::layout::Sizes;
 use crate::numbers;
 use crate::numbers::plus;
-use second::bits;
-use second::code;
+use second_reader::bits;
+use second_reader::code;
 
 // Words 22 to 26, made up: random bits; one codeword in both chunks, two codewords, the first and the last codeword, with
 // whole separators of any values; and one codeword in both chunks, damaged within the radius.

@@ -5,9 +5,9 @@ use crate::layout::Sizes;
 use crate::made_up;
 use crate::numbers;
 use crate::numbers::plus;
-use second::bits;
-use second::walk;
-use second::walk::Walk;
+use second_reader::bits;
+use second_reader::walk;
+use second_reader::walk::Walk;
 
 // How many words are read at a position. The last of them has a spare bit set, if there is one.
 pub const COUNT: u64 = 28;
