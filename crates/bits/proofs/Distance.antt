@@ -5,7 +5,7 @@ use mathlib.Core.Logic.{_⊎_, ⊎-elim}
 use Prim.Native.Nat.{ℕ, zero, suc, _+_, _≤_, _<_}
 use native.Mathlib.Nat.{le-dest}
 use native.Mathlib.Omega.{arith}
-use Rattle.bits.specs.Sums.{sumBelow, distance, unlike, from}
+use Rattle.bits.specs.Sums.{sumBelow, distance, unlike, fromPlace}
 use Rattle.bits.proofs.Sums.{sum-ext, sum-mono, sum-add, sum-split, sum-zero, sum-longer, sum-of-bits, sum-one-place}
 
 -- the distance is fixed by the bits below d
@@ -40,7 +40,7 @@ pub distance-longer : (u v : ℕ → ℕ) {a d : ℕ} → a ≤ d → distance a
 unfolding distance
 distance-longer u v h = sum-longer (λ p. unlike (u p) (v p)) h
 
-pub distance-split : (a b : ℕ) (u v : ℕ → ℕ) → distance (a + b) u v ≡ distance a u v + distance b (from a u) (from a v)
+pub distance-split : (a b : ℕ) (u v : ℕ → ℕ) → distance (a + b) u v ≡ distance a u v + distance b (fromPlace a u) (fromPlace a v)
 unfolding distance
 distance-split a b u v = sum-split (λ p. unlike (u p) (v p)) a b
 
@@ -48,8 +48,8 @@ distance-split a b u v = sum-split (λ p. unlike (u p) (v p)) a b
 pub distance-alike-after : (a d : ℕ) (u v : ℕ → ℕ) → a ≤ d → ((p : ℕ) → a ≤ p → p < d → u p ≡ v p) → distance d u v ≡ distance a u v
 distance-alike-after a d u v h alike =
     let rest = le-dest h in
-    let none : distance (rest .0) (from a u) (from a v) ≡ 0 =
-    distance-ext-left (rest .0) (from a v) (λ p l. alike (a + p) (omega arith) (omega arith)) ∙ distance-self (rest .0) (from a v) in
+    let none : distance (rest .0) (fromPlace a u) (fromPlace a v) ≡ 0 =
+    distance-ext-left (rest .0) (fromPlace a v) (λ p l. alike (a + p) (omega arith) (omega arith)) ∙ distance-self (rest .0) (fromPlace a v) in
     rw (← (rest .1)) (distance-split a (rest .0) u v ∙ omega arith)
 
 -- words that differ in each of d places are d apart

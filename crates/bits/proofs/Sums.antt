@@ -6,11 +6,11 @@ use Prim.Native.Nat.{ℕ, zero, suc, _+_, _≤_, _<_}
 use native.Mathlib.Nat.{zero-add, add-zero, add-suc, le-dest, eq-or-lt-of-le}
 use native.Mathlib.Numerals.{add-one}
 use native.Mathlib.Omega.{arith}
-use Rattle.bits.specs.Sums.{sumBelow, from}
+use Rattle.bits.specs.Sums.{sumBelow, fromPlace}
 
 -- what starts at place 0 is the whole
-pub from-zero : (x : ℕ → ℕ) → from 0 x ≡ x
-from-zero x = fun-ext (λ p. ap x (zero-add p))
+pub from-place-zero : (x : ℕ → ℕ) → fromPlace 0 x ≡ x
+from-place-zero x = fun-ext (λ p. ap x (zero-add p))
 
 -- two functions that agree below d have the same sum
 pub sum-ext : {f g : ℕ → ℕ} (d : ℕ) → ((p : ℕ) → p < d → f p ≡ g p) → sumBelow f d ≡ sumBelow g d
@@ -31,7 +31,7 @@ sum-add f g zero = refl
 sum-add f g (suc d) = omega (arith, sum-add f g d)
 
 -- a sum over a + b places is the sum over the first a and the sum over the b places from there on
-pub sum-split : (f : ℕ → ℕ) (a b : ℕ) → sumBelow f (a + b) ≡ sumBelow f a + sumBelow (from a f) b
+pub sum-split : (f : ℕ → ℕ) (a b : ℕ) → sumBelow f (a + b) ≡ sumBelow f a + sumBelow (fromPlace a f) b
 unfolding sumBelow
 sum-split f a zero = rw (add-zero a) (omega arith)
 sum-split f a (suc b) = rw (add-suc a b) (omega (arith, sum-split f a b))

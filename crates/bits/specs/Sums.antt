@@ -18,8 +18,8 @@ unfoldable pub distance : (d : ℕ) (u v : ℕ → ℕ) → ℕ
 distance d u v = sumBelow (λ p. unlike (u p) (v p)) d
 
 -- the part of a bit function that starts at place a
-abbrev pub from : (a : ℕ) (x : ℕ → ℕ) (p : ℕ) → ℕ
-from a x p = x (a + p)
+abbrev pub fromPlace : (a : ℕ) (x : ℕ → ℕ) (p : ℕ) → ℕ
+fromPlace a x p = x (a + p)
 
 -- the first a places of u, then v
 unfoldable pub joinAt : (a : ℕ) (u v : ℕ → ℕ) (p : ℕ) → ℕ

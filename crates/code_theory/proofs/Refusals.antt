@@ -1,12 +1,13 @@
 -- Rows of the table of refusals, for every call: where no row holds there is no refusal, the first row that holds is the answer, and
--- where there is no refusal no row holds, since no row has the number 0. Assumes nothing.
+-- where there is no refusal no row holds, since no row has the number 0. A call whose refusal is 0 is served, and one with any other
+-- is answered by it. Assumes nothing.
 use mathlib.Core.Path.{_≡_, refl}
 use mathlib.Core.Bool.{Bool, true, false, cond, false≢true}
 use mathlib.Core.List.{List, [], _∷_, _++_}
 use Prim.Native.Nat.{ℕ}
 use borrow.Author.Tests.{eq-eqb, ne-eqb}
 use lib.Dec.{eqb}
-use Rattle.model.specs.Refusals.{Row, firstRefusal}
+use Rattle.model.specs.Refusals.{Row, firstRefusal, unlessRefused}
 
 -- none of the rows holds
 unfoldable pub NoneHolds : List Row → Type 0
@@ -45,3 +46,13 @@ none-holds (r ∷ rows) all none =
     let (ne, rest) = number-first (r .number) (numbered rows) all in
     let (here, below) = not-this (r .holds) (r .number) (firstRefusal rows) ne none in
     (here, none-holds rows rest below)
+
+pub served-if-none : {A : Type 0} (refusal : ℕ) (refused : ℕ → A) (served : A) → refusal ≡ 0
+    → unlessRefused refusal refused served ≡ served
+unfolding unlessRefused
+served-if-none refusal refused served none = rw (eq-eqb refusal 0 none)
+
+pub refused-if-some : {A : Type 0} (refusal : ℕ) (refused : ℕ → A) (served : A) → (refusal ≡ 0 → ⊥)
+    → unlessRefused refusal refused served ≡ refused refusal
+unfolding unlessRefused
+refused-if-some refusal refused served some = rw (ne-eqb refusal 0 some)

@@ -22,14 +22,18 @@ pub record Sound (C : Code) : Type 0 where
   pub independent : (g : ℕ) → 0 < g → g < 2 ^ C .k → sumOfRows (C .row) (C .k) g ≡ 0 → ⊥
   pub least : C .D ≡ leastWeight (C .n) (sumOfRows (C .row) (C .k)) (2 ^ C .k)
 
--- What a reader of code chunks promises, whatever its search. Two readers that promise it answer alike (`readers-agree`).
-pub record ReadsChunks (C : Code) (read : (ℕ → ℕ) → Chunk) : Type 0 where
-  -- a chunk within the radius of c(p) reads p, with the count of places in which the two differ
-  pub reads : (x : ℕ → ℕ) (p : ℕ) → p ≤ lastCodeword C → chunkDistance C x p ≤ radius C
-      → read x ≡ Codeword p (chunkDistance C x p)
-  -- a chunk that reads p lies within the radius of c(p), a codeword of the code, and the count is theirs
-  pub within : (x : ℕ → ℕ) (p e : ℕ) → read x ≡ Codeword p e
-      → (p ≤ lastCodeword C) × (e ≡ chunkDistance C x p) × (e ≤ radius C)
+-- What a reader of chunks promises, whatever its search, of codewords 0 to `last`, a count `far` of the places in which a chunk and
+-- a codeword are unlike, and a limit of it, which may both go by the chunk. Two readers that promise it answer alike
+-- (`readers-agree`).
+pub record ReadsWithin (X : Type 0) (last : ℕ) (far : X → ℕ → ℕ) (limit : X → ℕ) (read : X → Chunk) : Type 0 where
+  -- a chunk within the limit of codeword p reads p, with the count
+  pub reads : (x : X) (p : ℕ) → p ≤ last → far x p ≤ limit x → read x ≡ Codeword p (far x p)
+  -- a chunk that reads p is within the limit of codeword p, one of the code's, and the count is theirs
+  pub within : (x : X) (p e : ℕ) → read x ≡ Codeword p e → (p ≤ last) × (e ≡ far x p) × (e ≤ limit x)
+
+-- what a reader of code chunks promises: the codeword within the radius
+abbrev pub ReadsChunks : Code → ((ℕ → ℕ) → Chunk) → Type 0
+ReadsChunks C read = ReadsWithin (ℕ → ℕ) (lastCodeword C) (chunkDistance C) (λ x. radius C) read
 
 -- The chunk promise: all that the laws of words and reading know of the code and its order (only the bounds on the size of numbers,
 -- which code needs, go by the card's limits)

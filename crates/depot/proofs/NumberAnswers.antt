@@ -13,7 +13,7 @@ use Rattle.model.specs.Numbers.{numberStatus, numberValues}
 use Rattle.model.specs.declared.Decoded.{Decoded}
 use Rattle.model.specs.declared.NumberAnswer.{NumberAnswer}
 use Rattle.model.specs.declared.NumberAnswer.the-variants.{Number, Refused}
-use Rattle.chunk.specs.DecodedFrom.{DecodedFrom}
+use Rattle.linear_code.specs.DecodedFrom.{DecodedFrom}
 use Rattle.depot.proofs.Statuses.{Told, start-told, millimetres-told}
 
 -- what the contracts say of the answers

@@ -12,7 +12,7 @@ use Rattle.model.specs.declared.ReadAnswer.{ReadAnswer}
 use Rattle.model.specs.declared.ReadAnswer.the-variants.{Refused}
 use Rattle.position_theory.specs.Demands.{NearestOfAllowed, OffByAtMostTwiceTurned, OffByAtMostTurnedAndResidual}
 use Rattle.position_theory.proofs.Demands.{read-sound, nearest-of-allowed, off-by-at-most-twice-turned, off-by-at-most-turned-and-residual}
-use Rattle.chunk.specs.DecodedFrom.{DecodedFrom}
+use Rattle.linear_code.specs.DecodedFrom.{DecodedFrom}
 use Rattle.depot.proofs.Statuses.{read-told}
 
 module _ (card received : List ℕ) where

@@ -22,7 +22,7 @@ use Rattle.model.specs.declared.WriteAnswer.the-variants.{Written, Refused}
 use Rattle.position_theory.specs.Demands.{WrittenIfServable, UnchangedIfRefused, NeighboursDifferInOneBit, NoOtherPositionsWord}
 use Rattle.position_theory.proofs.Demands.{neighbours-differ-in-one-bit, no-other-positions-word}
 use Rattle.position_theory.proofs.Writing.{written-if-servable, unchanged-if-refused, written-means}
-use Rattle.chunk.specs.DecodedFrom.{DecodedFrom}
+use Rattle.linear_code.specs.DecodedFrom.{DecodedFrom}
 use Rattle.depot.proofs.Statuses.{write-status, no-write-values}
 
 module _ (card : List ℕ) (position : ℕ) (lent : List ℕ) where

@@ -13,7 +13,7 @@ ghost use Rattle.model.specs.Numbers.{readStatus, readValues, numberStatus, num
 ghost use Rattle.model.specs.declared.WriteAnswer.the-variants.{Written};
 ghost use Rattle.position_theory.specs.Demands.{WrittenIfServable, UnchangedIfRefused, NeighboursDifferInOneBit, NoOtherPositionsWord};
 ghost use Rattle.position_theory.specs.Demands.{NearestOfAllowed, OffByAtMostTwiceTurned, OffByAtMostTurnedAndResidual};
-use chunk::decode;
+use linear_code::decode;
 use model::CardAnswer;
 use model::NumberAnswer;
 use model::ReadAnswer;

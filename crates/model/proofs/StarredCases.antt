@@ -5,14 +5,15 @@ use Rattle.bits.specs.Sums.{sumBelow, distance, joinAt}
 use Rattle.bits.specs.Walk.{walk}
 use Rattle.bits.specs.Places.{weight, place, cut, byteOf, listOf, pack, differingBits}
 use Rattle.bits.specs.Searches.{anyBelow, firstFrom, first, leastAt, greatest}
-use Rattle.model.specs.Refusals.{firstRefusal}
+use Rattle.model.specs.Refusals.{firstRefusal, unlessRefused}
 use Rattle.model.specs.Card.{highFirst, trackOf, rowOf, storedCheck, computedCheck, sumOfRows, leastWeight, codeOf}
 use Rattle.model.specs.Card.{withinLimits, rowTooWide, unusedRowSet, unusedByteSet, misplaced, dependent, cardRefusal}
 use Rattle.model.specs.Order.{gray, lastCodeword, codeword, changedRow, changedWeight, start, lastPosition}
 use Rattle.model.specs.Words.{fiveChunks, word, blockOf, wordAt, wordBytes}
-use Rattle.model.specs.Reading.{majority, chunkDistance, chunkReading, seen, ruleOf, ruleNamed, twoEnds, byChunk, byBoth}
-use Rattle.model.specs.Reading.{allowedBy, allowed, residual, nearestIn, nearest, reading}
-use Rattle.model.specs.Answers.{summaryOf, cardAnswer, writeRefusal, writeAnswer, lentAfterWrite, spareSet, readWord, readAnswer}
+use Rattle.model.specs.Reading.{majority, chunkDistance, firstWithin, readWithin, chunkReading, unreadable, numberRead, seen}
+use Rattle.model.specs.Reading.{ruleOf, numberBy, twoEnds, rowsSeen, ruleNamed, rowsOf, allowed, residual, nearestIn, nearest}
+use Rattle.model.specs.Answers.{summaryOf, cardAnswer, writeRefusal, writeAnswer, lentAfterWrite}
+use Rattle.model.specs.Answers.{spareSet, rowsOfWord, readRefusal, readAnswer}
 use Rattle.model.specs.Numbers.{cardStatus, cardValues, writeStatus, writeValues, readStatus, readValues}
 use Rattle.model.specs.Cases.{Case, rowBytes, sealed, cardOf, cardA, cardB, numbersOf, codewordPlaces, answerTo, starredCases}
 
@@ -22,12 +23,12 @@ unfolding sumBelow distance joinAt
     weight place cut byteOf listOf pack differingBits
     anyBelow firstFrom first leastAt greatest
     highFirst trackOf rowOf storedCheck computedCheck sumOfRows leastWeight codeOf
-    firstRefusal withinLimits rowTooWide unusedRowSet unusedByteSet misplaced dependent cardRefusal
+    firstRefusal unlessRefused withinLimits rowTooWide unusedRowSet unusedByteSet misplaced dependent cardRefusal
     gray lastCodeword codeword changedRow changedWeight start lastPosition
     fiveChunks word blockOf wordAt wordBytes
-    majority chunkDistance chunkReading seen ruleOf ruleNamed twoEnds byChunk byBoth
-    allowedBy allowed residual nearestIn nearest reading
-    summaryOf cardAnswer writeRefusal writeAnswer lentAfterWrite spareSet readWord readAnswer
+    majority chunkDistance firstWithin readWithin chunkReading unreadable numberRead seen
+    ruleOf numberBy twoEnds rowsSeen ruleNamed rowsOf allowed residual nearestIn nearest
+    summaryOf cardAnswer writeRefusal writeAnswer lentAfterWrite spareSet rowsOfWord readRefusal readAnswer
     cardStatus cardValues writeStatus writeValues readStatus readValues
     rowBytes sealed cardOf cardA cardB numbersOf codewordPlaces answerTo starredCases
 starred-cases = refl

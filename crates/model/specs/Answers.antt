@@ -2,28 +2,26 @@
 -- every number. The refusals stand in the table's order, as far as the call has the thing, and the first that holds is the
 -- answer. Beside each answer stand the number of its refusal, 0 where the call is served, and its values where it is; that the
 -- answer's status and values, by Numbers.antt, are these is part of the calls' contracts. Assumes nothing.
-use mathlib.Core.Bool.{Bool, cond, not, _&&_, _||_}
+use mathlib.Core.Bool.{Bool, cond, not}
 use mathlib.Core.List.{List, [], _∷_}
 use Prim.Native.Nat.{ℕ, _+_, _-_, _*_, _^_}
-use lib.Dec.{leb, ltb, eqb}
-use lib.ListN.{length, getD}
+use lib.Dec.{ltb, eqb}
+use lib.ListN.{length}
 use Rattle.bits.specs.Places.{bytesFor, place}
-use Rattle.bits.specs.Searches.{anyBelow, first}
-use Rattle.model.specs.Refusals.{Row, row, rowsBy, firstRefusal}
+use Rattle.bits.specs.Searches.{anyBelow}
+use Rattle.model.specs.Refusals.{Row, row, rowsBy, firstRefusal, unlessRefused}
 use Rattle.model.specs.Card.{Code, cardRefusal, codeOf, radius, trackOf}
 use Rattle.model.specs.Order.{lastCodeword, lastPosition, start}
 use Rattle.model.specs.Words.{wordBits, wordBytes, millimetresOf}
-use Rattle.model.specs.Reading.{chunkDistance, Seen, seen, ruleSeen, ruleNamed}
-use Rattle.model.specs.Reading.{Allowed, fromTo, refusedBy, allowed, residual, nearestIn, reading}
-use Rattle.model.specs.Numbers.{chunkStatus, chunkValues}
-use Rattle.model.specs.declared.Chunk.{Chunk}
+use Rattle.model.specs.Reading.{chunkDistance, firstWithin, ruleNamed, rowsOf, allowed, residual, nearest}
+use Rattle.model.specs.declared.Reading.{Reading}
 use Rattle.model.specs.declared.CardSummary.{CardSummary}
 use Rattle.model.specs.declared.CardAnswer.{CardAnswer}
 use Rattle.model.specs.declared.CardAnswer.the-variants.{Sound, Refused as CardRefused}
 use Rattle.model.specs.declared.WriteAnswer.{WriteAnswer}
 use Rattle.model.specs.declared.WriteAnswer.the-variants.{Written, Refused as WriteRefused}
 use Rattle.model.specs.declared.ReadAnswer.{ReadAnswer}
-use Rattle.model.specs.declared.ReadAnswer.the-variants.{Refused as ReadRefused}
+use Rattle.model.specs.declared.ReadAnswer.the-variants.{At, Refused as ReadRefused}
 use Rattle.model.specs.declared.NumberAnswer.{NumberAnswer}
 use Rattle.model.specs.declared.NumberAnswer.the-variants.{Number, Refused as NumberRefused}
 
@@ -47,9 +45,7 @@ wordLength C = bytesFor (wordBits C)
 
 -- check a card
 unfoldable pub cardAnswer : List ℕ → CardAnswer
-cardAnswer b =
-    cond (not (eqb (cardRefusal b) 0)) (CardRefused (cardRefusal b))
-    (Sound (summaryOf b))
+cardAnswer b = unlessRefused (cardRefusal b) CardRefused (Sound (summaryOf b))
 
 -- the values of a sound card: n, k, track, D, t, d and the last position
 unfoldable pub cardFigures : List ℕ → List ℕ
@@ -67,85 +63,54 @@ writeRefusal card position lent =
 
 -- write: the answer
 unfoldable pub writeAnswer : (card : List ℕ) (position : ℕ) (lent : List ℕ) → WriteAnswer
-writeAnswer card position lent =
-    cond (not (eqb (writeRefusal card position lent) 0)) (WriteRefused (writeRefusal card position lent))
-    Written
+writeAnswer card position lent = unlessRefused (writeRefusal card position lent) WriteRefused Written
 
 -- write: the bytes that the lent word is left with: as they were where the write is refused, or those of the position's word
 unfoldable pub lentAfterWrite : (card : List ℕ) (position : ℕ) (lent : List ℕ) → List ℕ
 lentAfterWrite card position lent =
-    cond (not (eqb (writeRefusal card position lent) 0)) lent
-    (wordBytes (codeOf card) position)
+    unlessRefused (writeRefusal card position lent) (λ refusal. lent) (wordBytes (codeOf card) position)
+
+-- a chunk: the refusal's number, or 0 where some codeword lies within the radius
+unfoldable pub chunkRefusal : Code → (x : ℕ → ℕ) → ℕ
+chunkRefusal C x = cond (ltb (firstWithin (chunkDistance C x) (radius C) (2 ^ C .k)) (2 ^ C .k)) 0 10
+
+-- the values of a chunk that is read: the codeword's number, and in how many bits the two differ
+unfoldable pub chunkFigures : Code → (x : ℕ → ℕ) → List ℕ
+chunkFigures C x =
+    let p : ℕ = firstWithin (chunkDistance C x) (radius C) (2 ^ C .k) in p ∷ chunkDistance C x p ∷ []
 
 -- some bit past the d bits of a word is set
 unfoldable pub spareSet : Code → List ℕ → Bool
 spareSet C received = anyBelow (λ q. eqb (place received (wordBits C + q)) 1) (8 * wordLength C - wordBits C)
 
--- read, for the code of a sound card: refusals 6 and 8, then the reading
+-- read: the rows of a received word, once its card is sound
+unfoldable pub rowsOfWord : Code → (received : List ℕ) → List Row
+rowsOfWord C received =
+    row 6 (not (eqb (length received) (wordLength C)))
+    ∷ row 8 (spareSet C received)
+    ∷ rowsOf C (place received)
+
+-- read: the position nearest to the received bytes among the allowed ones, its residual and the rule
+abbrev pub readingOf : Code → (received : List ℕ) → Reading
+readingOf C received =
+    let x : ℕ → ℕ = place received in nearest (residual C x) (ruleNamed C x) (allowed C x)
+
+-- read, for the code of a sound card
 unfoldable pub readWord : Code → (received : List ℕ) → ReadAnswer
-readWord C received =
-    cond (not (eqb (length received) (wordLength C))) (ReadRefused 6)
-    (cond (spareSet C received) (ReadRefused 8)
-    (reading C (place received)))
-
--- read
-unfoldable pub readAnswer : (card received : List ℕ) → ReadAnswer
-readAnswer card received =
-    cond (not (eqb (cardRefusal card) 0)) (ReadRefused (cardRefusal card))
-    (readWord (codeOf card) received)
-
--- the number of the first codeword within the radius of a chunk, or 2^k
-abbrev pub firstWithin : Code → (x : ℕ → ℕ) → ℕ
-firstWithin C x = first (λ i. leb (chunkDistance C x i) (radius C)) (2 ^ C .k)
-
--- a chunk: the refusal's number, or 0 where some codeword lies within the radius
-unfoldable pub chunkRefusal : Code → (x : ℕ → ℕ) → ℕ
-chunkRefusal C x = cond (ltb (firstWithin C x) (2 ^ C .k)) 0 10
-
--- the values of a chunk that is read: the codeword's number, and in how many bits the two differ
-unfoldable pub chunkFigures : Code → (x : ℕ → ℕ) → List ℕ
-chunkFigures C x = firstWithin C x ∷ chunkDistance C x (firstWithin C x) ∷ []
-
--- whether a chunk read as no codeword, and the number of the codeword that any other read as
-abbrev pub unreadable : Chunk → Bool
-unreadable read = not (eqb (chunkStatus read) 0)
-
-abbrev pub codewordNumber : Chunk → ℕ
-codewordNumber read = getD (chunkValues read) 0 0
-
--- rows 9 to 12, of what is seen of a word whose separators name this rule (0 for none)
-unfoldable pub rowsByRule : Code → Seen → (rule : ℕ) → List Row
-rowsByRule C s rule =
-    let p₁ : ℕ = codewordNumber (s .read₁) in
-    let p₂ : ℕ = codewordNumber (s .read₂) in
-    row 9 (eqb rule 0)
-    ∷ row 10 ((eqb rule 1 || eqb rule 3) && unreadable (s .read₁) || (eqb rule 2 || eqb rule 3) && unreadable (s .read₂))
-    ∷ row 11 (eqb rule 3 && not (eqb p₁ p₂))
-    ∷ row 12 (eqb rule 1 && eqb p₁ 0 || eqb rule 2 && eqb p₂ (lastCodeword C))
-    ∷ []
+readWord C received = unlessRefused (firstRefusal (rowsOfWord C received)) ReadRefused (At (readingOf C received))
 
 -- read: the refusal's number, or 0 where the word is read
 unfoldable pub readRefusal : (card received : List ℕ) → ℕ
-readRefusal card received =
-    let C : Code = codeOf card in
-    let s : Seen = seen C (place received) in
-    firstRefusal
-    (rowsBy (cardRefusal card)
-    ∷ row 6 (not (eqb (length received) (wordLength C)))
-    ∷ row 8 (spareSet C received)
-    ∷ rowsByRule C s (ruleSeen s))
+readRefusal card received = firstRefusal (rowsBy (cardRefusal card) ∷ rowsOfWord (codeOf card) received)
 
--- the allowed position whose residual is least, the smallest on a tie (0 where none is allowed, which means nothing)
-unfoldable pub nearestPosition : (residual : ℕ → ℕ) → Allowed → ℕ
-nearestPosition residual (fromTo range) = nearestIn residual range
-nearestPosition residual (refusedBy refusal) = 0
+-- read: the answer
+unfoldable pub readAnswer : (card received : List ℕ) → ReadAnswer
+readAnswer card received = unlessRefused (readRefusal card received) ReadRefused (At (readingOf (codeOf card) received))
 
 -- the values of a word that is read: the nearest allowed position, its residual, and the rule that the separators name
 unfoldable pub readFigures : (card received : List ℕ) → List ℕ
 readFigures card received =
-    let C : Code = codeOf card in
-    let x : ℕ → ℕ = place received in
-    let position : ℕ = nearestPosition (residual C x) (allowed C x) in position ∷ residual C x position ∷ ruleNamed C x ∷ []
+    let r : Reading = readingOf (codeOf card) received in r .position ∷ r .residual ∷ r .rule ∷ []
 
 -- block start: the refusal's number, or 0
 unfoldable pub startRefusal : (card : List ℕ) (block : ℕ) → ℕ
@@ -153,10 +118,7 @@ startRefusal card block = firstRefusal (rowsBy (cardRefusal card) ∷ row 7 (ltb
 
 -- block start: r(block)
 unfoldable pub startAnswer : (card : List ℕ) (block : ℕ) → NumberAnswer
-startAnswer card block =
-    cond (not (eqb (cardRefusal card) 0)) (NumberRefused (cardRefusal card))
-    (cond (ltb (lastCodeword (codeOf card)) block) (NumberRefused 7)
-    (Number (start (codeOf card) block)))
+startAnswer card block = unlessRefused (startRefusal card block) NumberRefused (Number (start (codeOf card) block))
 
 -- millimetres: the refusal's number, or 0
 unfoldable pub millimetresRefusal : (card : List ℕ) (position : ℕ) → ℕ
@@ -164,7 +126,4 @@ millimetresRefusal card position = firstRefusal (rowsBy (cardRefusal card) ∷ r
 
 -- millimetres: the distance of a position from the buffer face
 unfoldable pub millimetresAnswer : (card : List ℕ) (position : ℕ) → NumberAnswer
-millimetresAnswer card position =
-    cond (not (eqb (cardRefusal card) 0)) (NumberRefused (cardRefusal card))
-    (cond (ltb (lastPosition (codeOf card)) position) (NumberRefused 7)
-    (Number (millimetresOf position)))
+millimetresAnswer card position = unlessRefused (millimetresRefusal card position) NumberRefused (Number (millimetresOf position))

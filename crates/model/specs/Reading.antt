@@ -1,17 +1,20 @@
--- Document 01, "Reading a word": the separators, the code chunks, the three rules, and the nearest allowed position.
--- A received word is a bit function here; Answers.antt takes it from bytes. Assumes nothing.
-use mathlib.Core.Bool.{cond}
+-- Document 01, "Reading a word": the separators, the code chunks, the three rules, refusals 9 to 12, and the nearest allowed
+-- position. A received word is a bit function here; Answers.antt takes it from bytes. Assumes nothing.
+use mathlib.Core.Bool.{Bool, true, false, cond, not, _&&_, _||_}
+use mathlib.Core.List.{List, [], _∷_}
 use Prim.Native.Nat.{ℕ, _+_, _-_, _*_, _^_, min}
 use lib.Dec.{leb, ltb, eqb}
 use Rattle.bits.specs.Sums.{sumBelow, distance}
 use Rattle.bits.specs.Places.{bit}
 use Rattle.bits.specs.Searches.{first, leastAt}
+use Rattle.model.specs.Refusals.{Row, row, firstRefusal, unlessRefused}
 use Rattle.model.specs.Card.{Code, radius}
 use Rattle.model.specs.Order.{codeword, lastCodeword, changedWeight, start, lastPosition}
 use Rattle.model.specs.Words.{wordBits, wordAt, separator₁}
 pub use Rattle.model.specs.Words.{chunk₁, separator₂, chunk₂, separator₃}
 use Rattle.model.specs.declared.Chunk.{Chunk}
 use Rattle.model.specs.declared.Chunk.the-variants.{Codeword, Unreadable}
+use Rattle.model.specs.declared.Reading.{Reading}
 use Rattle.model.specs.declared.ReadAnswer.{ReadAnswer}
 use Rattle.model.specs.declared.ReadAnswer.the-variants.{At, Refused}
 
@@ -23,12 +26,28 @@ majority D x = cond (ltb D (2 * sumBelow x D)) 1 0
 unfoldable pub chunkDistance : Code → (x : ℕ → ℕ) (p : ℕ) → ℕ
 chunkDistance C x p = distance (C .n) (bit (codeword C p)) x
 
+-- the first of so many codewords that is within a limit by some count of unlike places, or their number where none is
+unfoldable pub firstWithin : (far : ℕ → ℕ) (limit many : ℕ) → ℕ
+firstWithin far limit many = first (λ i. leb (far i) limit) many
+
+-- what a chunk reads as by that search: the codeword's number and its count
+unfoldable pub readWithin : (far : ℕ → ℕ) (limit many : ℕ) → Chunk
+readWithin far limit many =
+    let p : ℕ = firstWithin far limit many in cond (ltb p many) (Codeword p (far p)) Unreadable
+
 -- a code chunk reads as p if c(p) lies within t bits of it (the first such p; there is one at most, by the law
 -- `one-within-radius`)
 unfoldable pub chunkReading : Code → (x : ℕ → ℕ) → Chunk
-chunkReading C x =
-    let p = first (λ i. leb (chunkDistance C x i) (radius C)) (2 ^ C .k) in
-    cond (ltb p (2 ^ C .k)) (Codeword p (chunkDistance C x p)) Unreadable
+chunkReading C x = readWithin (chunkDistance C x) (radius C) (2 ^ C .k)
+
+-- whether a chunk reads as no codeword, and the number of the codeword that any other reads as
+unfoldable pub unreadable : Chunk → Bool
+unreadable (Codeword p e) = false
+unreadable Unreadable = true
+
+unfoldable pub numberRead : Chunk → ℕ
+numberRead (Codeword p e) = p
+numberRead Unreadable = 0
 
 -- What is seen of a word: what its three separators read, 0 or 1 each, and what either code chunk reads as. The rule and the
 -- positions that it allows go by this alone.
@@ -54,76 +73,72 @@ seen C x =
 unfoldable pub ruleOf : (s₁ s₂ s₃ : ℕ) → ℕ
 ruleOf s₁ s₂ s₃ = cond (eqb s₁ s₂) (cond (eqb s₂ s₃) 3 1) (cond (eqb s₂ s₃) 2 0)
 
--- the rule that the separators seen name, and so those of a received word's bits
 abbrev pub ruleSeen : Seen → ℕ
 ruleSeen s = ruleOf (s .s₁) (s .s₂) (s .s₃)
 
-unfoldable pub ruleNamed : Code → (x : ℕ → ℕ) → ℕ
-ruleNamed C x = ruleSeen (seen C x)
+-- which code chunks a rule names, and p, the number that they read: rule 2's is chunk 2's, any other's chunk 1's
+abbrev pub namesFirst : (rule : ℕ) → Bool
+namesFirst rule = eqb rule 1 || eqb rule 3
+
+abbrev pub namesSecond : (rule : ℕ) → Bool
+namesSecond rule = eqb rule 2 || eqb rule 3
+
+unfoldable pub numberBy : Seen → (rule : ℕ) → ℕ
+numberBy s rule = cond (eqb rule 2) (numberRead (s .read₂)) (numberRead (s .read₁))
 
 -- the positions that a rule allows: from low to high, ends included
 pub record Range : Type 0 where
-  pub rule : ℕ
   pub low : ℕ
   pub high : ℕ
 
--- the positions that a word may be read as: those of a range, or none, by a refusal's number
-pub data Allowed : Type 0 where
-  fromTo : (range : Range) → Allowed
-  refusedBy : (refusal : ℕ) → Allowed
-
 -- rule 1: chunk 1 reads p; block p - 1; allowed are r(p-1) + D + A(p-1) to r(p)
 abbrev pub range₁ : Code → (p : ℕ) → Range
-range₁ C p = record { rule = 1; low = start C (p - 1) + C .D + changedWeight C (p - 1); high = start C p }
+range₁ C p = record { low = start C (p - 1) + C .D + changedWeight C (p - 1); high = start C p }
 
 -- rule 2: chunk 2 reads p; allowed are r(p) to r(p) + 2D + A(p)
 abbrev pub range₂ : Code → (p : ℕ) → Range
-range₂ C p = record { rule = 2; low = start C p; high = start C p + 2 * C .D + changedWeight C p }
+range₂ C p = record { low = start C p; high = start C p + 2 * C .D + changedWeight C p }
 
 -- rule 3: both chunks read the same p; allowed are r(p) - D to r(p) + D, cut to 0 and the last position
 abbrev pub range₃ : Code → (p : ℕ) → Range
-range₃ C p = record { rule = 3; low = start C p - C .D; high = min (start C p + C .D) (lastPosition C) }
+range₃ C p = record { low = start C p - C .D; high = min (start C p + C .D) (lastPosition C) }
 
--- what each rule allows where its chunks read p
+-- What a kind of track says of a rule whose chunks read p: whether the block that the rule goes by does not exist, and the
+-- positions that the rule allows where it does.
 pub record Rules : Type 0 where
-  pub rule₁ : (p : ℕ) → Allowed
-  pub rule₂ : (p : ℕ) → Allowed
-  pub rule₃ : (p : ℕ) → Allowed
+  pub noBlock : (rule p : ℕ) → Bool
+  pub range : (rule p : ℕ) → Range
 
--- on a track with two ends: there is no block before the first codeword, and none after the last
+-- a track with two ends: there is no block before the first codeword, and none after the last
 unfoldable pub twoEnds : Code → Rules
 twoEnds C =
     record {
-      rule₁ = λ p. cond (eqb p 0) (refusedBy 12) (fromTo (range₁ C p));
-      rule₂ = λ p. cond (eqb p (lastCodeword C)) (refusedBy 12) (fromTo (range₂ C p));
-      rule₃ = λ p. fromTo (range₃ C p);
+      noBlock = λ rule p. eqb rule 1 && eqb p 0 || eqb rule 2 && eqb p (lastCodeword C);
+      range = λ rule p. cond (eqb rule 1) (range₁ C p) (cond (eqb rule 2) (range₂ C p) (range₃ C p));
     }
 
--- what a rule allows that names one chunk, and what one allows that names both
-unfoldable pub byChunk : (allows : ℕ → Allowed) (read : Chunk) → Allowed
-byChunk allows (Codeword p e) = allows p
-byChunk allows Unreadable = refusedBy 10
+-- rows 9 to 12 of the table, for what is seen of a word whose separators name this rule, 0 for none
+unfoldable pub rowsSeen : Rules → Seen → (rule : ℕ) → List Row
+rowsSeen R s rule =
+    row 9 (eqb rule 0)
+    ∷ row 10 (namesFirst rule && unreadable (s .read₁) || namesSecond rule && unreadable (s .read₂))
+    ∷ row 11 (eqb rule 3 && not (eqb (numberRead (s .read₁)) (numberRead (s .read₂))))
+    ∷ row 12 (R .noBlock rule (numberBy s rule))
+    ∷ []
 
-unfoldable pub byBoth : (allows : ℕ → Allowed) (read₁ read₂ : Chunk) → Allowed
-byBoth allows (Codeword p e) (Codeword q f) = cond (eqb p q) (allows p) (refusedBy 11)
-byBoth allows (Codeword p e) Unreadable = refusedBy 10
-byBoth allows Unreadable (Codeword q f) = refusedBy 10
-byBoth allows Unreadable Unreadable = refusedBy 10
+-- the positions that a rule allows of what is seen, where none of these rows holds
+abbrev pub rangeSeen : Rules → Seen → (rule : ℕ) → Range
+rangeSeen R s rule = R .range rule (numberBy s rule)
 
--- what the rule with this number allows, or refusal 9 if it is 0; only the code chunks that the rule names are read
-unfoldable pub allowedBy : Rules → Seen → (rule : ℕ) → Allowed
-allowedBy R s rule =
-    cond (eqb rule 1) (byChunk (R .rule₁) (s .read₁))
-    (cond (eqb rule 2) (byChunk (R .rule₂) (s .read₂))
-    (cond (eqb rule 3) (byBoth (R .rule₃) (s .read₁) (s .read₂))
-    (refusedBy 9)))
+-- the same of a received word's bits, on a track with two ends: the rule named, the rows, and the positions allowed
+unfoldable pub ruleNamed : Code → (x : ℕ → ℕ) → ℕ
+ruleNamed C x = ruleSeen (seen C x)
 
--- what the separators and chunks seen allow, and so those of a received word's bits, on a track with two ends
-abbrev pub allowedSeen : Rules → Seen → Allowed
-allowedSeen R s = allowedBy R s (ruleSeen s)
+unfoldable pub rowsOf : Code → (x : ℕ → ℕ) → List Row
+rowsOf C x = rowsSeen (twoEnds C) (seen C x) (ruleNamed C x)
 
-unfoldable pub allowed : Code → (x : ℕ → ℕ) → Allowed
-allowed C x = allowedBy (twoEnds C) (seen C x) (ruleNamed C x)
+unfoldable pub allowed : Code → (x : ℕ → ℕ) → Range
+allowed C x = rangeSeen (twoEnds C) (seen C x) (ruleNamed C x)
 
 -- the residual of a position: in how many of all d bits its word is unlike the received word
 unfoldable pub residual : Code → (x : ℕ → ℕ) (position : ℕ) → ℕ
@@ -134,12 +149,12 @@ unfoldable pub nearestIn : (residual : ℕ → ℕ) → Range → ℕ
 nearestIn residual range = leastAt residual (range .low) (range .high - range .low)
 
 -- the allowed position whose word has fewest bits unlike the received word, the smallest on a tie; that count; and the rule
-unfoldable pub nearest : (residual : ℕ → ℕ) → Allowed → ReadAnswer
-nearest residual (fromTo range) =
+unfoldable pub nearest : (residual : ℕ → ℕ) (rule : ℕ) → Range → Reading
+nearest residual rule range =
     let position : ℕ = nearestIn residual range in
-    At (record { position = position; residual = residual position; rule = range .rule })
-nearest residual (refusedBy refusal) = Refused refusal
+    record { position = position; residual = residual position; rule = rule }
 
--- the reading of a received word, given as a bit function
+-- the reading of a received word, given as a bit function: refusals 9 to 12, or the nearest allowed position
 unfoldable pub reading : Code → (x : ℕ → ℕ) → ReadAnswer
-reading C x = nearest (residual C x) (allowed C x)
+reading C x =
+    unlessRefused (firstRefusal (rowsOf C x)) Refused (At (nearest (residual C x) (ruleNamed C x) (allowed C x)))

@@ -21,3 +21,7 @@ rowsBy refusal = row refusal (not (eqb refusal 0))
 unfoldable pub firstRefusal : List Row → ℕ
 firstRefusal [] = 0
 firstRefusal (r ∷ rows) = cond (r .holds) (r .number) (firstRefusal rows)
+
+-- what a call answers whose refusal has this number: what it serves where that is 0, and the refusal otherwise
+unfoldable pub unlessRefused : {A : Type 0} (refusal : ℕ) (refused : ℕ → A) (served : A) → A
+unlessRefused refusal refused served = cond (eqb refusal 0) served (refused refusal)

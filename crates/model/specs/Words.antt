@@ -3,7 +3,7 @@
 use mathlib.Core.List.{List}
 use Prim.Native.Nat.{ℕ, zero, suc, _+_, _-_, _*_, _%_}
 use lib.Dec.{leb}
-use Rattle.bits.specs.Sums.{joinAt, from}
+use Rattle.bits.specs.Sums.{joinAt, fromPlace}
 use Rattle.bits.specs.Walk.{walk}
 use Rattle.bits.specs.Places.{bit, pack}
 use Rattle.bits.specs.Searches.{greatest}
@@ -28,23 +28,23 @@ placesBefore D n (suc (suc c)) = placesBefore D n (suc c) + chunkSize D n (suc c
 
 -- chunk c of a word, from its first place on
 abbrev pub chunkOf : Code → (c : ℕ) (x : ℕ → ℕ) → ℕ → ℕ
-chunkOf C c = from (placesBefore (C .D) (C .n) c)
+chunkOf C c = fromPlace (placesBefore (C .D) (C .n) c)
 
 -- the chunks 0 to 4 by name (that they are these is the law `named-chunks`)
 abbrev pub separator₁ : Code → (ℕ → ℕ) → ℕ → ℕ
 separator₁ C x = x
 
 abbrev pub chunk₁ : Code → (ℕ → ℕ) → ℕ → ℕ
-chunk₁ C = from (C .D)
+chunk₁ C = fromPlace (C .D)
 
 abbrev pub separator₂ : Code → (ℕ → ℕ) → ℕ → ℕ
-separator₂ C = from (C .D + C .n)
+separator₂ C = fromPlace (C .D + C .n)
 
 abbrev pub chunk₂ : Code → (ℕ → ℕ) → ℕ → ℕ
-chunk₂ C = from (C .D + C .n + C .D)
+chunk₂ C = fromPlace (C .D + C .n + C .D)
 
 abbrev pub separator₃ : Code → (ℕ → ℕ) → ℕ → ℕ
-separator₃ C = from (C .D + C .n + C .D + C .n)
+separator₃ C = fromPlace (C .D + C .n + C .D + C .n)
 
 -- a word of five chunks: separator 1 (D bits), code chunk 1 (n), separator 2 (D), code chunk 2 (n), separator 3 (D)
 unfoldable pub fiveChunks : Code → (s₁ c₁ s₂ c₂ s₃ : ℕ → ℕ) → ℕ → ℕ

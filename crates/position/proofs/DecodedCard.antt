@@ -11,7 +11,7 @@ use Rattle.model.specs.Words.{wordBits}
 use Rattle.model.specs.Answers.{summaryOf, cardAnswer}
 use Rattle.model.specs.declared.CardAnswer.the-variants.{Sound, Refused}
 use Rattle.model.specs.declared.Decoded.{Decoded}
-use Rattle.chunk.specs.DecodedFrom.{DecodedFrom}
+use Rattle.linear_code.specs.DecodedFrom.{DecodedFrom}
 
 module _ (card : List ℕ) (decoded : Decoded) (from : DecodedFrom card decoded) where
   pub card-refused : (decoded .refusal ≡ 0 → ⊥) → Refused (decoded .refusal) ≡ cardAnswer card

@@ -8,7 +8,7 @@ use native.Mathlib.Nat.{le-dest, add-assoc}
 use native.Mathlib.Omega.{arith}
 use lib.Bits.{bitAnd, bitXor, and-mask, mask-lt}
 use lib.ListN.{getD}
-use Rattle.bits.specs.Sums.{from}
+use Rattle.bits.specs.Sums.{fromPlace}
 use Rattle.bits.specs.Places.{bit, place, cut}
 use Rattle.bits.proofs.Binary.{bit-high, bit-xor, bit-zero}
 use Rattle.bits.proofs.Numbers.{lt-or-le}
@@ -53,11 +53,11 @@ byte-gathered x p value byte q eight narrow so-far next k h =
         (lt-or-le (q + s) 8)
 
 -- of the places of w from `at` on p are gathered; the rest of the byte that holds the next one is gathered too
-pub places-gathered : (w : List ℕ) (at p value : ℕ) → getD w ((at + p) / 8) 0 < 2 ^ 8 → Gathered (from at (place w)) p value
-    → Gathered (from at (place w)) (p + (8 - (at + p) % 8))
+pub places-gathered : (w : List ℕ) (at p value : ℕ) → getD w ((at + p) / 8) 0 < 2 ^ 8 → Gathered (fromPlace at (place w)) p value
+    → Gathered (fromPlace at (place w)) (p + (8 - (at + p) % 8))
     (bitXor value (getD w ((at + p) / 8) 0 / 2 ^ ((at + p) % 8) * 2 ^ p % 2 ^ 64))
 places-gathered w at p value narrow so-far =
-    byte-gathered (from at (place w)) p value (getD w ((at + p) / 8) 0) ((at + p) % 8) (omega arith) narrow so-far
+    byte-gathered (fromPlace at (place w)) p value (getD w ((at + p) / 8) 0) ((at + p) % 8) (omega arith) narrow so-far
     (λ k h. rw (← (rest-of-byte w (at + p) k h)) (ap (place w) (add-assoc at p k)))
 
 -- cut to n bits, it is the first n bits of x

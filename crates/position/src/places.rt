@@ -4,7 +4,7 @@ ghost use mathlib.Core.Path.{_≡_};
 ghost use mathlib.Core.List.{List};
 ghost use Prim.Native.Nat.{ℕ, _+_, _-_, _*_, _/_, _%_, _^_, _≤_, _<_};
 ghost use lib.ListN.{getD};
-ghost use Rattle.bits.specs.Sums.{sumBelow, from};
+ghost use Rattle.bits.specs.Sums.{sumBelow, fromPlace};
 ghost use Rattle.bits.specs.Places.{bit, place};
 ghost use Rattle.model.specs.Reading.{majority};
 
@@ -55,7 +55,7 @@ pub fn bits_at(w: [u8; 40], at: u32, n: u32) -> u64
 // How many of the `len` bits from place `at` on are 1.
 pub fn ones_from(w: [u8; 40], at: u32, len: u32) -> u32
     requires { ⌜ (at + len ≤ 320) × (len ≤ 64) ⌝ }
-    ensures { λ r. ⌜ (r ≡ sumBelow (from at (place w)) len) × (r ≤ len) ⌝ }
+    ensures { λ r. ⌜ (r ≡ sumBelow (fromPlace at (place w)) len) × (r ≤ len) ⌝ }
 {
     u64::count_ones(bits_at(w, at, len))
 }
@@ -63,7 +63,7 @@ pub fn ones_from(w: [u8; 40], at: u32, len: u32) -> u32
 // What the separator of `distance` bits from place `at` on reads: 1 if more than half its bits are 1, else 0.
 pub fn separator_at(w: [u8; 40], at: u32, distance: u32) -> u32
     requires { ⌜ (at + distance ≤ 320) × (distance ≤ 64) ⌝ }
-    ensures { λ r. ⌜ r ≡ majority distance (from at (place w)) ⌝ }
+    ensures { λ r. ⌜ r ≡ majority distance (fromPlace at (place w)) ⌝ }
 {
     if distance < 2 * ones_from(w, at, distance) {
         1

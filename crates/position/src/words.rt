@@ -18,7 +18,7 @@ use super::hamming;
 use super::layout;
 use super::places;
 use super::splice;
-use chunk::codeword;
+use linear_code::codeword;
 use model::DecodedCode;
 
 // The lowest bits of a value moved up to bit q of a byte; what lies above the byte is left out.

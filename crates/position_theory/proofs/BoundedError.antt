@@ -12,7 +12,7 @@ use Rattle.bits.proofs.Places.{place-bit}
 use Rattle.model.specs.Card.{Code, radius}
 use Rattle.model.specs.Order.{lastCodeword, changedWeight, blockLength, start, lastPosition}
 use Rattle.model.specs.Words.{wordBits, chunkOf, word, wordAt, wordBytes}
-use Rattle.model.specs.Reading.{seen, ruleNamed, allowed, residual}
+use Rattle.model.specs.Reading.{seen, twoEnds, residual}
 use Rattle.model.specs.Answers.{readWord}
 use Rattle.model.specs.declared.ReadAnswer.{ReadAnswer}
 use Rattle.model.specs.declared.ReadAnswer.the-variants.{At, Refused}
@@ -22,10 +22,9 @@ use Rattle.position_theory.proofs.Words.{chunk-fits, five-distance}
 use Rattle.position_theory.proofs.Between.{WholeAt}
 use Rattle.position_theory.proofs.WordBytes.{place-of-word, read-if-whole}
 use Rattle.position_theory.proofs.Blocks.{next-codeword, on-the-way, word-in-block}
-use Rattle.position_theory.proofs.Allowed.{Allows}
+use Rattle.position_theory.proofs.TrueAllowed.{Allows, true-allowed}
 use Rattle.position_theory.proofs.Telling.{whole-tell}
 use Rattle.position_theory.proofs.TrueCases.{true-case}
-use Rattle.position_theory.proofs.TrueAllowed.{true-allowed}
 use Rattle.position_theory.proofs.Nearest.{answer-near}
 
 module _ (C : Code) where
@@ -46,8 +45,7 @@ module _ (C : Code) (promise : ChunkPromise C) where
   -- a word within the radius in every whole chunk allows the true position; of a divided chunk nothing is asked
   steps-allowed : (i m : ℕ) (u x : ℕ → ℕ) → i < lastCodeword C → m ≤ blockLength C i → ((p : ℕ) → x p < 2)
       → ((p : ℕ) → p < wordBits C → u p ≡ wordAt C (start C i + m) p)
-      → ((c : ℕ) → c < 5 → WholeAt C (changedWeight C i) m c → turnedIn C c u x ≤ radius C) → Allows (allowed C x) (start C i + m)
-  unfolding allowed ruleNamed
+      → ((c : ℕ) → c < 5 → WholeAt C (changedWeight C i) m c → turnedIn C c u x ≤ radius C) → Allows (twoEnds C) (seen C x) (start C i + m)
   steps-allowed i m u x inside room hx same within =
       let next = next-codeword C promise i inside in
       let walked : (p : ℕ) → p < wordBits C → u p ≡ walk (word C i) (word C (i + 1)) m p =
@@ -57,7 +55,7 @@ module _ (C : Code) (promise : ChunkPromise C) where
 
   -- so one within the radius in every chunk does
   position-allowed : (position : ℕ) (u x : ℕ → ℕ) → position ≤ lastPosition C → ((p : ℕ) → x p < 2)
-      → ((p : ℕ) → p < wordBits C → u p ≡ wordAt C position p) → ChunksWithin C (radius C) u x → Allows (allowed C x) position
+      → ((p : ℕ) → p < wordBits C → u p ≡ wordAt C position p) → ChunksWithin C (radius C) u x → Allows (twoEnds C) (seen C x) position
   unfolding ChunksWithin
   position-allowed position u x h hx same within =
       let way = on-the-way C promise position h in

@@ -8,10 +8,11 @@ use native.Mathlib.Omega.{arith}
 use borrow.Author.Tests.{eq-eqb}
 use Rattle.bits.specs.Places.{place, differingBits}
 use Rattle.bits.proofs.Distance.{distance-comm}
+use Rattle.model.specs.Refusals.{firstRefusal}
 use Rattle.model.specs.Card.{Code, cardRefusal, codeOf, SoundCard}
 use Rattle.model.specs.Order.{lastPosition}
 use Rattle.model.specs.Words.{wordBits, wordAt, wordBytes}
-use Rattle.model.specs.Answers.{readWord, readAnswer}
+use Rattle.model.specs.Answers.{readWord, readRefusal, readAnswer}
 use Rattle.code_theory.specs.Promise.{ChunkPromise}
 use Rattle.code_theory.proofs.SoundCard.{sound-card}
 use Rattle.code_theory.proofs.Promise.{promise}
@@ -50,7 +51,7 @@ no-other-positions-word card position sound h other h′ same =
 
 -- of a sound card, the public call's answer is that of the inner call, which is handed the card's code
 pub read-sound : (card received : List ℕ) → SoundCard card → readAnswer card received ≡ readWord (codeOf card) received
-unfolding readAnswer
+unfolding readAnswer readRefusal readWord firstRefusal
 read-sound card received sound = rw (eq-eqb (cardRefusal card) 0 sound)
 
 -- demand 2, reading

@@ -9,11 +9,11 @@ use native.Mathlib.Nat.{eq-zero-or-pos}
 use native.Mathlib.Omega.{arith}
 use lib.Dec.{ltb}
 use borrow.Author.Tests.{lt-ltb, le-ltb}
-use Rattle.bits.specs.Sums.{sumBelow, distance, from}
+use Rattle.bits.specs.Sums.{sumBelow, distance, fromPlace}
 use Rattle.bits.specs.Places.{bit}
 use Rattle.bits.specs.Walk.{walk}
 use Rattle.bits.proofs.Numbers.{by-test}
-use Rattle.bits.proofs.Sums.{sum-ext, from-zero}
+use Rattle.bits.proofs.Sums.{sum-ext, from-place-zero}
 use Rattle.bits.proofs.Distance.{distance-ext-left}
 use Rattle.model.specs.Card.{Code, radius}
 use Rattle.model.specs.Order.{codeword, lastCodeword}
@@ -92,8 +92,8 @@ module _ (C : Code) (promise : ChunkPromise C) {x : ℕ → ℕ} (hx : (p : ℕ)
       → Tells (seen C x) c j
   unfolding Tells seen chunkSize placesBefore content turnedIn
   chunk-tells u zero j b h same d =
-      ap (majority (C .D)) (sym (from-zero x))
-      ∙ separator-reads (C .D) (j % 2) (from 0 u) (from 0 x) (promise .D-pos) (omega arith) same (λ p. hx _) d
+      ap (majority (C .D)) (sym (from-place-zero x))
+      ∙ separator-reads (C .D) (j % 2) (fromPlace 0 u) (fromPlace 0 x) (promise .D-pos) (omega arith) same (λ p. hx _) d
   chunk-tells u (suc zero) j b h same d = code-reads C promise j _ _ h same d
   chunk-tells u (suc (suc zero)) j b h same d =
       separator-reads (C .D) (j % 2) _ _ (promise .D-pos) (omega arith) same (λ p. hx _) d

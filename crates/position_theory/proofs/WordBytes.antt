@@ -17,10 +17,11 @@ use Rattle.bits.proofs.Walk.{walk-bit}
 use Rattle.bits.proofs.Searches.{any-none, none-of-any}
 use Rattle.bits.proofs.Places.{place-bit, length-pack, place-packed, place-spare}
 use Rattle.bits.proofs.PackedDistance.{differing-below, packed-distance}
+use Rattle.model.specs.Refusals.{firstRefusal}
 use Rattle.model.specs.Card.{Code}
 use Rattle.model.specs.Words.{wordBits, blockOf, wordAt, wordBytes}
 use Rattle.model.specs.Reading.{residual, reading}
-use Rattle.model.specs.Answers.{wordLength, spareSet, readWord}
+use Rattle.model.specs.Answers.{wordLength, spareSet, rowsOfWord, readWord}
 use Rattle.position_theory.proofs.Words.{word-bit}
 
 pub word-at-bit : (C : Code) (position p : ℕ) → wordAt C position p < 2
@@ -52,8 +53,8 @@ differing-words C p q = packed-distance (wordBits C) (word-at-bit C p) (word-at-
 -- a word of the right length with spare bits zero is read
 pub read-if-whole : (C : Code) (received : List ℕ) → length received ≡ wordLength C → spareSet C received ≡ false
     → readWord C received ≡ reading C (place received)
-unfolding readWord
-read-if-whole C received h spare = simp (eq-eqb (length received) (wordLength C) h, spare)
+unfolding readWord rowsOfWord firstRefusal reading
+read-if-whole C received h spare = rw (eq-eqb (length received) (wordLength C) h, spare)
 
 -- a received word with spare bits zero
 module _ (C : Code) (received : List ℕ) (spare : spareSet C received ≡ false) where

@@ -6,7 +6,7 @@ use native.Mathlib.Nat.{zero-add, add-assoc, mod-lt}
 use native.Mathlib.Omega.{arith}
 use Rattle.bits.specs.Sums.{sumBelow, distance}
 use Rattle.bits.specs.Places.{bit}
-use Rattle.bits.proofs.Sums.{from-zero}
+use Rattle.bits.proofs.Sums.{from-place-zero}
 use Rattle.bits.proofs.Distance.{distance-split}
 use Rattle.bits.proofs.Joins.{join-left, join-right, join-bit}
 use Rattle.model.specs.Card.{Code}
@@ -90,7 +90,7 @@ pub named-chunks : (C : Code) (x : ℕ → ℕ)
     → (chunkOf C 0 x ≡ separator₁ C x) × (chunkOf C 1 x ≡ chunk₁ C x) × (chunkOf C 2 x ≡ separator₂ C x)
     × (chunkOf C 3 x ≡ chunk₂ C x) × (chunkOf C 4 x ≡ separator₃ C x)
 unfolding placesBefore chunkSize
-named-chunks C x = (from-zero x, refl, refl, refl, refl)
+named-chunks C x = (from-place-zero x, refl, refl, refl, refl)
 
 -- the chunks follow one another, and after the fifth the word ends
 pub chunk-ends : (D n c : ℕ) → placesBefore D n (suc c) ≡ placesBefore D n c + chunkSize D n c

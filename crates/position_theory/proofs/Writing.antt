@@ -10,7 +10,7 @@ use lib.Dec.{eqb, ltb}
 use lib.ListN.{length}
 use borrow.Author.Tests.{eq-eqb, ne-eqb, eqb-true, eqb-false, le-ltb, ltb-false}
 use Rattle.bits.proofs.Numbers.{eq-or-ne}
-use Rattle.model.specs.Refusals.{firstRefusal}
+use Rattle.model.specs.Refusals.{firstRefusal, unlessRefused}
 use Rattle.model.specs.Card.{cardRefusal, codeOf, SoundCard}
 use Rattle.model.specs.Order.{lastPosition}
 use Rattle.model.specs.Words.{wordBytes}
@@ -24,7 +24,7 @@ module _ (card : List ℕ) (position : ℕ) (lent : List ℕ) where
   refusal = writeRefusal card position lent
 
   pub written-if-servable : WrittenIfServable card position lent (writeAnswer card position lent)
-  unfolding WrittenIfServable writeAnswer writeRefusal firstRefusal
+  unfolding WrittenIfServable writeAnswer writeRefusal firstRefusal unlessRefused
   written-if-servable sound on-track whole =
       rw (
         eq-eqb (cardRefusal card) 0 sound,
@@ -33,7 +33,7 @@ module _ (card : List ℕ) (position : ℕ) (lent : List ℕ) where
       )
 
   pub unchanged-if-refused : UnchangedIfRefused lent (lentAfterWrite card position lent) (writeAnswer card position lent)
-  unfolding UnchangedIfRefused writeAnswer lentAfterWrite
+  unfolding UnchangedIfRefused writeAnswer lentAfterWrite unlessRefused
   unchanged-if-refused not-written =
       ⊎-elim (λ (e : refusal ≡ 0). absurd (not-written (rw (eq-eqb refusal 0 e))))
       (λ (ne : refusal ≡ 0 → ⊥). rw (ne-eqb refusal 0 ne))
@@ -41,7 +41,7 @@ module _ (card : List ℕ) (position : ℕ) (lent : List ℕ) where
 
   -- a write that answers Written had a sound card, a position on its track, and leaves the position's word
   none-refused : writeAnswer card position lent ≡ Written → refusal ≡ 0
-  unfolding writeAnswer
+  unfolding writeAnswer unlessRefused
   none-refused written =
       ⊎-elim (λ (e : refusal ≡ 0). e)
       (λ (ne : refusal ≡ 0 → ⊥).
@@ -66,6 +66,6 @@ module _ (card : List ℕ) (position : ℕ) (lent : List ℕ) where
   pub written-means : writeAnswer card position lent ≡ Written
       → SoundCard card × (position ≤ lastPosition (codeOf card))
       × (lentAfterWrite card position lent ≡ wordBytes (codeOf card) position)
-  unfolding lentAfterWrite
+  unfolding lentAfterWrite unlessRefused
   written-means written =
       let none = none-refused written in (served none .0, served none .1, rw (eq-eqb refusal 0 none))

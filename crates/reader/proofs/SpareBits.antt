@@ -9,7 +9,7 @@ use native.Mathlib.Omega.{arith}
 use lib.Dec.{eqb}
 use lib.ListN.{length, List·getD-eq-default}
 use borrow.Author.Tests.{eq-eqb, ne-eqb}
-use Rattle.bits.specs.Sums.{sumBelow, from}
+use Rattle.bits.specs.Sums.{sumBelow, fromPlace}
 use Rattle.bits.specs.Places.{place}
 use Rattle.bits.proofs.Numbers.{lt-or-le, eq-or-ne}
 use Rattle.bits.proofs.Sums.{summand-le, sum-zero}
@@ -27,13 +27,13 @@ past-end l p h =
     let past : length l ≤ p / 8 = omega arith in rw (List·getD-eq-default l 0 past, zero-div) refl
 
 module _ (C : Code) (received x : List ℕ) (same : (p : ℕ) → place x p ≡ place received p) where
-  spare-none : sumBelow (from (wordBits C) (place x)) (8 * wordLength C - wordBits C) ≡ 0 → spareSet C received ≡ false
+  spare-none : sumBelow (fromPlace (wordBits C) (place x)) (8 * wordLength C - wordBits C) ≡ 0 → spareSet C received ≡ false
   unfolding spareSet
   spare-none e =
       any-none _ _ (λ q b. ne-eqb (place received (wordBits C + q)) 1 (λ (one : place received (wordBits C + q) ≡ 1).
-      omega (arith, summand-le (from (wordBits C) (place x)) (8 * wordLength C - wordBits C) q b, same (wordBits C + q))))
+      omega (arith, summand-le (fromPlace (wordBits C) (place x)) (8 * wordLength C - wordBits C) q b, same (wordBits C + q))))
 
-  spare-some : (sumBelow (from (wordBits C) (place x)) (8 * wordLength C - wordBits C) ≡ 0 → ⊥) → spareSet C received ≡ true
+  spare-some : (sumBelow (fromPlace (wordBits C) (place x)) (8 * wordLength C - wordBits C) ≡ 0 → ⊥) → spareSet C received ≡ true
   spare-some ne = by-test (spareSet C received) refl
     where
       by-test : (t : Bool) → spareSet C received ≡ t → spareSet C received ≡ true
@@ -41,7 +41,7 @@ module _ (C : Code) (received x : List ℕ) (same : (p : ℕ) → place x p ≡ 
       by-test false e = absurd (ne (sum-zero _ (λ q b. same (wordBits C + q) ∙ spare-bits-zero C received e (wordBits C + q) (omega arith) (omega arith))))
 
   -- the test of a count of ones
-  pub spare-test : (ones : ℕ) → ones ≡ sumBelow (from (wordBits C) (place x)) (8 * wordLength C - wordBits C)
+  pub spare-test : (ones : ℕ) → ones ≡ sumBelow (fromPlace (wordBits C) (place x)) (8 * wordLength C - wordBits C)
       → not (eqb ones 0) ≡ spareSet C received
   spare-test ones is =
       ⊎-elim

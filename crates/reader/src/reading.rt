@@ -1,7 +1,7 @@
 // Reading a received word: the separators name a rule, the rule names code chunks, and these name the positions that it allows.
 ghost use mathlib.Core.Path.{_≡_};
 ghost use Prim.Native.Nat.{_+_, _≤_};
-ghost use Rattle.bits.specs.Sums.{from};
+ghost use Rattle.bits.specs.Sums.{fromPlace};
 ghost use Rattle.bits.specs.Places.{place};
 ghost use Rattle.model.specs.Answers.{readWord};
 ghost use Rattle.model.specs.Decoded.{meaning};
@@ -10,7 +10,7 @@ ghost use Rattle.model.specs.Reading.{chunkReading, seen, twoEnds, byChunk, byB
 ghost use Rattle.code_theory.specs.Promise.{Sound};
 ghost use Rattle.reader.specs.Received.{NothingSpare, answerBy, chunk₁Reads, chunk₂Reads};
 use super::nearest;
-use chunk::search;
+use linear_code::search;
 use model::Chunk;
 use model::DecodedCode;
 use model::ReadAnswer;
@@ -22,7 +22,7 @@ use position::words;
 // Code chunk 1, or 2, which starts at place `at`.
 fn chunk_reading(code: DecodedCode, x: [u8; 40], at: u32) -> Chunk
     requires { ⌜ Sound (meaning code) × (at + code .n ≤ wordBits (meaning code)) ⌝ }
-    ensures { λ r. ⌜ r ≡ chunkReading (meaning code) (from at (place x)) ⌝ }
+    ensures { λ r. ⌜ r ≡ chunkReading (meaning code) (fromPlace at (place x)) ⌝ }
 {
     search::read_chunk(code, places::bits_at(x, at, code.n))
 }

@@ -13,7 +13,7 @@ ghost use Rattle.model.specs.Decoded.{meaning};
 ghost use Rattle.code_theory.specs.Promise.{Sound};
 ghost use Rattle.report.specs.Report.{wordsReport, reportOf};
 ghost use Rattle.tramread.specs.Parts.{FromCard, LastPart};
-use chunk::decode;
+use linear_code::decode;
 use model::DecodedCode;
 use position::layout;
 use position::summary;

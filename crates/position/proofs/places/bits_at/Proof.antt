@@ -4,14 +4,14 @@
 use Prim.Native.Nat.{_+_, _-_, _≤_}
 use native.Mathlib.Omega.{arith}
 use borrow.Author.Needs.{needs}
-use Rattle.bits.specs.Sums.{from}
+use Rattle.bits.specs.Sums.{fromPlace}
 use Rattle.bits.specs.Places.{place}
 use Rattle.position.proofs.GatheredBits.{Gathered, none-gathered, places-gathered, gathered-cut}
 use Rattle.position.proofs.places.bits_at.Statement.{statement}
 use Rattle.position.proofs.places.bits_at.Tie as tie
 
 abbrev Inv-loop : tie.InvT-loop
-Inv-loop at n w value₀ p₀ value p = (p ≤ n + 8) × Gathered (from at (place w)) p value
+Inv-loop at n w value₀ p₀ value p = (p ≤ n + 8) × Gathered (fromPlace at (place w)) p value
 
 abbrev μ-loop : tie.MeasureT-loop
 μ-loop at n w value₀ p₀ value p = n - p

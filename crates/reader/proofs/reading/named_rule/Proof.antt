@@ -4,7 +4,7 @@ use mathlib.Core.Path.{_∙_, sym, ap}
 use native.Mathlib.Omega.{arith}
 use borrow.Author.Needs.{needs}
 use Rattle.bits.specs.Places.{place}
-use Rattle.bits.proofs.Sums.{from-zero}
+use Rattle.bits.proofs.Sums.{from-place-zero}
 use Rattle.model.specs.Decoded.{meaning}
 use Rattle.model.specs.Reading.{majority}
 use Rattle.position_theory.proofs.Separators.{SeparatorsRead, names-rule₁, names-rule₂, names-rule₃, names-none}
@@ -22,7 +22,7 @@ separators c =
     let first = second .before in
     let at = first .before .layout-of .ensures in
     record {
-      first = sym (first .separator-at .ensures ∙ ap (majority _) (from-zero _));
+      first = sym (first .separator-at .ensures ∙ ap (majority _) (from-place-zero _));
       second = sym (rw (at .separator₂-at) at (second .separator-at2 .ensures));
       third = sym (rw (at .separator₃-at) at (c .separator-at3 .ensures));
     }

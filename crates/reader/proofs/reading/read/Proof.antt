@@ -9,7 +9,7 @@ use borrow.Author.Needs.{needs}
 use borrow.Author.Tests.{ne-eqb}
 use lib.Dec.{eqb}
 use lib.ListN.{length}
-use Rattle.bits.specs.Sums.{sumBelow, from}
+use Rattle.bits.specs.Sums.{sumBelow, fromPlace}
 use Rattle.bits.specs.Places.{place}
 use Rattle.model.specs.Answers.{wordLength, spareSet, readWord}
 use Rattle.model.specs.Card.{Code}
@@ -35,7 +35,7 @@ rule c = c .named-rule .ensures .0 ∙ ap (ruleNamed _) (held (c .before .before
 spare-ones : (c : tie.After-ones-from)
     → let got = c .before .before .before in
     let C = meaning (got .before .before .before .before .args .code) in
-    c .ones-from .result ≡ sumBelow (from (wordBits C) (place (got .received .result))) (8 * wordLength C - wordBits C)
+    c .ones-from .result ≡ sumBelow (fromPlace (wordBits C) (place (got .received .result))) (8 * wordLength C - wordBits C)
 spare-ones c =
     let laid = c .before .before in
     let sized = laid .before .before .before in

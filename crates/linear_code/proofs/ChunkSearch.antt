@@ -1,0 +1,88 @@
+-- The search for a chunk's codeword: what holds as it stands at codeword i, that a codeword that is too far is passed, and
+-- what the two ways out of the search have found. The places in which codeword and chunk differ are the ones of their
+-- exclusive-or, and these are met one after the other. Assumes nothing.
+use mathlib.Core.Path.{_≡_, sym, ap, fun-ext, _∙_}
+use mathlib.Core.Logic.{⊎-elim}
+use Prim.Native.Nat.{ℕ, _+_, _-_, _^_, _≤_, _<_}
+use native.Mathlib.Omega.{arith}
+use lib.Bits.{bitAnd, bitXor}
+use lib.Count.{trailingZeros, ones}
+use Rattle.bits.specs.Places.{bit}
+use Rattle.bits.proofs.Binary.{ones-xor}
+use Rattle.bits.proofs.LowestOne.{one-fewer}
+use Rattle.bits.proofs.Numbers.{eq-or-ne}
+use Rattle.model.specs.Card.{Code, sumOfRows, radius}
+use Rattle.model.specs.Order.{gray, codeword}
+use Rattle.model.specs.Reading.{chunkDistance, readWithin, chunkReading}
+use Rattle.model.specs.declared.Chunk.the-variants.{Codeword, Unreadable}
+use Rattle.code_theory.specs.Promise.{Sound}
+use Rattle.code_theory.proofs.LeastDistance.{codeword-narrow}
+use Rattle.code_theory.proofs.ChunkReading.{reading-first, reading-passed}
+use Rattle.linear_code.proofs.GrayStep.{AtSet, set-start, set-next}
+
+-- ---- the bits of one codeword
+
+-- one bit more is met: those counted and those left are still all the ones of d
+pub one-counted : (d count rest : ℕ) → count + ones rest ≡ ones d → (rest ≡ 0 → ⊥)
+    → count + 1 + ones (bitAnd rest (rest - 1)) ≡ ones d
+one-counted d count rest all more = omega (arith, one-fewer rest (omega arith))
+
+-- what the count tells at its end: it is the whole count, or it is past t and so is the whole
+pub record Counted (t d count : ℕ) : Type 0 where
+  pub whole : count ≤ t → count ≡ ones d
+  pub past : t < count → t < ones d
+
+pub counted-all : (t d count rest : ℕ) → count + ones rest ≡ ones d → rest ≡ 0 → Counted t d count
+unfolding ones
+counted-all t d count rest all none =
+    let same : count ≡ ones d = omega (arith, ap ones none) in record { whole = λ l. same; past = λ l. omega arith }
+
+pub counted-past : (t d count rest : ℕ) → count + ones rest ≡ ones d → (rest ≡ 0 → ⊥) → t < count + 1 → Counted t d (count + 1)
+counted-past t d count rest all more far =
+    record { whole = λ l. absurd (omega arith); past = λ l. omega (arith, one-fewer rest (omega arith)) }
+
+-- ---- the codewords, by any count `far` of the places in which one is unlike the chunk
+
+-- the search stands at codeword i of last, which is in word, and the codewords before it lie farther than the limit
+pub record AtCandidate (k : ℕ) (row : ℕ → ℕ) (far : ℕ → ℕ) (limit last word i : ℕ) : Type 0 where
+  pub at : AtSet k row last word i
+  pub passed : (j : ℕ) → j < i → limit < far j
+
+module _ (k : ℕ) (row : ℕ → ℕ) (far : ℕ → ℕ) (limit : ℕ) where
+  pub search-starts : (two : ℕ) → two ≡ 2 ^ k → AtCandidate k row far limit (two - 1) 0 0
+  search-starts two e = record { at = set-start e; passed = λ j b. absurd (omega arith) }
+
+  module _ (last word i : ℕ) (stand : AtCandidate k row far limit last word i) where
+    -- with this codeword, too, farther than the limit
+    passed-too : limit < far i → (j : ℕ) → j < i + 1 → limit < far j
+    passed-too here j b = ⊎-elim (λ (e : j ≡ i). rw e here) (λ (ne : j ≡ i → ⊥). stand .passed j (omega arith)) (eq-or-ne j i)
+
+    pub search-goes-on : k ≤ 12 → (i ≡ last → ⊥) → limit < far i
+        → AtCandidate k row far limit last (bitXor word (row (trailingZeros 32 (i + 1)))) (i + 1)
+    search-goes-on twelve more here =
+        record { at = set-next twelve (stand .at) (omega (arith, stand .at .within)); passed = passed-too here }
+
+    pub search-found : (count : ℕ) → count ≡ far i → count ≤ limit → Codeword i count ≡ readWithin far limit (2 ^ k)
+    search-found count e close =
+        ap (Codeword i) e
+        ∙ sym (reading-first far limit (2 ^ k) i (omega (arith, stand .at .end, stand .at .within)) (stand .passed) (omega arith))
+
+    pub search-failed : i ≡ last → limit < far i → Unreadable ≡ readWithin far limit (2 ^ k)
+    search-failed done here =
+        sym (reading-passed far limit (2 ^ k) (λ j b. passed-too here j (omega (arith, stand .at .end))))
+
+-- ---- the count that this search goes by: the ones of codeword j and the chunk x, joined by exclusive-or
+abbrev pub unlikeBits : (k : ℕ) (row : ℕ → ℕ) (x j : ℕ) → ℕ
+unlikeBits k row x j = ones (bitXor (sumOfRows row k (gray j)) x)
+
+pub bits-of-word : {k last word i : ℕ} {row : ℕ → ℕ} (x : ℕ) → AtSet k row last word i → ones (bitXor word x) ≡ unlikeBits k row x i
+bits-of-word x at = ap (λ (w : ℕ). ones (bitXor w x)) (at .current)
+
+-- codeword and chunk are numbers of n places, so it counts the places in which they differ, and the search reads the chunk
+pub search-reads : (C : Code) → Sound C → (x : ℕ) → x < 2 ^ C .n → (t : ℕ) → t ≡ radius C
+    → readWithin (unlikeBits (C .k) (C .row) x) t (2 ^ C .k) ≡ chunkReading C (bit x)
+unfolding chunkReading chunkDistance codeword
+search-reads C sound x fits t is-radius =
+    rw is-radius
+    (ap (λ (far : ℕ → ℕ). readWithin far (radius C) (2 ^ C .k))
+    (fun-ext (λ j. ones-xor (C .n) (codeword C j) x (codeword-narrow C sound j) fits)))

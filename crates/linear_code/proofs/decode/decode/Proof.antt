@@ -1,0 +1,148 @@
+-- `linear_code::decode::decode` meets its contract: each test that fails is one of refusals 1 to 3, by its law, and past the three what was
+-- read of the card is said of its bytes: n, k, the rows, and their least weight where none is too wide. From these the two tests
+-- of the rows tell refusals 4 and 5 from a sound card, whose code they are. Assumes nothing.
+use mathlib.Core.Path.{_≡_, refl, sym, _∙_}
+use mathlib.Core.Bool.{true, false}
+use mathlib.Core.List.{List}
+use Prim.Native.Nat.{ℕ}
+use borrow.Author.Needs.{needs}
+use borrow.Author.Tests.{not-true, not-false}
+use native.Mathlib.Omega.{arith}
+use lib.ListN.{length}
+use Rattle.model.specs.Card.{lengthOf, rowCountOf, rowOf, storedCheck, computedCheck, withinLimits, misplaced}
+use Rattle.code_theory.proofs.SoundCard.{limits-of-test}
+use Rattle.linear_code.proofs.Decoding.{least, least-of-card, refusal-4, refusal-5, not-refused, code-of-least, refused-from, decoded-from}
+use Rattle.linear_code.proofs.Rows.{Narrow}
+use Rattle.linear_code.proofs.Refusals.{refusal-1, refusal-2, refusal-3, misplaced-of-card}
+use Rattle.linear_code.proofs.decode.decode.Statement.{statement}
+use Rattle.linear_code.proofs.decode.decode.Tie as tie
+
+-- the way back to the test before, and to the card's bytes, from past the second test and from past the third
+abbrev first-passed : tie.Else2 → tie.Else1
+first-passed c = c .before .before .before .before
+
+abbrev second-passed : tie.Else3 → tie.Else2
+second-passed c = c .before .before .before .before
+
+abbrev card₂ : tie.Else2 → List ℕ
+card₂ c = first-passed c .before .before .args .card .now
+
+abbrev card₃ : tie.Else3 → List ℕ
+card₃ c = card₂ (second-passed c)
+
+-- past the second test: 512 bytes, and the two checks are equal
+whole : (c : tie.Else2) → length (card₂ c) ≡ 512
+whole c = first-passed c .if1 .left
+
+checked : (c : tie.Else2) → storedCheck (card₂ c) ≡ computedCheck (card₂ c)
+checked c = sym (c .before .before .stored-check .ensures) ∙ c .if2 .left ∙ c .before .computed-check .ensures
+
+-- n and k, and what the third test asks of them
+is-n : (c : tie.After-within-limits) → c .before .before .byte-at .result ≡ lengthOf (card₂ (c .before .before .before))
+is-n c = c .before .before .byte-at .ensures .0
+
+is-k : (c : tie.After-within-limits) → c .before .byte-at2 .result ≡ rowCountOf (card₂ (c .before .before .before))
+is-k c = c .before .byte-at2 .ensures .0
+
+limits : (c : tie.After-within-limits)
+    → let b = card₂ (c .before .before .before) in c .within-limits .result ≡ withinLimits (lengthOf b) (rowCountOf b)
+limits c = rw (is-n c, is-k c) at (c .within-limits .ensures)
+
+-- past the third test
+within : (c : tie.Else3) → withinLimits (lengthOf (card₃ c)) (rowCountOf (card₃ c)) ≡ true
+within c = sym (limits (c .before)) ∙ not-false _ (c .if3 .left)
+
+-- past the third test: the fourth, and the least weight of the rows that the card has
+is-misplaced : (c : tie.After-has-misplaced) → c .has-misplaced .result ≡ misplaced (card₃ (c .before .before))
+is-misplaced c =
+    let limited = c .before .before .before in
+    let summed = limited .before .before .before .before in
+    misplaced-of-card _ _ _ _ _ _ (is-n limited) (is-k limited) (c .before .rows-of .ensures)
+    (summed .before .before .unused-byte-set .ensures) (c .has-misplaced .ensures)
+
+placed : (c : tie.Else4) → misplaced (card₃ (c .before .before .before)) ≡ false
+placed c = sym (is-misplaced (c .before)) ∙ c .if4 .left
+
+is-least : (c : tie.After-least-weight)
+    → let b = card₃ (c .before .before .before .before) in Narrow (lengthOf b) (rowCountOf b) (rowOf b) → c .least-weight .result ≡ least b
+is-least c =
+    let limited = c .before .before .before .before .before in
+    least-of-card _ _ _ _ _ (is-n limited) (is-k limited) (c .before .before .before .rows-of .ensures) (c .least-weight .ensures)
+
+returns : tie.Need-returns
+returns c = refused-from _ _ 1 (c .refused .ensures) (refusal-1 _ (c .before .if1 .taken)) (λ e. omega arith)
+
+returns-2 : tie.Need-returns-2
+returns-2 c =
+    let summed = c .before .before in
+    let first = summed .before .before .before in
+    refused-from _ _ 2 (c .refused2 .ensures)
+    (refusal-2 _ (first .if1 .left)
+    (λ e. c .before .if2 .taken (summed .before .stored-check .ensures ∙ e ∙ sym (summed .computed-check .ensures))))
+    (λ e. omega arith)
+
+returns-3 : tie.Need-returns-3
+returns-3 c =
+    let limited = c .before .before in
+    let second = limited .before .before .before in
+    let outside = sym (limits limited) ∙ not-true _ (c .before .if3 .taken) in
+    refused-from _ _ 3 (c .refused3 .ensures) (refusal-3 _ (whole second) (checked second) outside) (λ e. omega arith)
+
+returns-4 : tie.Need-returns-4
+returns-4 c =
+    let third = c .before .before .before .before in
+    let second = second-passed third in
+    let test = sym (is-misplaced (c .before .before)) ∙ c .before .if4 .taken in
+    refused-from _ _ 4 (c .refused4 .ensures) (refusal-4 _ (within third) (whole second) (checked second) test) (λ e. omega arith)
+
+least-weight-requires : tie.Need-least-weight-requires
+least-weight-requires c κs =
+    let limited = c .before .before .before .before in
+    let bounds = limits-of-test _ _ (within (c .before .before .before)) in
+    rw (is-n limited, is-k limited) (bounds .1, bounds .3)
+
+returns-5 : tie.Need-returns-5
+returns-5 c =
+    let weighed = c .before .before in
+    let third = weighed .before .before .before .before in
+    let second = second-passed third in
+    refused-from _ _ 5 (c .refused5 .ensures)
+    (refusal-5 _ (within third) (whole second) (checked second) (placed (weighed .before)) _ (is-least weighed) (c .before .if5 .taken))
+    (λ e. omega arith)
+
+returns-6 : tie.Need-returns-6
+returns-6 c =
+    let weighed = c .before .before in
+    let third = weighed .before .before .before .before in
+    let rows = weighed .before .before .before .rows-of in
+    let second = second-passed third in
+    let sound =
+    not-refused _ (within third) (whole second) (checked second) (placed (weighed .before)) _ (is-least weighed) (c .before .if5 .left) in
+    decoded-from _ _ sound refl (c .track-of .ensures)
+    (code-of-least _ sound _ _ _ (rows .result) (is-n (third .before)) (is-k (third .before)) (rows .ensures) (is-least weighed))
+
+pub decode-spec : {M : Type 1} → statement M
+decode-spec =
+    tie.close
+    (tie.spec
+    (λ c κs. search needs)
+    returns
+    (λ c κs. search needs)
+    (λ c κs. search needs)
+    (λ c κs. search needs)
+    (λ c κs. search needs)
+    returns-2
+    (λ c κs. search needs)
+    (λ c κs. search needs)
+    (λ c κs. search needs)
+    (λ c κs. search needs)
+    returns-3
+    (λ c κs. search needs)
+    (λ c κs. search needs)
+    (λ c κs. search needs)
+    returns-4
+    least-weight-requires
+    (λ c κs. search needs)
+    returns-5
+    (λ c κs. search needs)
+    returns-6)

@@ -1,0 +1,167 @@
+-- `read_chunk` meets its contract. The loop over codewords keeps what `AtCandidate` says, the loop over bits that the bits counted
+-- and those left are all that differ; both ways out of the bit loop tell whether the codeword lies within the radius. The status
+-- and the values are those of the reading. Assumes nothing.
+use mathlib.Core.Path.{_≡_, refl, _∙_}
+use mathlib.Core.Bool.{Bool, true, false, cond}
+use mathlib.Core.Logic.{⊎-elim}
+use Prim.Native.Nat.{ℕ, _+_, _-_, _^_, _≤_, _<_}
+use native.Mathlib.Omega.{arith}
+use borrow.Author.Needs.{needs}
+use lib.Bits.{bitXor, and-le-r}
+use lib.Count.{ones, trailingZeros}
+use lib.Dec.{ltb}
+use lib.ListN.{getD}
+use lib.Pow.{pow-pos}
+use Rattle.bits.specs.Places.{bit}
+use Rattle.model.specs.Answers.{chunkRefusal, chunkFigures}
+use Rattle.model.specs.Card.{Code, radius}
+use Rattle.model.specs.Decoded.{meaning}
+use Rattle.model.specs.Numbers.{ifServed, chunkStatus, chunkValues}
+use Rattle.model.specs.Reading.{chunkDistance, firstWithin, readWithin, chunkReading}
+use Rattle.model.specs.declared.Chunk.{Chunk}
+use Rattle.model.specs.declared.Chunk.the-variants.{Codeword, Unreadable}
+use Rattle.linear_code.proofs.GrayStep.{row-of-twelve}
+use Rattle.linear_code.proofs.ChunkSearch.{Counted, one-counted, counted-all, counted-past}
+use Rattle.linear_code.proofs.ChunkSearch.{AtCandidate, search-starts, search-goes-on, search-found, search-failed}
+use Rattle.linear_code.proofs.ChunkSearch.{unlikeBits, bits-of-word, search-reads}
+use Rattle.linear_code.proofs.search.read_chunk.Statement.{statement}
+use Rattle.linear_code.proofs.search.read_chunk.Tie as tie
+
+-- what the contract says of the status and the values of a chunk
+abbrev ChunkTold : (refusal : ℕ) (code : Code) (x : ℕ → ℕ) → Chunk → Type 0
+ChunkTold refusal code x read = (chunkStatus read ≡ refusal) × (chunkValues read ≡ ifServed (chunkStatus read) (chunkFigures code x))
+
+chunk-told : (code : Code) (x : ℕ → ℕ) → ChunkTold (chunkRefusal code x) code x (chunkReading code x)
+unfolding chunkReading readWithin chunkRefusal chunkFigures chunkStatus chunkValues ifServed
+chunk-told code x = by-within (ltb p (2 ^ code .k))
+  where
+    p : ℕ
+    p = firstWithin (chunkDistance code x) (radius code) (2 ^ code .k)
+
+    by-within : (t : Bool) → ChunkTold (cond t 0 10) code x (cond t (Codeword p (chunkDistance code x p)) Unreadable)
+    by-within true = (refl, refl)
+    by-within false = (refl, refl)
+
+-- and so of a chunk that is the reading
+meets : (code : Code) (x : ℕ → ℕ) (read : Chunk) → read ≡ chunkReading code x
+    → (read ≡ chunkReading code x) × ChunkTold (chunkRefusal code x) code x read
+meets code x read e = rw e (refl, chunk-told code x)
+
+abbrev Inv-bits : tie.InvT-bits
+Inv-bits x k rows radius last word i rest₀ unlike₀ rest unlike = (unlike ≤ radius) × (unlike + ones rest ≡ ones (bitXor word x))
+
+abbrev μ-bits : tie.MeasureT-bits
+μ-bits x k rows radius last word i rest₀ unlike₀ rest unlike = rest
+
+abbrev Inv-loop : tie.InvT-loop
+Inv-loop x k rows radius last word₀ i₀ word i =
+    let row : ℕ → ℕ = λ z. getD rows z 0 in AtCandidate k row (unlikeBits k row x) radius last word i
+
+abbrev μ-loop : tie.MeasureT-loop
+μ-loop x k rows radius last word₀ i₀ word i = last - i
+
+sub-last : tie.Need-sub-last Inv-bits μ-bits Inv-loop μ-loop
+sub-last c = omega (arith, c .two-to .ensures, pow-pos (c .before .before .before .args .code .k))
+
+loop-holds : tie.Need-loop-holds Inv-bits μ-bits Inv-loop μ-loop
+loop-holds c = search-starts _ _ _ _ _ (c .two-to .ensures)
+
+bits-holds : tie.Need-bits-holds Inv-bits μ-bits Inv-loop μ-loop
+bits-holds c = (omega arith, omega arith)
+
+bits-less : tie.Need-bits-less Inv-bits μ-bits Inv-loop μ-loop
+bits-less c = omega (arith, and-le-r (c .before .before .bits .rest) (c .before .before .bits .rest - 1))
+
+bits-again : tie.Need-bits-again Inv-bits μ-bits Inv-loop μ-loop
+bits-again c = (omega arith, one-counted _ _ _ (c .before .before .bits .inv .1) (c .before .bits-test .taken))
+
+-- the two ways out of the loop over bits
+counted : (c : tie.Left-bits Inv-bits μ-bits Inv-loop μ-loop)
+    → let at = c .before .before in
+    Counted (at .before .before .radius-of .result) (bitXor (at .loop .word) (at .before .before .before .before .args .x)) (c .bits-test .unlike)
+counted c =
+    let all = c .before .bits .inv .1 in
+    ⊎-elim (λ w. rw (w .1) (counted-all _ _ _ _ all (w .0 .left))) (λ w. rw (w .2) (counted-past _ _ _ _ all (w .0 .taken) (w .1 .taken)))
+    (c .bits-test .came)
+
+-- where the radius is passed, the codeword lies farther
+far : (c : tie.Left-bits Inv-bits μ-bits Inv-loop μ-loop)
+    → let at = c .before .before in
+    let first = at .before .before .before .before in
+    at .before .before .radius-of .result < c .bits-test .unlike
+    → at .before .before .radius-of .result
+    < unlikeBits (first .args .code .k) (λ z. getD (first .args .code .rows) z 0) (first .args .x) (at .loop .i)
+far c past =
+    let at = c .before .before in
+    let first = at .before .before .before .before in
+    rw (← bits-of-word (first .args .x) (at .loop .inv .at)) (counted c .past past)
+
+-- the number of the row that is added
+row : (c : tie.Else3 Inv-bits μ-bits Inv-loop μ-loop) → trailingZeros 32 (c .before .before .before .before .loop .i + 1) < 12
+row c =
+    let at = c .before .before .before .before in
+    let first = at .before .before .before .before in
+    row-of-twelve (first .pre .0 .k-high) (at .loop .inv .at) (omega (arith, at .loop .inv .at .within))
+
+cast-z : tie.Need-cast-z Inv-bits μ-bits Inv-loop μ-loop
+cast-z c = omega (arith, row c)
+
+mul-word : tie.Need-mul-word Inv-bits μ-bits Inv-loop μ-loop
+mul-word c = omega (arith, row c)
+
+array-read-word : tie.Need-array-read-word Inv-bits μ-bits Inv-loop μ-loop
+array-read-word c = row c
+
+loop-again : tie.Need-loop-again Inv-bits μ-bits Inv-loop μ-loop
+loop-again c =
+    let at = c .before .before .before .before in
+    let first = at .before .before .before .before in
+    search-goes-on _ _ _ _ _ _ _ (at .loop .inv) (first .pre .0 .k-high) (c .if3 .left) (far (c .before .before) (c .before .if2 .left))
+
+-- what the search for this chunk reads is the chunk's reading
+read : (c : tie.At-loop Inv-bits μ-bits Inv-loop μ-loop)
+    → let first = c .before .before .before .before in
+    let code = meaning (first .args .code) in
+    readWithin (unlikeBits (code .k) (code .row) (first .args .x)) (c .before .before .radius-of .result) (2 ^ code .k)
+    ≡ chunkReading code (bit (first .args .x))
+read c =
+    let first = c .before .before .before .before in
+    search-reads (meaning (first .args .code)) (first .pre .0) (first .args .x) (first .pre .1) _ (c .before .before .radius-of .ensures)
+
+returns : tie.Need-returns Inv-bits μ-bits Inv-loop μ-loop
+returns c =
+    let at = c .before .before .before in
+    let first = at .before .before .before .before in
+    let whole = counted (c .before) .whole (c .if2 .taken) ∙ bits-of-word (first .args .x) (at .loop .inv .at) in
+    meets _ _ _ (search-found _ _ _ _ _ _ _ (at .loop .inv) _ whole (c .if2 .taken) ∙ read at)
+
+returns-2 : tie.Need-returns-2 Inv-bits μ-bits Inv-loop μ-loop
+returns-2 c =
+    let at = c .before .before .before .before in
+    meets _ _ _ (search-failed _ _ _ _ _ _ _ (at .loop .inv) (c .if3 .taken) (far (c .before .before) (c .before .if2 .left)) ∙ read at)
+
+pub read-chunk-spec : {M : Type 1} → statement M
+read-chunk-spec =
+    tie.close
+    (tie.spec
+    Inv-bits
+    μ-bits
+    Inv-loop
+    μ-loop
+    (λ c κs. search needs)
+    (λ c κs. search needs)
+    sub-last
+    loop-holds
+    bits-holds
+    (λ c. search needs)
+    (λ c. search needs)
+    bits-less
+    bits-again
+    (λ c. search needs)
+    cast-z
+    mul-word
+    array-read-word
+    (λ c. search needs)
+    loop-again
+    returns
+    returns-2)

@@ -1,0 +1,61 @@
+// A card's bytes, checked and decoded.
+ghost use mathlib.Core.Path.{_≡_};
+ghost use Rattle.linear_code.specs.DecodedFrom.{DecodedFrom};
+use super::card;
+use super::least_weight;
+use model::Decoded;
+use model::DecodedCode;
+
+// What is handed back of a card that is refused: the number, and no code.
+fn refused(refusal: u32) -> Decoded
+    ensures { λ r. ⌜ r .refusal ≡ refusal ⌝ }
+{
+    Decoded {
+        refusal,
+        track: 0,
+        code: DecodedCode {
+            n: 0,
+            k: 0,
+            distance: 0,
+            rows: [0u64; 12],
+        },
+    }
+}
+
+// Refusals 1 to 5 of any bytes as a card, checked downwards, and the track and the code of a sound one. The rows are dependent
+// where a nonempty set of them has weight 0, so where their least weight is 0; that is known once every row lies within n bits.
+pub fn decode(card: &[u8]) -> Decoded
+    ensures { λ r. ⌜ DecodedFrom (now (card .entry)) r ⌝ }
+{
+    if card.len() != 512 {
+        return refused(1);
+    }
+    let unused_set = card::unused_byte_set(card);
+    if card::stored_check(card) != card::computed_check(card, unused_set) {
+        return refused(2);
+    }
+    let n = card::byte_at(card, 0);
+    let k = card::byte_at(card, 1);
+    if !card::within_limits(n, k) {
+        return refused(3);
+    }
+    let rows = card::rows_of(card);
+    if card::has_misplaced(n, k, rows, unused_set) {
+        return refused(4);
+    }
+    let distance = least_weight::least_weight(n, k, rows);
+    if distance == 0 {
+        return refused(5);
+    }
+    let track = card::track_of(card);
+    Decoded {
+        refusal: 0,
+        track,
+        code: DecodedCode {
+            n,
+            k,
+            distance,
+            rows,
+        },
+    }
+}
