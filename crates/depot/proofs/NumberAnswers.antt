@@ -3,7 +3,8 @@
 use mathlib.Core.Path.{_≡_, refl, sym, _∙_}
 use mathlib.Core.List.{List, [], _∷_}
 use Prim.Native.Nat.{ℕ, _≤_, _<_}
-use borrow.Author.Tests.{eq-eqb, ne-eqb, lt-ltb, le-ltb}
+use borrow.Author.Tests.{eq-eqb, lt-ltb, le-ltb}
+use Rattle.model.specs.Refusals.{firstRefusal, unlessRefused}
 use Rattle.model.specs.Card.{cardRefusal, codeOf, SoundCard}
 use Rattle.model.specs.Decoded.{meaning}
 use Rattle.model.specs.Order.{lastCodeword, lastPosition, start}
@@ -13,6 +14,7 @@ use Rattle.model.specs.Numbers.{numberStatus, numberValues}
 use Rattle.model.specs.declared.Decoded.{Decoded}
 use Rattle.model.specs.declared.NumberAnswer.{NumberAnswer}
 use Rattle.model.specs.declared.NumberAnswer.the-variants.{Number, Refused}
+use Rattle.code_theory.proofs.Refusals.{refused-by-card}
 use Rattle.linear_code.specs.DecodedFrom.{DecodedFrom}
 use Rattle.depot.proofs.Statuses.{Told, start-told, millimetres-told}
 
@@ -37,14 +39,16 @@ millimetres-meets card position answer e = rw e (refl, millimetres-told card pos
 -- a card that is refused
 module _ (card : List ℕ) (decoded : Decoded) (from : DecodedFrom card decoded) (refused : decoded .refusal ≡ 0 → ⊥) where
   pub start-refused : (block : ℕ) → StartMeets card block (Refused (decoded .refusal))
-  unfolding startAnswer
+  unfolding startAnswer startRefusal
   start-refused block =
-      start-meets card block (Refused (decoded .refusal)) (rw (← (from .refusal), ne-eqb (decoded .refusal) 0 refused))
+      start-meets card block (Refused (decoded .refusal))
+      (rw (← (from .refusal)) (sym (refused-by-card (decoded .refusal) _ _ _ refused)))
 
   pub millimetres-refused : (position : ℕ) → MillimetresMeets card position (Refused (decoded .refusal))
-  unfolding millimetresAnswer
+  unfolding millimetresAnswer millimetresRefusal
   millimetres-refused position =
-      millimetres-meets card position (Refused (decoded .refusal)) (rw (← (from .refusal), ne-eqb (decoded .refusal) 0 refused))
+      millimetres-meets card position (Refused (decoded .refusal))
+      (rw (← (from .refusal)) (sym (refused-by-card (decoded .refusal) _ _ _ refused)))
 
 -- a sound card
 module _ (card : List ℕ) (decoded : Decoded) (from : DecodedFrom card decoded) (sound : decoded .refusal ≡ 0) where
@@ -53,27 +57,27 @@ module _ (card : List ℕ) (decoded : Decoded) (from : DecodedFrom card decoded)
 
   pub start-above : (last block : ℕ) → last ≡ lastCodeword (meaning (decoded .code)) → last < block
       → StartMeets card block (Refused 7)
-  unfolding startAnswer
+  unfolding startAnswer startRefusal firstRefusal unlessRefused
   start-above last block is h =
       start-meets card block (Refused 7) (rw (eq-eqb (cardRefusal card) 0 is-sound, ← (from .code sound), ← is, lt-ltb last block h))
 
   pub start-within : (last block answer : ℕ) → last ≡ lastCodeword (meaning (decoded .code)) → block ≤ last
       → answer ≡ start (meaning (decoded .code)) block → StartMeets card block (Number answer)
-  unfolding startAnswer
+  unfolding startAnswer startRefusal firstRefusal unlessRefused
   start-within last block answer is h e =
       start-meets card block (Number answer)
       (rw (eq-eqb (cardRefusal card) 0 is-sound, ← (from .code sound), ← is, ← e, le-ltb last block h))
 
   pub millimetres-above : (last position : ℕ) → last ≡ lastPosition (meaning (decoded .code)) → last < position
       → MillimetresMeets card position (Refused 7)
-  unfolding millimetresAnswer
+  unfolding millimetresAnswer millimetresRefusal firstRefusal unlessRefused
   millimetres-above last position is h =
       millimetres-meets card position (Refused 7)
       (rw (eq-eqb (cardRefusal card) 0 is-sound, ← (from .code sound), ← is, lt-ltb last position h))
 
   pub millimetres-within : (last position : ℕ) → last ≡ lastPosition (meaning (decoded .code)) → position ≤ last
       → MillimetresMeets card position (Number (millimetresOf position))
-  unfolding millimetresAnswer
+  unfolding millimetresAnswer millimetresRefusal firstRefusal unlessRefused
   millimetres-within last position is h =
       millimetres-meets card position (Number (millimetresOf position))
       (rw (eq-eqb (cardRefusal card) 0 is-sound, ← (from .code sound), ← is, le-ltb last position h))

@@ -3,13 +3,13 @@
 use mathlib.Core.Path.{_≡_, refl, sym, _∙_}
 use mathlib.Core.List.{List}
 use Prim.Native.Nat.{ℕ}
-use borrow.Author.Tests.{ne-eqb}
 use Rattle.model.specs.Decoded.{meaning}
 use Rattle.model.specs.Answers.{readWord, readAnswer, readRefusal, readFigures}
 use Rattle.model.specs.Numbers.{ifServed, readStatus, readValues}
 use Rattle.model.specs.declared.Decoded.{Decoded}
 use Rattle.model.specs.declared.ReadAnswer.{ReadAnswer}
 use Rattle.model.specs.declared.ReadAnswer.the-variants.{Refused}
+use Rattle.code_theory.proofs.Refusals.{refused-by-card}
 use Rattle.position_theory.specs.Demands.{NearestOfAllowed, OffByAtMostTwiceTurned, OffByAtMostTurnedAndResidual}
 use Rattle.position_theory.proofs.Demands.{read-sound, nearest-of-allowed, off-by-at-most-twice-turned, off-by-at-most-turned-and-residual}
 use Rattle.linear_code.specs.DecodedFrom.{DecodedFrom}
@@ -44,8 +44,9 @@ module _ (card received : List ℕ) where
 
   module _ (decoded : Decoded) (from : DecodedFrom card decoded) where
     pub read-card-refused : (decoded .refusal ≡ 0 → ⊥) → ReadMeets (Refused (decoded .refusal))
-    unfolding readAnswer
-    read-card-refused ne = read-meets (Refused (decoded .refusal)) (rw (← (from .refusal), ne-eqb (decoded .refusal) 0 ne))
+    unfolding readAnswer readRefusal
+    read-card-refused ne =
+        read-meets (Refused (decoded .refusal)) (rw (← (from .refusal)) (sym (refused-by-card (decoded .refusal) _ _ _ ne)))
 
     pub word-read : decoded .refusal ≡ 0 → (answer : ReadAnswer) → answer ≡ readWord (meaning (decoded .code)) received → ReadMeets answer
     word-read sound answer e =

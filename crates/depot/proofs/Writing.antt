@@ -9,7 +9,7 @@ use borrow.Author.Tests.{eq-eqb, ne-eqb, lt-ltb, le-ltb}
 use native.Mathlib.Omega.{arith}
 use lib.Dec.{eqb, ltb}
 use lib.ListN.{length}
-use Rattle.model.specs.Refusals.{firstRefusal}
+use Rattle.model.specs.Refusals.{firstRefusal, unlessRefused}
 use Rattle.model.specs.Card.{codeOf}
 use Rattle.model.specs.Decoded.{meaning}
 use Rattle.model.specs.Order.{lastPosition}
@@ -23,7 +23,7 @@ use Rattle.position_theory.specs.Demands.{WrittenIfServable, UnchangedIfRefused
 use Rattle.position_theory.proofs.Demands.{neighbours-differ-in-one-bit, no-other-positions-word}
 use Rattle.position_theory.proofs.Writing.{written-if-servable, unchanged-if-refused, written-means}
 use Rattle.linear_code.specs.DecodedFrom.{DecodedFrom}
-use Rattle.depot.proofs.Statuses.{write-status, no-write-values}
+use Rattle.depot.proofs.Statuses.{write-told, no-write-values}
 
 module _ (card : List ℕ) (position : ℕ) (lent : List ℕ) where
   -- what the contract of the write says of its answer and of the lent word as the write leaves it
@@ -43,7 +43,7 @@ module _ (card : List ℕ) (position : ℕ) (lent : List ℕ) where
   write-meets answer left e f = (
     e,
     (
-      rw e (write-status card position lent),
+      rw e (write-told card position lent .0),
       (
         no-write-values answer,
         (
@@ -66,7 +66,7 @@ module _ (card : List ℕ) (position : ℕ) (lent : List ℕ) where
   )
 
   refused : (refusal : ℕ) → writeRefusal card position lent ≡ refusal → (refusal ≡ 0 → ⊥) → WriteMeets (Refused refusal) lent
-  unfolding writeAnswer lentAfterWrite
+  unfolding writeAnswer lentAfterWrite unlessRefused
   refused refusal e ne = write-meets (Refused refusal) lent (rw (e, ne-eqb refusal 0 ne)) (rw (e, ne-eqb refusal 0 ne))
 
   -- refusals 1 to 5
@@ -108,5 +108,5 @@ module _ {card : List ℕ} {decoded : Decoded} {size last : ℕ} (measured : Mea
       none = word-refusal ∙ rw (eq-eqb (length lent) size whole, le-ltb last position within)
 
       pub written : (left : List ℕ) → left ≡ wordBytes (meaning (decoded .code)) position → WriteMeets card position lent Written left
-      unfolding writeAnswer lentAfterWrite
+      unfolding writeAnswer lentAfterWrite unlessRefused
       written left e = write-meets card position lent Written left (rw none) (rw (none, ← is-code) e)

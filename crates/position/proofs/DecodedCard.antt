@@ -4,6 +4,7 @@ use mathlib.Core.Path.{_≡_, sym, _∙_}
 use mathlib.Core.List.{List}
 use Prim.Native.Nat.{ℕ}
 use borrow.Author.Tests.{eq-eqb, ne-eqb}
+use Rattle.model.specs.Refusals.{unlessRefused}
 use Rattle.model.specs.Card.{cardRefusal, radius}
 use Rattle.model.specs.Decoded.{meaning}
 use Rattle.model.specs.Order.{lastPosition}
@@ -15,7 +16,7 @@ use Rattle.linear_code.specs.DecodedFrom.{DecodedFrom}
 
 module _ (card : List ℕ) (decoded : Decoded) (from : DecodedFrom card decoded) where
   pub card-refused : (decoded .refusal ≡ 0 → ⊥) → Refused (decoded .refusal) ≡ cardAnswer card
-  unfolding cardAnswer
+  unfolding cardAnswer unlessRefused
   card-refused refused = rw (← (from .refusal), ne-eqb (decoded .refusal) 0 refused)
 
   pub card-sound : decoded .refusal ≡ 0
@@ -30,6 +31,6 @@ module _ (card : List ℕ) (decoded : Decoded) (from : DecodedFrom card decoded)
         bits = bits;
         last = last;
       }) ≡ cardAnswer card
-  unfolding cardAnswer summaryOf
+  unfolding cardAnswer unlessRefused summaryOf
   card-sound sound t bits last is-radius is-bits is-last =
       rw (eq-eqb (cardRefusal card) 0 (sym (from .refusal) ∙ sound), ← (from .code sound), ← (from .track sound), is-radius, is-bits, is-last)

@@ -5,15 +5,14 @@ use mathlib.Core.List.{List}
 use mathlib.Core.Logic.{⊎-elim}
 use Prim.Native.Nat.{ℕ, _+_, _≤_}
 use native.Mathlib.Omega.{arith}
-use borrow.Author.Tests.{eq-eqb}
 use Rattle.bits.specs.Places.{place, differingBits}
 use Rattle.bits.proofs.Distance.{distance-comm}
-use Rattle.model.specs.Refusals.{firstRefusal}
 use Rattle.model.specs.Card.{Code, cardRefusal, codeOf, SoundCard}
 use Rattle.model.specs.Order.{lastPosition}
 use Rattle.model.specs.Words.{wordBits, wordAt, wordBytes}
 use Rattle.model.specs.Answers.{readWord, readRefusal, readAnswer}
 use Rattle.code_theory.specs.Promise.{ChunkPromise}
+use Rattle.code_theory.proofs.Refusals.{past-card}
 use Rattle.code_theory.proofs.SoundCard.{sound-card}
 use Rattle.code_theory.proofs.Promise.{promise}
 use Rattle.position_theory.specs.Damage.{turned, residualOf}
@@ -51,8 +50,8 @@ no-other-positions-word card position sound h other h′ same =
 
 -- of a sound card, the public call's answer is that of the inner call, which is handed the card's code
 pub read-sound : (card received : List ℕ) → SoundCard card → readAnswer card received ≡ readWord (codeOf card) received
-unfolding readAnswer readRefusal readWord firstRefusal
-read-sound card received sound = rw (eq-eqb (cardRefusal card) 0 sound)
+unfolding readAnswer readRefusal readWord
+read-sound card received sound = past-card (cardRefusal card) _ _ _ sound
 
 -- demand 2, reading
 pub nearest-of-allowed : (card received : List ℕ) → NearestOfAllowed card received (readAnswer card received)

@@ -1,7 +1,7 @@
 pub mod Scanning
 pub mod Passing
-pub mod FirstPosition
+pub mod BlockResiduals
 pub mod RuleRanges
-pub mod ReadChunks
+pub mod RuleAnswers
 pub mod SpareBits
 pub mod ReadRefusals

@@ -1,105 +1,123 @@
--- A search passes the places of a block, whose two words are held in arrays. At the block's start it has passed none. At a place
--- where w(i) and w(i+1) are alike nothing changes; where they differ, it comes one position on, and the residual changes by that
--- place. Assumes nothing.
-use mathlib.Core.Path.{_≡_, refl, _∙_}
+-- A search passes the places of two words, held in arrays. At a place where they are alike nothing changes; where they differ, it
+-- comes one position on, and the residual changes by that place. Assumes nothing.
+use mathlib.Core.Path.{_≡_, refl, sym, _∙_}
 use mathlib.Core.List.{List}
+use mathlib.Core.Logic.{⊎-elim}
 use Prim.Native.Nat.{ℕ, _+_, _≤_, _<_}
 use native.Mathlib.Numerals.{add-one}
 use native.Mathlib.Omega.{arith}
-use Rattle.bits.specs.Sums.{sumBelow, distance, unlike}
+use borrow.Author.Tests.{lt-ltb, le-ltb}
+use Rattle.bits.specs.Sums.{distance, unlike}
 use Rattle.bits.specs.Places.{place}
-use Rattle.bits.proofs.Distance.{distance-suc}
-use Rattle.bits.proofs.Places.{place-bit, cut-below}
-use Rattle.model.specs.Card.{Code}
-use Rattle.model.specs.Order.{lastCodeword, start}
-use Rattle.model.specs.Words.{wordBits, word}
-use Rattle.model.specs.Reading.{residual}
-use Rattle.code_theory.specs.Promise.{Sound}
-use Rattle.code_theory.proofs.Promise.{promise}
-use Rattle.position_theory.proofs.Bounds.{position-bound}
-use Rattle.position_theory.proofs.Stepping.{steps-room, residual-step}
+use Rattle.bits.proofs.Numbers.{lt-or-le}
+use Rattle.bits.proofs.Distance.{distance-ext, distance-ext-left, distance-suc, distance-alike-after, distance-one-place}
+use Rattle.bits.proofs.Places.{place-bit}
+use Rattle.position.specs.Spliced.{Spliced}
 use Rattle.reader.specs.declared.scan.Scan.{Scan}
-use Rattle.position.specs.HoldsWord.{HoldsWord}
-use Rattle.reader.specs.Scanned.{Scanned}
-use Rattle.reader.specs.SearchReady.{BlockWords, PassedPlaces, Passes}
+use Rattle.reader.specs.Scanned.{Scanned, beginsAt}
+use Rattle.reader.specs.Passing.{stepsTo, passedTo, residualTo, ResidualsAlong, Passes, Searched}
+use Rattle.reader.proofs.Scanning.{scanned-first}
 
--- arrays that hold the words of a block
-pub block-words : (C : Code) (i : ℕ) (u v : List ℕ) → Sound C → i < lastCodeword C
-    → HoldsWord C (word C i) u → HoldsWord C (word C (i + 1)) v → BlockWords C i u v
-block-words C i u v sound inside hu hv =
-    record {
-      sound = sound;
-      inside = inside;
-      old = λ p b. hu p ∙ cut-below (wordBits C) (word C i) p b;
-      new = λ p b. hv p ∙ cut-below (wordBits C) (word C (i + 1)) p b;
-    }
-
--- where the places below q have been passed, the position fits
-pub passed-bound : (C : Code) → Sound C → (i : ℕ) → i < lastCodeword C → (q : ℕ) → q ≤ wordBits C
-    → start C i + distance q (word C i) (word C (i + 1)) ≤ 1310400
-passed-bound C sound i inside q room = position-bound C sound i _ inside (steps-room C (promise C sound) i inside q room)
-
--- a search that stands at the start of a block has passed none of its places
-pub passed-none : (C : Code) (i : ℕ) (x : List ℕ) (s : Scan) → s .position ≡ start C i → Scanned (residual C (place x)) s
-    → PassedPlaces C i x 0 s
-unfolding distance sumBelow
-passed-none C i x s e scanned = record { within = omega arith; position-is = e ∙ omega arith; scanned = scanned }
+-- a search that has passed no place more
+pub passes-none : (u v x : List ℕ) (at : ℕ) (s : Scan) → s .residual ≡ residualTo u v x at → Passes u v x at at s s
+passes-none u v x at s e = record { low = refl; position = refl; residual = e; scanned = λ f along scanned. scanned }
 
 -- bits that are not the same differ by 1
 differs : (u v : List ℕ) (q : ℕ) → (place u q ≡ place v q → ⊥) → unlike (place u q) (place v q) ≡ 1
 differs u v q differ = omega (arith, place-bit u q, place-bit v q)
 
-module _ (C : Code) (i : ℕ) (u v x : List ℕ) (words : BlockWords C i u v) (q : ℕ) (s : Scan)
-    (passed : PassedPlaces C i x q s) (room : q < wordBits C) where
-  one-more : distance (q + 1) (word C i) (word C (i + 1))
-      ≡ distance q (word C i) (word C (i + 1)) + unlike (place u q) (place v q)
-  one-more = rw (add-one q, words .old q room, words .new q room) (distance-suc q (word C i) (word C (i + 1)))
+module _ (u v : List ℕ) (q : ℕ) where
+  -- the word at place q, below it and from it on
+  pub passed-below : (p : ℕ) → p < q → passedTo u v q p ≡ place v p
+  unfolding passedTo
+  passed-below p b = rw (lt-ltb p q b)
 
-  pass-alike : place u q ≡ place v q → PassedPlaces C i x (q + 1) s
+  pub passed-above : (p : ℕ) → q ≤ p → passedTo u v q p ≡ place u p
+  unfolding passedTo
+  passed-above p b = rw (le-ltb p q b)
+
+  -- one place more
+  step-more : stepsTo u v (q + 1) ≡ stepsTo u v q + unlike (place u q) (place v q)
+  step-more = rw (add-one q) (distance-suc q (place u) (place v))
+
+residual-more : (u v x : List ℕ) (q : ℕ) → q < 320
+    → residualTo u v x (q + 1) + unlike (place u q) (place x q) ≡ residualTo u v x q + unlike (place v q) (place x q)
+residual-more u v x q room =
+    rw (← passed-above u v q q (omega arith), ← passed-below u v (q + 1) q (omega arith))
+    (distance-one-place (passedTo u v (q + 1)) (passedTo u v q) (place x) 320 q room elsewhere)
+  where
+    elsewhere : (p : ℕ) → p < 320 → (p ≡ q → ⊥) → passedTo u v (q + 1) p ≡ passedTo u v q p
+    elsewhere p b ne =
+        ⊎-elim
+        (λ (l : p < q). passed-below u v (q + 1) p (omega arith) ∙ sym (passed-below u v q p l))
+        (λ (l : q ≤ p). passed-above u v (q + 1) p (omega arith) ∙ sym (passed-above u v q p l))
+        (lt-or-le p q)
+
+module _ (u v x : List ℕ) (at q : ℕ) (s t : Scan) (from-at : at ≤ q) (room : q < 320) (so-far : Passes u v x at q s t) where
+  -- a place that is alike
+  pub pass-alike : place u q ≡ place v q → Passes u v x at (q + 1) s t
+  unfolding ResidualsAlong
   pass-alike e =
       let none : unlike (place u q) (place v q) ≡ 0 = rw e (omega arith) in
-      record { within = omega arith; position-is = passed .position-is ∙ omega (arith, one-more); scanned = passed .scanned }
+      let kept : residualTo u v x (q + 1) ≡ residualTo u v x q = omega (arith, rw e at (residual-more u v x q room)) in
+      record {
+        low = so-far .low;
+        position = omega (arith, so-far .position, step-more u v q);
+        residual = so-far .residual ∙ sym kept;
+        scanned = λ f along scanned. so-far .scanned f (λ q′ p l h. along q′ p l (omega arith)) scanned;
+      }
 
+  -- a place that differs
   module _ (differ : place u q ≡ place v q → ⊥) where
-    step : residual C (place x) (s .position + 1) + unlike (place u q) (place x q)
-        ≡ s .residual + unlike (place v q) (place x q)
-    step =
-        rw (passed .scanned .here, passed .position-is, words .old q room, words .new q room)
-        (residual-step C (promise C (words .sound)) i (words .inside) (place x) q _ room refl
-        (rw (← (words .old q room), ← (words .new q room)) (differs u v q differ)))
-
     -- a turn to what was received takes one from the residual
-    pub residual-positive : place x q ≡ place v q → 1 ≤ s .residual
+    pub residual-positive : place x q ≡ place v q → 1 ≤ t .residual
     residual-positive e =
         let alike : unlike (place v q) (place x q) ≡ 0 = rw e (omega arith) in
         let turned : unlike (place u q) (place x q) ≡ 1 = rw e (differs u v q differ) in
-        omega (arith, step)
+        omega (arith, so-far .residual, residual-more u v x q room)
 
-    next-residual-is : (r : ℕ) → r + unlike (place u q) (place x q) ≡ s .residual + unlike (place v q) (place x q)
-        → r ≡ residual C (place x) (s .position + 1)
-    next-residual-is r e = omega (arith, step)
+    -- `next` is the residual after the bit was turned to v's, and r the search one position on with that residual
+    pub pass-differing : (next : ℕ)
+        → ((old : ℕ) → old < 2 → unlike old (place v q) ≡ 1
+        → next + unlike old (place x q) ≡ t .residual + unlike (place v q) (place x q))
+        → (r : Scan) → r .low ≡ t .low → r .position ≡ t .position + 1 → r .residual ≡ next
+        → ((f : ℕ → ℕ) → Scanned f t → next ≡ f (t .position + 1) → Scanned f r) → Passes u v x at (q + 1) s r
+    unfolding ResidualsAlong
+    pass-differing next turned r low on residual scans =
+        let step : stepsTo u v (q + 1) ≡ stepsTo u v q + 1 = omega (arith, step-more u v q, differs u v q differ) in
+        let is-next : next ≡ residualTo u v x (q + 1) =
+        omega (arith, turned (place u q) (place-bit u q) (differs u v q differ), so-far .residual, residual-more u v x q room) in
+        record {
+          low = low ∙ so-far .low;
+          position = omega (arith, so-far .position);
+          residual = residual ∙ is-next;
+          scanned = λ f along scanned.
+              scans f (so-far .scanned f (λ q′ p l h. along q′ p l (omega arith)) scanned)
+              (is-next ∙ sym (along (q + 1) (t .position + 1) (omega arith) (omega arith) (omega (arith, so-far .position))));
+        }
 
-    pass-differing : (r : Scan) → r .position ≡ s .position + 1 → Scanned (residual C (place x)) r
-        → PassedPlaces C i x (q + 1) r
-    pass-differing r e scanned =
-        record { within = omega arith; position-is = e ∙ omega (arith, one-more, differs u v q differ); scanned = scanned }
+-- a word w put together of the two at a place: it is as unlike u as there are steps to it, and its residual is the one there
+module _ (u v w : List ℕ) (at : ℕ) (splice : Spliced u v w at) where
+  pub steps-counted : at ≤ 320 → distance 320 (place u) (place w) ≡ stepsTo u v at
+  steps-counted room =
+      distance-alike-after at 320 (place u) (place w) room (λ p past _. sym (splice p ∙ rw (le-ltb p at past)))
+      ∙ distance-ext at (λ p b. refl) (λ p b. splice p ∙ rw (lt-ltb p at b))
 
--- a search t that has passed the places below q, in whichever code and block u and v are words of, passes place q
-module _ (u v x : List ℕ) (at q : ℕ) (s t : Scan) (so-far : Passes u v x at q s t) where
-  pub passes-alike : place u q ≡ place v q → Passes u v x at (q + 1) s t
-  unfolding Passes
-  passes-alike e C i words start room =
-      pass-alike C i u v x words q t (so-far C i words start (omega arith)) (omega arith) e
+  pub residual-counted : (x : List ℕ) → distance 320 (place w) (place x) ≡ residualTo u v x at
+  unfolding passedTo
+  residual-counted x = distance-ext-left 320 (place x) (λ p b. splice p)
 
-  -- `next` is the residual after the bit was turned to v's, and r the search one position on with that residual
-  pub passes-differing : (place u q ≡ place v q → ⊥) → (next : ℕ)
-      → ((old : ℕ) → old < 2 → unlike old (place v q) ≡ 1
-      → next + unlike old (place x q) ≡ t .residual + unlike (place v q) (place x q))
-      → (r : Scan) → r .position ≡ t .position + 1
-      → ((f : ℕ → ℕ) → Scanned f t → next ≡ f (t .position + 1) → Scanned f r) → Passes u v x at (q + 1) s r
-  unfolding Passes
-  passes-differing differ next turned r on scans C i words start room =
-      let here = so-far C i words start (omega arith) in
-      let new-residual = turned (place u q) (place-bit u q) (differs u v q differ) in
-      let residual-is = next-residual-is C i u v x words q t here (omega arith) differ next new-residual in
-      pass-differing C i u v x words q t here (omega arith) differ r on (scans _ (here .scanned) residual-is)
+-- a search that begins where the places below `at` have been passed, and passes those below `to`
+pub searched : (u v x : List ℕ) (start at to : ℕ) → at ≤ to → (s r : Scan) → s ≡ beginsAt (start + stepsTo u v at) (residualTo u v x at)
+    → Passes u v x at to s r → Searched u v x start at to r
+unfolding ResidualsAlong
+searched u v x start at to forward s r begun passes =
+    let low : s .low ≡ start + stepsTo u v at = rw begun in
+    let position : s .position ≡ start + stepsTo u v at = rw begun in
+    record {
+      low = passes .low ∙ low;
+      position = omega (arith, passes .position);
+      scanned = λ f along.
+          passes .scanned f (rw position along)
+          (rw begun (scanned-first f (start + stepsTo u v at) (residualTo u v x at) (sym (along at _ (omega arith) forward refl))));
+    }

@@ -2,6 +2,7 @@
 -- below the least so far, and otherwise the nearest is what it was; and its answer where it has come to the last allowed one.
 -- Assumes nothing.
 use mathlib.Core.Path.{_≡_}
+use mathlib.Core.List.{List}
 use Prim.Native.Nat.{ℕ, _+_, _-_, _≤_, _<_}
 use native.Mathlib.Nat.{sub-self}
 use native.Mathlib.Omega.{arith}
@@ -9,13 +10,13 @@ use borrow.Author.Tests.{lt-ltb, le-ltb}
 use Rattle.bits.specs.Searches.{leastAt}
 use Rattle.bits.proofs.Searches.{leastAt-next}
 use Rattle.model.specs.Card.{Code}
-use Rattle.model.specs.Reading.{Range, fromTo, residual, nearestIn, nearest}
+use Rattle.model.specs.Reading.{Range, nearestIn, nearest}
 use Rattle.reader.specs.declared.scan.Scan.{Scan}
-use Rattle.reader.specs.Scanned.{Scanned, foundAt}
+use Rattle.reader.specs.Received.{nearestBy, ScannedIn}
+use Rattle.reader.specs.Scanned.{Scanned, beginsAt, foundAt}
 
 -- a search that stands at its first position
-pub scanned-first : (f : ℕ → ℕ) (low residual : ℕ) → residual ≡ f low
-    → Scanned f (record { low = low; position = low; residual = residual; best = low; least = residual })
+pub scanned-first : (f : ℕ → ℕ) (low residual : ℕ) → residual ≡ f low → Scanned f (beginsAt low residual)
 unfolding leastAt
 scanned-first f low residual e =
     record { begun = omega arith; here = e; nearest = rw (sub-self low); least = e }
@@ -48,7 +49,7 @@ module _ (f : ℕ → ℕ) (s : Scan) (scanned : Scanned f s) (residual : ℕ) (
       }
 
 -- the answer of a search that has come from low to high
-pub answer-of-search : (C : Code) (x : ℕ → ℕ) (range : Range) (s : Scan) → Scanned (residual C x) s → s .low ≡ range .low
-    → s .position ≡ range .high → foundAt s (range .rule) ≡ nearest (residual C x) (fromTo range)
+pub answer-of-search : (C : Code) (x : List ℕ) (rule : ℕ) (range : Range) (s : Scan) → ScannedIn C x s → s .low ≡ range .low
+    → s .position ≡ range .high → foundAt s rule ≡ nearestBy C x rule range
 unfolding foundAt nearest nearestIn
-answer-of-search C x range s scanned l h = rw (← l, ← h, ← (scanned .nearest), scanned .least)
+answer-of-search C x rule range s scanned l h = rw (← l, ← h, ← (scanned .nearest), scanned .least)

@@ -1,3 +1,3 @@
 pub mod Received
 pub mod Scanned
-pub mod SearchReady
+pub mod Passing

@@ -1,21 +1,31 @@
--- A received word in an array of forty bytes, and a search through it that begins. Assumes nothing.
+-- A received word in an array of forty bytes: what it is answered by a rule, and a search through a block for it.
+-- Assumes nothing.
 use mathlib.Core.Path.{_≡_}
 use mathlib.Core.List.{List}
-use Prim.Native.Nat.{ℕ, _≤_}
+use Prim.Native.Nat.{ℕ, _+_, _≤_, _<_}
+use Rattle.bits.specs.Sums.{distance}
 use Rattle.bits.specs.Places.{place}
+use Rattle.model.specs.Refusals.{firstRefusal, unlessRefused}
 use Rattle.model.specs.Card.{Code}
-use Rattle.model.specs.Words.{wordBits, wordAt}
-use Rattle.model.specs.Reading.{chunk₁, chunk₂, chunkReading, Allowed, residual, nearest}
+use Rattle.model.specs.Order.{lastCodeword, start}
+use Rattle.model.specs.Words.{wordBits, word}
+use Rattle.model.specs.Reading.{chunk₁, chunk₂, chunkReading, Seen, seen, Range, twoEnds, rowsSeen, rangeSeen, residual, nearest}
 use Rattle.model.specs.declared.Chunk.{Chunk}
 use Rattle.model.specs.declared.ReadAnswer.{ReadAnswer}
+use Rattle.model.specs.declared.ReadAnswer.the-variants.{At, Refused}
 use Rattle.code_theory.specs.Promise.{Sound}
 use Rattle.reader.specs.declared.scan.Scan.{Scan}
-use Rattle.position.specs.HoldsWord.{HoldsWord}
 use Rattle.reader.specs.Scanned.{Scanned}
 
--- the answer to the word in the array x, where so much is allowed: the nearest position, or the refusal
-abbrev pub answerBy : Code → (x : List ℕ) → Allowed → ReadAnswer
-answerBy C x allowed = nearest (residual C (place x)) allowed
+-- the nearest position to the word in x of those that the rule with this number allows
+abbrev pub nearestBy : Code → (x : List ℕ) (rule : ℕ) → Range → ReadAnswer
+nearestBy C x rule range = At (nearest (residual C (place x)) rule range)
+
+-- what the rule with this number answers: refusals 9 to 12, or the nearest position that it allows
+unfoldable pub answerBy : Code → (x : List ℕ) (rule : ℕ) → ReadAnswer
+answerBy C x rule =
+    let s : Seen = seen C (place x) in
+    unlessRefused (firstRefusal (rowsSeen (twoEnds C) s rule)) Refused (nearestBy C x rule (rangeSeen (twoEnds C) s rule))
 
 -- what its code chunks read as
 abbrev pub chunk₁Reads : Code → (x : List ℕ) → Chunk
@@ -32,7 +42,10 @@ NothingSpare C x = (p : ℕ) → wordBits C ≤ p → place x p ≡ 0
 abbrev pub ScannedIn : Code → (x : List ℕ) → Scan → Type 0
 ScannedIn C x s = Scanned (residual C (place x)) s
 
--- for every sound code of which the array w holds the word of position `low`, s is a search that stands there
-unfoldable pub Begun : (w x : List ℕ) (low : ℕ) (s : Scan) → Type 0
-Begun w x low s =
-    (C : Code) → Sound C → HoldsWord C (wordAt C low) w → NothingSpare C x → ScannedIn C x s
+-- places from `at` to `to` of block i, to be searched for the word in x
+abbrev pub PartOfBlock : Code → (x : List ℕ) (i at to : ℕ) → Type 0
+PartOfBlock C x i at to = Sound C × NothingSpare C x × (i < lastCodeword C) × (at ≤ to) × (to ≤ wordBits C)
+
+-- the position at which the places below q of block i have been passed
+abbrev pub positionAt : Code → (i q : ℕ) → ℕ
+positionAt C i q = start C i + distance q (word C i) (word C (i + 1))

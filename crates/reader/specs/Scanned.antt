@@ -13,6 +13,10 @@ pub record Scanned (f : ℕ → ℕ) (s : Scan) : Type 0 where
   pub nearest : s .best ≡ leastAt f (s .low) (s .position - s .low)
   pub least : s .least ≡ f (s .best)
 
+-- a search that stands at its first position
+abbrev pub beginsAt : (low residual : ℕ) → Scan
+beginsAt low residual = record { low = low; position = low; residual = residual; best = low; least = residual }
+
 -- the answer of a search that has come to the last position that a rule allows
 unfoldable pub foundAt : Scan → (rule : ℕ) → ReadAnswer
 foundAt s rule = At (record { position = s .best; residual = s .least; rule = rule })

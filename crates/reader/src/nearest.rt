@@ -1,54 +1,30 @@
 // The nearest of the positions that a rule allows: the search through the part of a block that the rule names.
 ghost use mathlib.Core.Path.{_≡_};
 ghost use Prim.Native.Nat.{_+_, _-_, _≤_, _<_};
-ghost use Rattle.bits.specs.Places.{place};
 ghost use Rattle.model.specs.Decoded.{meaning};
 ghost use Rattle.model.specs.Order.{lastCodeword, start};
-ghost use Rattle.model.specs.Reading.{range₁, range₂, range₃, fromTo};
+ghost use Rattle.model.specs.Reading.{range₁, range₂, range₃};
 ghost use Rattle.code_theory.specs.Promise.{Sound};
-ghost use Rattle.reader.specs.Received.{NothingSpare, Begun, ScannedIn, answerBy};
+ghost use Rattle.reader.specs.Received.{nearestBy, NothingSpare, ScannedIn, PartOfBlock, positionAt};
 ghost use Rattle.reader.specs.Scanned.{foundAt};
-ghost use Rattle.reader.specs.SearchReady.{PartOfBlock, PassedPlaces, positionAt};
 use super::scan;
 use super::scan::Scan;
 use model::DecodedCode;
 use model::ReadAnswer;
 use model::Reading;
 use position::blocks;
-use position::hamming;
 use position::layout;
-use position::splice;
 use position::words;
 
-// A search that stands at its first position, whose word is `w`.
-fn begin(w: [u8; 40], x: [u8; 40], low: u32) -> Scan
-    ensures { λ r. ⌜ (r .low ≡ low) × (r .position ≡ low) × Begun w x low r ⌝ }
-{
-    let residual = hamming::bits_unlike(w, x);
-    Scan {
-        low,
-        position: low,
-        residual,
-        best: low,
-        least: residual,
-    }
-}
-
 // The search through block i from the position at which the places below `at` have been passed to the one at which those
-// below `to` have. The first residual is counted, and each step changes it by one.
+// below `to` have.
 fn search_block(code: DecodedCode, x: [u8; 40], i: u32, at: u32, to: u32) -> Scan
     requires { ⌜ PartOfBlock (meaning code) x i at to ⌝ }
-    ensures { λ r. ⌜ (r .low ≡ positionAt (meaning code) i at) × PassedPlaces (meaning code) i x to r ⌝ }
+    ensures { λ r. ⌜ (r .low ≡ positionAt (meaning code) i at) × (r .position ≡ positionAt (meaning code) i to) × ScannedIn (meaning code) x r ⌝ }
 {
     let u = words::word_of(code, i);
     let v = words::word_of(code, i + 1);
-    let w = splice::spliced(u, v, at);
-    let first = begin(
-        w,
-        x,
-        blocks::block_start(code, i) + hamming::bits_unlike(u, w),
-    );
-    scan::pass_places(u, v, x, at, to, first)
+    scan::search_places(u, v, x, blocks::block_start(code, i), at, to)
 }
 
 // The answer of a search that has come to the last allowed position.
@@ -65,7 +41,7 @@ fn found(s: Scan, rule: u32) -> ReadAnswer
 // Rule 1, chunk 1 reading p: the nearest from r(p-1) + D + A(p-1), where separator 2 begins to change, to r(p).
 pub fn nearest_before(code: DecodedCode, x: [u8; 40], p: u32) -> ReadAnswer
     requires { ⌜ Sound (meaning code) × NothingSpare (meaning code) x × (1 ≤ p) × (p ≤ lastCodeword (meaning code)) ⌝ }
-    ensures { λ r. ⌜ r ≡ answerBy (meaning code) x (fromTo (range₁ (meaning code) p)) ⌝ }
+    ensures { λ r. ⌜ r ≡ nearestBy (meaning code) x 1 (range₁ (meaning code) p) ⌝ }
 {
     let at = layout::layout_of(code);
     found(search_block(code, x, p - 1, at.separator2, at.bits), 1)
@@ -74,7 +50,7 @@ pub fn nearest_before(code: DecodedCode, x: [u8; 40], p: u32) -> ReadAnswer
 // Rule 2, chunk 2 reading p: the nearest from r(p) to r(p) + 2D + A(p), where separator 2 has changed.
 pub fn nearest_after(code: DecodedCode, x: [u8; 40], p: u32) -> ReadAnswer
     requires { ⌜ Sound (meaning code) × NothingSpare (meaning code) x × (p < lastCodeword (meaning code)) ⌝ }
-    ensures { λ r. ⌜ r ≡ answerBy (meaning code) x (fromTo (range₂ (meaning code) p)) ⌝ }
+    ensures { λ r. ⌜ r ≡ nearestBy (meaning code) x 2 (range₂ (meaning code) p) ⌝ }
 {
     let at = layout::layout_of(code);
     found(search_block(code, x, p, 0, at.chunk2), 2)
@@ -86,7 +62,7 @@ fn search_before_start(code: DecodedCode, x: [u8; 40], p: u32) -> Scan
     ensures { λ r. ⌜ (r .low ≡ start (meaning code) p - code .distance) × (r .position ≡ start (meaning code) p) × ScannedIn (meaning code) x r ⌝ }
 {
     if p == 0 {
-        return begin(words::word_of(code, 0), x, 0);
+        return scan::begin(words::word_of(code, 0), x, 0);
     }
     let at = layout::layout_of(code);
     search_block(code, x, p - 1, at.separator3, at.bits)
@@ -94,7 +70,8 @@ fn search_before_start(code: DecodedCode, x: [u8; 40], p: u32) -> Scan
 
 // The search on from r(p), through D steps after it: separator 1 of block p changes.
 fn search_after_start(code: DecodedCode, x: [u8; 40], p: u32, s: Scan) -> Scan
-    requires { ⌜ Sound (meaning code) × (p < lastCodeword (meaning code)) × (s .position ≡ start (meaning code) p) × ScannedIn (meaning code) x s ⌝ }
+    requires { ⌜ Sound (meaning code) × NothingSpare (meaning code) x × (p < lastCodeword (meaning code)) ⌝ }
+    requires { ⌜ (s .position ≡ start (meaning code) p) × ScannedIn (meaning code) x s ⌝ }
     ensures { λ r. ⌜ (r .low ≡ s .low) × (r .position ≡ start (meaning code) p + code .distance) × ScannedIn (meaning code) x r ⌝ }
 {
     let u = words::word_of(code, p);
@@ -105,7 +82,7 @@ fn search_after_start(code: DecodedCode, x: [u8; 40], p: u32, s: Scan) -> Scan
 // Rule 3, both chunks reading p: the nearest from r(p) - D to r(p) + D, cut to the track.
 pub fn nearest_around(code: DecodedCode, x: [u8; 40], p: u32) -> ReadAnswer
     requires { ⌜ Sound (meaning code) × NothingSpare (meaning code) x × (p ≤ lastCodeword (meaning code)) ⌝ }
-    ensures { λ r. ⌜ r ≡ answerBy (meaning code) x (fromTo (range₃ (meaning code) p)) ⌝ }
+    ensures { λ r. ⌜ r ≡ nearestBy (meaning code) x 3 (range₃ (meaning code) p) ⌝ }
 {
     let before = search_before_start(code, x, p);
     if p == blocks::last_codeword(code) {

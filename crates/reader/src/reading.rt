@@ -6,9 +6,9 @@ ghost use Rattle.bits.specs.Places.{place};
 ghost use Rattle.model.specs.Answers.{readWord};
 ghost use Rattle.model.specs.Decoded.{meaning};
 ghost use Rattle.model.specs.Words.{wordBits};
-ghost use Rattle.model.specs.Reading.{chunkReading, seen, twoEnds, byChunk, byBoth, allowedBy, ruleNamed};
+ghost use Rattle.model.specs.Reading.{chunkReading, ruleNamed};
 ghost use Rattle.code_theory.specs.Promise.{Sound};
-ghost use Rattle.reader.specs.Received.{NothingSpare, answerBy, chunk₁Reads, chunk₂Reads};
+ghost use Rattle.reader.specs.Received.{NothingSpare, answerBy};
 use super::nearest;
 use linear_code::search;
 use model::Chunk;
@@ -30,7 +30,7 @@ fn chunk_reading(code: DecodedCode, x: [u8; 40], at: u32) -> Chunk
 // What rule 1 answers: it reads chunk 1.
 fn by_rule1(code: DecodedCode, x: [u8; 40]) -> ReadAnswer
     requires { ⌜ Sound (meaning code) × NothingSpare (meaning code) x ⌝ }
-    ensures { λ r. ⌜ r ≡ answerBy (meaning code) x (byChunk (twoEnds (meaning code) .rule₁) (chunk₁Reads (meaning code) x)) ⌝ }
+    ensures { λ r. ⌜ r ≡ answerBy (meaning code) x 1 ⌝ }
 {
     let at = layout::layout_of(code);
     match chunk_reading(code, x, at.chunk1) {
@@ -47,7 +47,7 @@ fn by_rule1(code: DecodedCode, x: [u8; 40]) -> ReadAnswer
 // What rule 2 answers: it reads chunk 2.
 fn by_rule2(code: DecodedCode, x: [u8; 40]) -> ReadAnswer
     requires { ⌜ Sound (meaning code) × NothingSpare (meaning code) x ⌝ }
-    ensures { λ r. ⌜ r ≡ answerBy (meaning code) x (byChunk (twoEnds (meaning code) .rule₂) (chunk₂Reads (meaning code) x)) ⌝ }
+    ensures { λ r. ⌜ r ≡ answerBy (meaning code) x 2 ⌝ }
 {
     let at = layout::layout_of(code);
     match chunk_reading(code, x, at.chunk2) {
@@ -64,7 +64,7 @@ fn by_rule2(code: DecodedCode, x: [u8; 40]) -> ReadAnswer
 // What rule 3 answers: it reads both chunks, which must read alike.
 fn by_rule3(code: DecodedCode, x: [u8; 40]) -> ReadAnswer
     requires { ⌜ Sound (meaning code) × NothingSpare (meaning code) x ⌝ }
-    ensures { λ r. ⌜ r ≡ answerBy (meaning code) x (byBoth (twoEnds (meaning code) .rule₃) (chunk₁Reads (meaning code) x) (chunk₂Reads (meaning code) x)) ⌝ }
+    ensures { λ r. ⌜ r ≡ answerBy (meaning code) x 3 ⌝ }
 {
     let at = layout::layout_of(code);
     let Chunk::Codeword {
@@ -90,7 +90,7 @@ fn by_rule3(code: DecodedCode, x: [u8; 40]) -> ReadAnswer
 // What the rule with this number answers.
 fn by_rule(code: DecodedCode, x: [u8; 40], rule: u32) -> ReadAnswer
     requires { ⌜ Sound (meaning code) × NothingSpare (meaning code) x × (1 ≤ rule) × (rule ≤ 3) ⌝ }
-    ensures { λ r. ⌜ r ≡ answerBy (meaning code) x (allowedBy (twoEnds (meaning code)) (seen (meaning code) (place x)) rule) ⌝ }
+    ensures { λ r. ⌜ r ≡ answerBy (meaning code) x rule ⌝ }
 {
     if rule == 1 {
         return by_rule1(code, x);

@@ -1,10 +1,14 @@
-// The search for the nearest position: positions are passed one after the other, the residual going up or down by one.
+// The search for the nearest position through the places of two words, the first of which is turned into the second: positions
+// are passed one after the other, the residual going up or down by one. It knows arrays and numbers alone, no code.
 ghost use mathlib.Core.Path.{_≡_};
 ghost use Prim.Native.Nat.{ℕ, _+_, _≤_, _<_};
-ghost use Rattle.bits.specs.Sums.{unlike};
-ghost use Rattle.reader.specs.Scanned.{Scanned};
-ghost use Rattle.reader.specs.SearchReady.{SearchReady, Passes};
+ghost use Rattle.bits.specs.Sums.{distance, unlike};
+ghost use Rattle.bits.specs.Places.{place};
+ghost use Rattle.reader.specs.Scanned.{Scanned, beginsAt};
+ghost use Rattle.reader.specs.Passing.{residualTo, Passes, Searched};
+use position::hamming;
 use position::places;
+use position::splice;
 
 // Where a search stands: the first position, the one that it has come to with its residual, and the nearest one met so far
 // with its residual.
@@ -14,6 +18,20 @@ pub struct Scan {
     pub residual: u32,
     pub best: u32,
     pub least: u32,
+}
+
+// A search that stands at its first position, whose word is `w`.
+pub fn begin(w: [u8; 40], x: [u8; 40], low: u32) -> Scan
+    ensures { λ r. ⌜ r ≡ beginsAt low (distance 320 (place w) (place x)) ⌝ }
+{
+    let unlike = hamming::bits_unlike(w, x);
+    Scan {
+        low,
+        position: low,
+        residual: unlike,
+        best: low,
+        least: unlike,
+    }
 }
 
 // The residual after a bit was turned to `new`: one less if that is what was received, one more if not. A word has at most 320
@@ -29,10 +47,10 @@ fn next_residual(residual: u32, new: u32, received: u32) -> u32
     }
 }
 
-// One position on, with its residual. No track is longer than 1,310,400 steps.
+// One position on, with its residual. No block starts above 1,310,400, and none has more than 320 steps.
 fn advance(s: Scan, residual: u32) -> Scan
-    requires { ⌜ s .position ≤ 1310400 ⌝ }
-    ensures { λ r. ⌜ (r .low ≡ s .low) × (r .position ≡ s .position + 1) ⌝ }
+    requires { ⌜ s .position ≤ 1311040 ⌝ }
+    ensures { λ r. ⌜ (r .low ≡ s .low) × (r .position ≡ s .position + 1) × (r .residual ≡ residual) ⌝ }
     ensures { λ r. ⌜ ((f : ℕ → ℕ) → Scanned f s → residual ≡ f (s .position + 1) → Scanned f r) ⌝ }
 {
     let position = s.position + 1;
@@ -55,11 +73,10 @@ fn advance(s: Scan, residual: u32) -> Scan
     }
 }
 
-// From place `at` to place `to` of block i, whose words w(i) and w(i+1) are u and v: each place in which they differ is one
-// position on.
+// From place `at` to place `to`: each place in which u and v differ is one position on.
 pub fn pass_places(u: [u8; 40], v: [u8; 40], x: [u8; 40], at: u32, to: u32, s: Scan) -> Scan
-    requires { ⌜ SearchReady u v x at to s ⌝ }
-    ensures { λ r. ⌜ (r .low ≡ s .low) × Passes u v x at to s r ⌝ }
+    requires { ⌜ (at ≤ to) × (to ≤ 320) × (s .position ≤ 1310720) × (s .residual ≡ residualTo u v x at) ⌝ }
+    ensures { λ r. ⌜ Passes u v x at to s r ⌝ }
 {
     let mut q = at;
     let mut state = s;
@@ -75,4 +92,15 @@ pub fn pass_places(u: [u8; 40], v: [u8; 40], x: [u8; 40], at: u32, to: u32, s: S
         q += 1;
     }
     state
+}
+
+// The search from the position at which the places below `at` have been passed to the one at which those below `to` have; u is
+// the word of position `start`. The first residual is counted, and each step changes it by one.
+pub fn search_places(u: [u8; 40], v: [u8; 40], x: [u8; 40], start: u32, at: u32, to: u32) -> Scan
+    requires { ⌜ (at ≤ to) × (to ≤ 320) × (start ≤ 1310400) ⌝ }
+    ensures { λ r. ⌜ Searched u v x start at to r ⌝ }
+{
+    let w = splice::spliced(u, v, at);
+    let first = begin(w, x, start + hamming::bits_unlike(u, w));
+    pass_places(u, v, x, at, to, first)
 }

@@ -6,14 +6,14 @@ use Rattle.bits.specs.Sums.{sumBelow, distance, joinAt}
 use Rattle.bits.specs.Walk.{walk}
 use Rattle.bits.specs.Places.{weight, place}
 use Rattle.bits.specs.Searches.{anyBelow, firstFrom, first, leastAt, greatest}
-use Rattle.model.specs.Refusals.{firstRefusal}
+use Rattle.model.specs.Refusals.{firstRefusal, unlessRefused}
 use Rattle.model.specs.Card.{highFirst, trackOf, rowOf, storedCheck, computedCheck, sumOfRows, leastWeight, codeOf}
 use Rattle.model.specs.Card.{withinLimits, rowTooWide, unusedRowSet, unusedByteSet, misplaced, dependent, cardRefusal}
 use Rattle.model.specs.Order.{gray, lastCodeword, codeword, changedRow, changedWeight, start, lastPosition}
 use Rattle.model.specs.Words.{fiveChunks, word, blockOf, wordAt}
-use Rattle.model.specs.Reading.{majority, chunkDistance, chunkReading, seen, ruleOf, ruleNamed, twoEnds, byChunk, byBoth}
-use Rattle.model.specs.Reading.{allowedBy, allowed, residual, nearestIn, nearest, reading}
-use Rattle.model.specs.Answers.{summaryOf, cardAnswer, spareSet, readWord}
+use Rattle.model.specs.Reading.{majority, chunkDistance, firstWithin, readWithin, chunkReading, unreadable, numberRead, seen}
+use Rattle.model.specs.Reading.{ruleOf, numberBy, twoEnds, rowsSeen, ruleNamed, rowsOf, allowed, residual, nearestIn, nearest}
+use Rattle.model.specs.Answers.{summaryOf, cardAnswer, spareSet, rowsOfWord, readWord}
 use Rattle.model.specs.Cases.{rowBytes, sealed, cardOf, cardB}
 use Rattle.report.specs.Text.{ascii, digitsWithin, decimal}
 use Rattle.report.specs.Lines.{cardLine, wordLine, shortLine, lastLine}
@@ -30,12 +30,12 @@ unfolding sumBelow distance joinAt
     weight place
     anyBelow firstFrom first leastAt greatest
     highFirst trackOf rowOf storedCheck computedCheck sumOfRows leastWeight codeOf
-    firstRefusal withinLimits rowTooWide unusedRowSet unusedByteSet misplaced dependent cardRefusal
+    firstRefusal unlessRefused withinLimits rowTooWide unusedRowSet unusedByteSet misplaced dependent cardRefusal
     gray lastCodeword codeword changedRow changedWeight start lastPosition
     fiveChunks word blockOf wordAt
-    majority chunkDistance chunkReading seen ruleOf ruleNamed twoEnds byChunk byBoth
-    allowedBy allowed residual nearestIn nearest reading
-    summaryOf cardAnswer spareSet readWord
+    majority chunkDistance firstWithin readWithin chunkReading unreadable numberRead seen
+    ruleOf numberBy twoEnds rowsSeen ruleNamed rowsOf allowed residual nearestIn nearest
+    summaryOf cardAnswer spareSet rowsOfWord readWord
     rowBytes sealed cardOf cardB
     ascii digitsWithin decimal
     cardLine wordLine shortLine lastLine

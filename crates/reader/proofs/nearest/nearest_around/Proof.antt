@@ -16,7 +16,7 @@ returns c =
     let C = meaning (first .args .code) in
     let search = c .before .before .before .search-before-start .ensures in
     c .found .ensures
-    ∙ answer-of-search C _ (range₃ C (first .args .p)) _ (search .2) (search .0)
+    ∙ answer-of-search C _ 3 (range₃ C (first .args .p)) _ (search .2) (search .0)
     (search .1 ∙ track-ends C (first .args .p) (c .before .if1 .taken ∙ c .before .before .last-codeword .ensures))
 
 returns-2 : tie.Need-returns-2
@@ -26,7 +26,7 @@ returns-2 c =
     let before = c .before .before .before .before .search-before-start .ensures in
     let search = c .before .search-after-start .ensures in
     c .found2 .ensures
-    ∙ answer-of-search C _ (range₃ C (first .args .p)) _ (search .2) (search .0 ∙ before .0)
+    ∙ answer-of-search C _ 3 (range₃ C (first .args .p)) _ (search .2) (search .0 ∙ before .0)
     (search .1 ∙ track-goes-on C (first .pre .0) (first .args .p) (omega arith))
 
 pub nearest-around-spec : {M : Type 1} → statement M

@@ -1,21 +1,30 @@
 -- `reader::nearest::nearest_before` meets its contract: block p - 1 from separator 2 to its end. Assumes nothing.
-use mathlib.Core.Path.{_∙_}
-use Prim.Native.Nat.{_-_}
-use Rattle.model.specs.Decoded.{meaning}
-use Rattle.reader.proofs.RuleRanges.{rule₁-answer}
+use mathlib.Core.Path.{_≡_, _∙_}
+use Prim.Native.Nat.{_+_, _-_, _<_}
 use native.Mathlib.Omega.{arith}
 use borrow.Author.Needs.{needs}
+use Rattle.model.specs.Decoded.{meaning}
+use Rattle.model.specs.Order.{lastCodeword}
+use Rattle.model.specs.Reading.{range₁}
+use Rattle.reader.proofs.RuleRanges.{at-separator₂, at-end}
+use Rattle.reader.proofs.Scanning.{answer-of-search}
 use Rattle.reader.proofs.nearest.nearest_before.Statement.{statement}
 use Rattle.reader.proofs.nearest.nearest_before.Tie as tie
 
 returns : tie.Need-returns
 returns c =
     let first = c .before .before .before in
+    let C = meaning (first .args .code) in
+    let (sound, spare, one, within) = first .pre in
     let at = c .before .before .layout-of .ensures in
-    let search = c .before .search-block .ensures in
+    let (low, position, scanned) = c .before .search-block .ensures in
+    let i = first .args .p - 1 in
+    let here : i + 1 ≡ first .args .p = omega arith in
+    let inside : i < lastCodeword C = omega arith in
     c .found .ensures
-    ∙ rule₁-answer (meaning (first .args .code)) (first .pre .0) (first .args .p - 1) (omega (arith, first .pre .2, first .pre .3)) _ _
-    _ _ (at .separator₂-at) (at .bits-are) (search .0) (search .1) (first .args .p) (omega (arith, first .pre .2))
+    ∙ answer-of-search C _ 1 (range₁ C (first .args .p)) _ scanned
+    (rw here at (rw (at .separator₂-at) at low ∙ at-separator₂ C sound i inside))
+    (rw here at (rw (at .bits-are) at position ∙ at-end C sound i inside))
 
 pub nearest-before-spec : {M : Type 1} → statement M
 nearest-before-spec =

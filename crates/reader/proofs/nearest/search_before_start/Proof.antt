@@ -2,40 +2,38 @@
 -- 3 of the block before. Assumes nothing.
 use mathlib.Core.Path.{_≡_, _∙_, sym}
 use Prim.Native.Nat.{_+_, _-_, _<_}
+use native.Mathlib.Omega.{arith}
+use borrow.Author.Needs.{needs}
 use Rattle.model.specs.Decoded.{meaning}
 use Rattle.model.specs.Order.{lastCodeword, start}
 use Rattle.code_theory.proofs.Starts.{start-zero}
-use Rattle.reader.proofs.FirstPosition.{first-word}
-use Rattle.reader.specs.Received.{Begun}
-use Rattle.reader.proofs.RuleRanges.{at-next-start, before-next-start}
-use native.Mathlib.Omega.{arith}
-use borrow.Author.Needs.{needs}
+use Rattle.reader.proofs.BlockResiduals.{first-word, count-is-residual}
+use Rattle.reader.proofs.RuleRanges.{at-separator₃, at-end}
+use Rattle.reader.proofs.Scanning.{scanned-first}
 use Rattle.reader.proofs.nearest.search_before_start.Statement.{statement}
 use Rattle.reader.proofs.nearest.search_before_start.Tie as tie
 
 returns : tie.Need-returns
-unfolding Begun
 returns c =
     let first = c .before .before .before in
     let C = meaning (first .args .code) in
-    let zero-start : start C (first .args .p) ≡ 0 = rw (c .before .before .if1 .taken) (start-zero C) in (
-      c .begin .ensures .0 ∙ omega arith,
-      c .begin .ensures .1 ∙ sym zero-start,
-      c .begin .ensures .2 C (first .pre .0) (first-word C (first .pre .0) _ (c .before .word-of .ensures)) (first .pre .1),
-    )
+    let zero-start : start C (first .args .p) ≡ 0 = rw (c .before .before .if1 .taken) (start-zero C) in
+    let counted = count-is-residual C (first .pre .0) _ (first .pre .1) _ 0 (first-word C (first .pre .0) _ (c .before .word-of .ensures)) in
+    rw (c .begin .ensures) (omega arith, sym zero-start, scanned-first _ 0 _ counted)
 
 returns-2 : tie.Need-returns-2
 returns-2 c =
     let first = c .before .before .before in
     let C = meaning (first .args .code) in
     let at = c .before .layout-of .ensures in
-    let search = c .search-block .ensures in
+    let (low, position, scanned) = c .search-block .ensures in
     let i = first .args .p - 1 in
     let here : first .args .p ≡ i + 1 = omega (arith, c .before .before .if1 .left) in
-    let inside : i < lastCodeword C = omega (arith, c .before .before .if1 .left, first .pre .2) in
-    let low = before-next-start C (first .pre .0) i inside _ (rw (at .separator₃-at) at (search .0)) in
-    let end = at-next-start C (first .pre .0) i inside (first .args .x) (c .search-block .result) (rw (at .bits-are) at (search .1)) in
-    (rw (← here) at low, rw (← here) at end, search .1 .scanned)
+    let inside : i < lastCodeword C = omega (arith, c .before .before .if1 .left, first .pre .2) in (
+      rw (← here) at (rw (at .separator₃-at) at low ∙ at-separator₃ C (first .pre .0) i inside),
+      rw (← here) at (rw (at .bits-are) at position ∙ at-end C (first .pre .0) i inside),
+      scanned,
+    )
 
 pub search-before-start-spec : {M : Type 1} → statement M
 search-before-start-spec =

@@ -2,20 +2,16 @@
 use mathlib.Core.Path.{_≡_}
 use native.Mathlib.Omega.{arith}
 use borrow.Author.Needs.{needs}
-use Rattle.model.specs.Reading.{seen, allowedBy}
 use Rattle.reader.proofs.reading.by_rule.Statement.{statement}
 use Rattle.reader.proofs.reading.by_rule.Tie as tie
 
 returns : tie.Need-returns
-unfolding allowedBy seen
 returns c = rw (c .before .if1 .taken) (c .by-rule1 .ensures)
 
 returns-2 : tie.Need-returns-2
-unfolding allowedBy seen
 returns-2 c = rw (c .before .if2 .taken) (c .by-rule2 .ensures)
 
 returns-3 : tie.Need-returns-3
-unfolding allowedBy seen
 returns-3 c =
     let third : c .before .before .before .args .rule ≡ 3 = omega (arith, c .before .if2 .left, c .before .before .if1 .left) in
     rw third (c .by-rule3 .ensures)

@@ -1,16 +1,15 @@
--- `reader::reading::by_rule1` meets its contract: each way out is a case of `byChunk`, by what chunk 1 reads as. Where it
+-- `reader::reading::by_rule1` meets its contract: each way out is a law of what rule 1 answers, by what chunk 1 reads as. Where it
 -- reads as a codeword other than the first, its number is within the code, by the chunk promise, so there is a block before it
 -- to search. Assumes nothing.
 use mathlib.Core.Path.{_≡_, _∙_, sym}
-use borrow.Author.Tests.{eq-eqb, ne-eqb}
 use Rattle.bits.specs.Places.{place}
 use Rattle.model.specs.Decoded.{meaning}
-use Rattle.model.specs.Reading.{chunkReading, chunk₁, twoEnds, byChunk, nearest}
 use Rattle.model.specs.declared.Chunk.the-variants.{Codeword}
 use Rattle.code_theory.proofs.Promise.{promise}
 use native.Mathlib.Omega.{arith}
 use borrow.Author.Needs.{needs}
-use Rattle.reader.proofs.ReadChunks.{read-from}
+use Rattle.reader.specs.Received.{chunk₁Reads}
+use Rattle.reader.proofs.RuleAnswers.{read-from, rule₁-unreadable, rule₁-no-block, rule₁-answers}
 use Rattle.reader.proofs.reading.by_rule1.Statement.{statement}
 use Rattle.reader.proofs.reading.by_rule1.Tie as tie
 
@@ -18,7 +17,7 @@ use Rattle.reader.proofs.reading.by_rule1.Tie as tie
 chunk-read : (c : tie.After-chunk-reading)
     → let first = c .before .before in
     let C = meaning (first .args .code) in
-    c .chunk-reading .result ≡ chunkReading C (chunk₁ C (place (first .args .x)))
+    c .chunk-reading .result ≡ chunk₁Reads C (first .args .x)
 chunk-read c = c .chunk-reading .ensures ∙ read-from _ (place (c .before .before .args .x)) _ _ (c .before .layout-of .ensures .chunk₁-at)
 
 -- where it is a codeword: the codeword's number and in how many places the two differ
@@ -26,12 +25,11 @@ codeword-read : (c : tie.After-number)
     → let first = c .before .before .before .before in
     let C = meaning (first .args .code) in
     let read = c .number .given .0 in
-    chunkReading C (chunk₁ C (place (first .args .x))) ≡ Codeword (read .0) (read .1 .0)
+    chunk₁Reads C (first .args .x) ≡ Codeword (read .0) (read .1 .0)
 codeword-read c = sym (chunk-read (c .before .before)) ∙ c .number .given .1
 
 returns : tie.Need-returns
-unfolding nearest twoEnds byChunk
-returns c = rw (codeword-read (c .before .before), eq-eqb _ 0 (c .if1 .taken))
+returns c = rule₁-no-block _ _ _ _ (codeword-read (c .before .before)) (c .if1 .taken)
 
 nearest-before-requires : tie.Need-nearest-before-requires
 nearest-before-requires c κs =
@@ -41,12 +39,10 @@ nearest-before-requires c κs =
     (first .pre .0, first .pre .1, omega (arith, c .if1 .left), bound)
 
 returns-2 : tie.Need-returns-2
-unfolding nearest twoEnds byChunk
-returns-2 c = rw (codeword-read (c .before .before .before), ne-eqb _ 0 (c .before .if1 .left)) (c .nearest-before .ensures)
+returns-2 c = c .nearest-before .ensures ∙ rule₁-answers _ _ _ _ (codeword-read (c .before .before .before)) (c .before .if1 .left)
 
 returns-3 : tie.Need-returns-3
-unfolding nearest twoEnds byChunk
-returns-3 c = rw (sym (chunk-read (c .before .before)) ∙ c .enum-told .given .1)
+returns-3 c = rule₁-unreadable _ _ (sym (chunk-read (c .before .before)) ∙ c .enum-told .given .1)
 
 pub by-rule1-spec : {M : Type 1} → statement M
 by-rule1-spec =

@@ -1,15 +1,14 @@
--- `reader::reading::by_rule3` meets its contract: each way out is a case of `byBoth`, by what the two chunks read as. Where
+-- `reader::reading::by_rule3` meets its contract: each way out is a law of what rule 3 answers, by what the two chunks read as. Where
 -- both read as one codeword, its number is within the code, by the chunk promise, so there is a start to search around.
 -- Assumes nothing.
 use mathlib.Core.Path.{_≡_, _∙_, sym}
-use borrow.Author.Tests.{eq-eqb, ne-eqb}
 use Rattle.bits.specs.Places.{place}
 use Rattle.model.specs.Decoded.{meaning}
-use Rattle.model.specs.Reading.{chunkReading, chunk₁, chunk₂, twoEnds, byBoth, nearest}
 use Rattle.model.specs.declared.Chunk.the-variants.{Codeword}
 use Rattle.code_theory.proofs.Promise.{promise}
 use borrow.Author.Needs.{needs}
-use Rattle.reader.proofs.ReadChunks.{read-from, unreadable-first}
+use Rattle.reader.specs.Received.{chunk₁Reads, chunk₂Reads}
+use Rattle.reader.proofs.RuleAnswers.{read-from, rule₃-unreadable, rule₃-second-unreadable, rule₃-unlike, rule₃-answers}
 use Rattle.reader.proofs.reading.by_rule3.Statement.{statement}
 use Rattle.reader.proofs.reading.by_rule3.Tie as tie
 
@@ -17,21 +16,21 @@ use Rattle.reader.proofs.reading.by_rule3.Tie as tie
 chunk-read₁ : (c : tie.After-chunk-reading)
     → let start = c .before .before in
     let C = meaning (start .args .code) in
-    c .chunk-reading .result ≡ chunkReading C (chunk₁ C (place (start .args .x)))
+    c .chunk-reading .result ≡ chunk₁Reads C (start .args .x)
 chunk-read₁ c = c .chunk-reading .ensures ∙ read-from _ (place (c .before .before .args .x)) _ _ (c .before .layout-of .ensures .chunk₁-at)
 
 codeword-read₁ : (c : tie.After-first)
     → let start = c .before .before .before .before in
     let C = meaning (start .args .code) in
     let read = c .first .given .0 in
-    chunkReading C (chunk₁ C (place (start .args .x))) ≡ Codeword (read .0) (read .1 .0)
+    chunk₁Reads C (start .args .x) ≡ Codeword (read .0) (read .1 .0)
 codeword-read₁ c = sym (chunk-read₁ (c .before .before)) ∙ c .first .given .1
 
 -- the same of chunk 2
 chunk-read₂ : (c : tie.After-chunk-reading2)
     → let start = c .before .before .before .before .before .before in
     let C = meaning (start .args .code) in
-    c .chunk-reading2 .result ≡ chunkReading C (chunk₂ C (place (start .args .x)))
+    c .chunk-reading2 .result ≡ chunk₂Reads C (start .args .x)
 chunk-read₂ c =
     let at-layout = c .before .before .before .before .before in
     c .chunk-reading2 .ensures ∙ read-from _ (place (at-layout .before .args .x)) _ _ (at-layout .layout-of .ensures .chunk₂-at)
@@ -40,24 +39,21 @@ codeword-read₂ : (c : tie.After-second)
     → let start = c .before .before .before .before .before .before .before .before in
     let C = meaning (start .args .code) in
     let read = c .second .given .0 in
-    chunkReading C (chunk₂ C (place (start .args .x))) ≡ Codeword (read .0) (read .1 .0)
+    chunk₂Reads C (start .args .x) ≡ Codeword (read .0) (read .1 .0)
 codeword-read₂ c = sym (chunk-read₂ (c .before .before)) ∙ c .second .given .1
 
 returns : tie.Need-returns
-returns c = rw (sym (chunk-read₁ (c .before .before)) ∙ c .enum-told .given .1) (unreadable-first _ _ _)
+returns c = rule₃-unreadable _ _ (sym (chunk-read₁ (c .before .before)) ∙ c .enum-told .given .1)
 
 returns-2 : tie.Need-returns-2
-unfolding nearest twoEnds byBoth
 returns-2 c =
     let read₂ = c .before .before in
-    rw (codeword-read₁ (read₂ .before .before), sym (chunk-read₂ read₂) ∙ c .enum-told2 .given .1)
+    rule₃-second-unreadable _ _ _ _ (codeword-read₁ (read₂ .before .before)) (sym (chunk-read₂ read₂) ∙ c .enum-told2 .given .1)
 
 returns-3 : tie.Need-returns-3
-unfolding nearest twoEnds byBoth
 returns-3 c =
     let known₂ = c .before .before in
-    let known₁ = known₂ .before .before .before .before in
-    rw (codeword-read₁ known₁, codeword-read₂ known₂, ne-eqb _ _ (c .if1 .taken))
+    rule₃-unlike _ _ _ _ _ _ (codeword-read₁ (known₂ .before .before .before .before)) (codeword-read₂ known₂) (c .if1 .taken)
 
 nearest-around-requires : tie.Need-nearest-around-requires
 nearest-around-requires c κs =
@@ -67,11 +63,10 @@ nearest-around-requires c κs =
     (start .pre .0, start .pre .1, bound)
 
 returns-4 : tie.Need-returns-4
-unfolding nearest twoEnds byBoth
 returns-4 c =
     let known₂ = c .before .before .before in
-    let known₁ = known₂ .before .before .before .before in
-    rw (codeword-read₁ known₁, codeword-read₂ known₂, eq-eqb _ _ (c .before .if1 .left)) (c .nearest-around .ensures)
+    c .nearest-around .ensures
+    ∙ rule₃-answers _ _ _ _ _ _ (codeword-read₁ (known₂ .before .before .before .before)) (codeword-read₂ known₂) (c .before .if1 .left)
 
 pub by-rule3-spec : {M : Type 1} → statement M
 by-rule3-spec =

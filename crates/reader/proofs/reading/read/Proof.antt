@@ -6,17 +6,16 @@ use mathlib.Core.List.{List}
 use Prim.Native.Nat.{ℕ, _-_, _*_}
 use native.Mathlib.Omega.{arith}
 use borrow.Author.Needs.{needs}
-use borrow.Author.Tests.{ne-eqb}
 use lib.Dec.{eqb}
 use lib.ListN.{length}
 use Rattle.bits.specs.Sums.{sumBelow, fromPlace}
 use Rattle.bits.specs.Places.{place}
-use Rattle.model.specs.Answers.{wordLength, spareSet, readWord}
+use Rattle.model.specs.Answers.{wordLength, spareSet}
 use Rattle.model.specs.Card.{Code}
 use Rattle.model.specs.Decoded.{meaning}
 use Rattle.model.specs.Reading.{ruleNamed}
 use Rattle.model.specs.Words.{wordBits}
-use Rattle.reader.proofs.ReadRefusals.{none-spare, refused-8, refused-9, read-by-rule}
+use Rattle.reader.proofs.ReadRefusals.{refused-6, none-spare, refused-8, refused-9, read-by-rule}
 use Rattle.reader.proofs.SpareBits.{spare-test, nothing-spare}
 use Rattle.reader.proofs.reading.read.Statement.{statement}
 use Rattle.reader.proofs.reading.read.Tie as tie
@@ -63,10 +62,7 @@ module _ (c : tie.After-ones-from) where
   spare = spare-test C received (got .received .result) (got .received .ensures) _ (spare-ones c)
 
 returns : tie.Need-returns
-unfolding readWord
-returns c =
-    rw (ne-eqb (length (c .before .before .before .args .word .now)) (wordLength (meaning (c .before .before .before .args .code)))
-    (λ e. c .if1 .taken (e ∙ sym (c .before .word-length .ensures .0))))
+returns c = refused-6 _ _ (λ e. c .if1 .taken (e ∙ sym (c .before .word-length .ensures .0)))
 
 returns-2 : tie.Need-returns-2
 returns-2 c = let counted = c .before in refused-8 _ _ (whole counted) _ (spare counted) (c .if2 .taken)
@@ -91,8 +87,8 @@ returns-4 : tie.Need-returns-4
 returns-4 c =
     let counted = c .before .before .before in
     let named = counted .before in
-    rw (held (named .before .before), rule named) at (c .by-rule .ensures)
-    ∙ read-by-rule _ _ (whole counted) _ (spare counted) (c .before .before .if2 .left)
+    rw (rule named) at (c .by-rule .ensures)
+    ∙ read-by-rule _ _ (whole counted) _ (spare counted) (c .before .before .if2 .left) _ (held (named .before .before))
 
 pub read-spec : {M : Type 1} → statement M
 read-spec =

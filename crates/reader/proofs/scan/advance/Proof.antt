@@ -8,13 +8,13 @@ use Rattle.reader.proofs.scan.advance.Tie as tie
 
 returns : tie.Need-returns
 returns c = (
-  (refl, refl),
+  (refl, refl, refl),
   λ f scanned next. scanned-nearer f _ scanned _ next (c .if1 .taken),
 )
 
 returns-2 : tie.Need-returns-2
 returns-2 c = (
-  (refl, refl),
+  (refl, refl, refl),
   λ f scanned next. scanned-no-nearer f _ scanned _ next (c .if1 .left),
 )
 

@@ -1,0 +1,63 @@
+-- What each rule answers, by what its chunks read as: one law for each way out of the code. A chunk that is unreadable is refusal 10;
+-- chunks that read differently are 11; a block that does not exist is 12. Assumes nothing.
+use mathlib.Core.Path.{_≡_, refl}
+use mathlib.Core.List.{List}
+use Prim.Native.Nat.{ℕ}
+use borrow.Author.Tests.{eq-eqb, ne-eqb}
+use Rattle.bits.specs.Sums.{fromPlace}
+use Rattle.model.specs.Refusals.{firstRefusal, unlessRefused}
+use Rattle.model.specs.Card.{Code}
+use Rattle.model.specs.Order.{lastCodeword}
+use Rattle.model.specs.Reading.{chunkReading, unreadable, numberRead, seen, numberBy, range₁, range₂, range₃, twoEnds, rowsSeen}
+use Rattle.model.specs.declared.Chunk.the-variants.{Codeword, Unreadable}
+use Rattle.model.specs.declared.ReadAnswer.the-variants.{Refused}
+use Rattle.reader.specs.Received.{nearestBy, answerBy, chunk₁Reads, chunk₂Reads}
+
+-- of a chunk it matters only where it begins
+pub read-from : (C : Code) (x : ℕ → ℕ) (at there : ℕ) → at ≡ there
+    → chunkReading C (fromPlace at x) ≡ chunkReading C (fromPlace there x)
+read-from C x at there e = rw e
+
+module _ (C : Code) (x : List ℕ) where
+  pub rule₁-unreadable : chunk₁Reads C x ≡ Unreadable → Refused 10 ≡ answerBy C x 1
+  unfolding answerBy seen rowsSeen unreadable firstRefusal unlessRefused
+  rule₁-unreadable r = rw r
+
+  pub rule₂-unreadable : chunk₂Reads C x ≡ Unreadable → Refused 10 ≡ answerBy C x 2
+  unfolding answerBy seen rowsSeen unreadable firstRefusal unlessRefused
+  rule₂-unreadable r = rw r
+
+  pub rule₃-unreadable : chunk₁Reads C x ≡ Unreadable → Refused 10 ≡ answerBy C x 3
+  unfolding answerBy seen rowsSeen unreadable firstRefusal unlessRefused
+  rule₃-unreadable r = rw r
+
+  module _ (p e : ℕ) where
+    pub rule₁-no-block : chunk₁Reads C x ≡ Codeword p e → p ≡ 0 → Refused 12 ≡ answerBy C x 1
+    unfolding answerBy seen rowsSeen unreadable numberBy numberRead twoEnds firstRefusal unlessRefused
+    rule₁-no-block r first = rw (r, eq-eqb p 0 first)
+
+    pub rule₁-answers : chunk₁Reads C x ≡ Codeword p e → (p ≡ 0 → ⊥) → nearestBy C x 1 (range₁ C p) ≡ answerBy C x 1
+    unfolding answerBy seen rowsSeen unreadable numberBy numberRead twoEnds firstRefusal unlessRefused
+    rule₁-answers r later = rw (r, ne-eqb p 0 later)
+
+    pub rule₂-no-block : chunk₂Reads C x ≡ Codeword p e → p ≡ lastCodeword C → Refused 12 ≡ answerBy C x 2
+    unfolding answerBy seen rowsSeen unreadable numberBy numberRead twoEnds firstRefusal unlessRefused
+    rule₂-no-block r last = rw (r, eq-eqb p (lastCodeword C) last)
+
+    pub rule₂-answers : chunk₂Reads C x ≡ Codeword p e → (p ≡ lastCodeword C → ⊥) → nearestBy C x 2 (range₂ C p) ≡ answerBy C x 2
+    unfolding answerBy seen rowsSeen unreadable numberBy numberRead twoEnds firstRefusal unlessRefused
+    rule₂-answers r earlier = rw (r, ne-eqb p (lastCodeword C) earlier)
+
+    pub rule₃-second-unreadable : chunk₁Reads C x ≡ Codeword p e → chunk₂Reads C x ≡ Unreadable → Refused 10 ≡ answerBy C x 3
+    unfolding answerBy seen rowsSeen unreadable firstRefusal unlessRefused
+    rule₃-second-unreadable r r′ = rw (r, r′)
+
+    module _ (q f : ℕ) where
+      pub rule₃-unlike : chunk₁Reads C x ≡ Codeword p e → chunk₂Reads C x ≡ Codeword q f → (p ≡ q → ⊥) → Refused 11 ≡ answerBy C x 3
+      unfolding answerBy seen rowsSeen unreadable numberBy numberRead firstRefusal unlessRefused
+      rule₃-unlike r r′ differ = rw (r, r′, ne-eqb p q differ)
+
+      pub rule₃-answers : chunk₁Reads C x ≡ Codeword p e → chunk₂Reads C x ≡ Codeword q f → p ≡ q
+          → nearestBy C x 3 (range₃ C p) ≡ answerBy C x 3
+      unfolding answerBy seen rowsSeen unreadable numberBy numberRead twoEnds firstRefusal unlessRefused
+      rule₃-answers r r′ same = rw (r, r′, eq-eqb p q same)

@@ -1,0 +1,10 @@
+-- `reader::scan::begin` meets its contract: the count of differing bits is the residual. Assumes nothing.
+use borrow.Author.Needs.{needs}
+use Rattle.reader.proofs.scan.begin.Statement.{statement}
+use Rattle.reader.proofs.scan.begin.Tie as tie
+
+returns : tie.Need-returns
+returns c = rw (c .bits-unlike .ensures)
+
+pub begin-spec : {M : Type 1} → statement M
+begin-spec = tie.close (tie.spec (λ c κs. search needs) returns)
