@@ -9,19 +9,21 @@ const LENT: usize = 48;
 pub type Lent = [u8; LENT];
 
 /// Counts a call by what the second reader answered, and whether the library's answer is unlike that. `calls` and `served` name
-/// the lines: of all such calls, and of those that are not refused.
+/// the lines: of all such calls, and of those that are not refused. A card's own refusals are told apart where it is checked only.
 fn answered<T>(tally: &mut Tally, calls: &str, served: &str, second: Result<T, Refusal>, unlike: bool) {
     match second {
         Ok(_) => tally.add(served, true),
-        Err(1..=5) if calls != "cards" => tally.add(&format!("{calls} on refused cards"), true),
+        Err(1..=5) if calls != CARDS => tally.add(&format!("{calls} on refused cards"), true),
         Err(refusal) => tally.add(&format!("{calls} refused {refusal}"), true),
     }
     tally.add("answers compared", true);
     tally.add(&format!("mismatches of {calls}"), unlike);
 }
 
+const CARDS: &str = "cards";
+
 pub fn check(tally: &mut Tally, card: &[u8], second: Result<Facts, Refusal>) {
-    answered(tally, "cards", "cards sound", second, library::check_card(card) != second);
+    answered(tally, CARDS, "cards sound", second, library::check_card(card) != second);
 }
 
 /// A block start or a distance.

@@ -4,8 +4,8 @@
 //! lends. Lent numbers that are not exactly as many as the answer has values are answered 100, before anything else is looked at.
 //! Whenever the status is not 0, nothing that was lent has changed.
 //!
-//! SAFETY, of every call: each pointer is followed by its count of elements that can be read, and for a `*mut` one written, for
-//! as long as the call takes, and that nothing else writes meanwhile. A count of 0 may come with any pointer.
+//! SAFETY, of every call: each pointer is that of its count of elements, which nothing else writes, and of a `*mut` one nothing else
+//! reads, until the call returns. A count of 0 may come with any pointer.
 use crate::{Facts, Reading, Refusal};
 use std::slice;
 

@@ -38,12 +38,13 @@ pub fn read_from(walk: &Walk, bytes: &[u8]) -> Result<Reading, Refusal> {
 
 /// The allowed positions of a received word, by the rule that its separators name.
 fn allowed(track: &Track, received: &[bool]) -> Result<Allowed, Refusal> {
-    let chunks = track.card.code.chunks().map(|places| &received[places]);
-    let read = |chunk: usize| track.card.code.read_chunk(chunks[chunk]).ok_or(10u32);
-    match [chunks[0], chunks[2], chunks[4]].map(separator) {
-        [a, b, c] if a == b && b == c => rule_3(track, read(1)?, read(3)?),
-        [a, b, _] if a == b => rule_1(track, read(1)?),
-        [_, b, c] if b == c => rule_2(track, read(3)?),
+    let code = &track.card.code;
+    let [separator_1, chunk_1, separator_2, chunk_2, separator_3] = code.chunks().map(|places| &received[places]);
+    let read = |chunk| code.read_chunk(chunk).ok_or(10u32);
+    match [separator_1, separator_2, separator_3].map(separator) {
+        [a, b, c] if a == b && b == c => rule_3(track, read(chunk_1)?, read(chunk_2)?),
+        [a, b, _] if a == b => rule_1(track, read(chunk_1)?),
+        [_, b, c] if b == c => rule_2(track, read(chunk_2)?),
         _ => Err(9),
     }
 }
@@ -53,25 +54,27 @@ fn separator(bits: &[bool]) -> bool {
     bits.len() < 2 * bits.iter().filter(|&&bit| bit).count()
 }
 
-/// Rule 1, chunk 1 reads p: r(p-1) + D + A(p-1) to r(p).
+/// Rule 1, b b c: chunk 1 reads p; allowed are r(p-1) + D + A(p-1) to r(p).
 fn rule_1(track: &Track, p: usize) -> Result<Allowed, Refusal> {
     if p == 0 {
         return Err(12);
     }
-    let inside = track.card.code.distance + track.card.code.step_weight(p - 1);
-    Ok(Allowed { rule: 1, positions: track.starts[p - 1] + inside as u32..=track.starts[p] })
+    let code = &track.card.code;
+    let before = code.distance + code.step_weight(p - 1);
+    Ok(Allowed { rule: 1, positions: track.starts[p - 1] + before as u32..=track.starts[p] })
 }
 
-/// Rule 2, chunk 2 reads p: r(p) to r(p) + 2D + A(p).
+/// Rule 2, b c c: chunk 2 reads p; allowed are r(p) to r(p) + 2D + A(p).
 fn rule_2(track: &Track, p: usize) -> Result<Allowed, Refusal> {
-    if p == track.card.code.codewords() - 1 {
+    let code = &track.card.code;
+    if p == code.codewords() - 1 {
         return Err(12);
     }
-    let inside = 2 * track.card.code.distance + track.card.code.step_weight(p);
-    Ok(Allowed { rule: 2, positions: track.starts[p]..=track.starts[p] + inside as u32 })
+    let after = 2 * code.distance + code.step_weight(p);
+    Ok(Allowed { rule: 2, positions: track.starts[p]..=track.starts[p] + after as u32 })
 }
 
-/// Rule 3, both chunks read the same p: r(p) - D to r(p) + D, cut to 0 and the last position.
+/// Rule 3, b b b: both chunks read the same p; allowed are r(p) - D to r(p) + D, cut to 0 and the last position.
 fn rule_3(track: &Track, p: usize, other: usize) -> Result<Allowed, Refusal> {
     if p != other {
         return Err(11);

@@ -50,20 +50,20 @@ const GIVEN: [(u64, u64, Rows); 18] = [
 /// The sizes, n and k, of the largest cards, with random rows.
 const LARGEST: [(u64, u64); 6] = [(13, 12), (20, 12), (33, 9), (40, 10), (63, 11), (64, 12)];
 
-/// Every shape: repetition codes of every length; the codes of all words (D 1) and of all words of even weight (D 2) for every k;
-/// codes that are given; then random rows: with n up to 20 and k up to 6, of which some are dependent; with k = n; with n from 21
-/// to 64 and k up to 8; and the largest. Random rows are made from the shape's number.
+/// Every shape. Random rows are made from the shape's number, so a new shape comes last.
 pub fn all() -> Vec<Shape> {
-    let small = |i| {
-        let (a, b) = (random(i, 100), random(i, 101));
-        (a % 20 + 1, (a % 20).min(b % 6) + 1, Random(i))
-    };
-    let large = |i| (random(i, 100) % 44 + 21, random(i, 101) % 8 + 1, Random(i));
-    let shapes = (1..=64).map(|n| (n, 1, Shifted(u64::MAX)));
-    let shapes = shapes.chain((1..=12).map(|k| (k, k, Shifted(1)))).chain((1..=12).map(|k| (k + 1, k, Shifted(3))));
-    let shapes = shapes.chain(GIVEN).chain((106..226).map(small)).chain((226..238).map(|i| (i - 225, i - 225, Triangular(i))));
-    let shapes = shapes.chain((238..262).map(large)).chain((262..).zip(LARGEST).map(|(i, (n, k))| (n, k, Random(i))));
-    shapes.map(|(n, k, rows)| Shape { n, k, rows }).collect()
+    let mut shapes = Vec::new();
+    // Repetition codes of every length; the codes of all words (D 1) and of all words of even weight (D 2) for every k.
+    shapes.extend((1..=64).map(|n| (n, 1, Shifted(u64::MAX))));
+    shapes.extend((1..=12).map(|k| (k, k, Shifted(1))));
+    shapes.extend((1..=12).map(|k| (k + 1, k, Shifted(3))));
+    shapes.extend(GIVEN);
+    // Random rows: n up to 20 and k up to 6, of which some are dependent; k = n; n from 21 to 64 and k up to 8; the largest.
+    shapes.extend((106..226).map(|i| (random(i, 100) % 20 + 1, (random(i, 100) % 20).min(random(i, 101) % 6) + 1, Random(i))));
+    shapes.extend((226..238).map(|i| (i - 225, i - 225, Triangular(i))));
+    shapes.extend((238..262).map(|i| (random(i, 100) % 44 + 21, random(i, 101) % 8 + 1, Random(i))));
+    shapes.extend((262..).zip(LARGEST).map(|(i, (n, k))| (n, k, Random(i))));
+    shapes.into_iter().map(|(n, k, rows)| Shape { n, k, rows }).collect()
 }
 
 impl Shape {
