@@ -44,7 +44,8 @@ fn word_number(q: u64, behind: &Walk, here: &Walk, seed: u64) -> Word {
         16 => all(up_to(code.distance), Places::Scattered),
         17 => one(any, code.chunks()[any].len(), Places::First),
         18..=21 => moved(q, behind, here),
-        _ => made_up(q, here, seed),
+        22..=26 => made_up(q, here, seed),
+        _ => unreachable!("there are {COUNT} words"),
     }
 }
 
