@@ -1,5 +1,5 @@
 //! Compares the library's public calls with the second reader, on cards of every shape and with faults and on words damaged in many
-//! ways, and prints counts.
+//! ways, and prints counts. A call is compared in `calls.rs`, a count is a line of `tally.rs`, and what is tried stands in `trials`.
 //!
 //! How the file `expected` was made: every count but the last six follows from how the cards and words are made and from what the
 //! second reader answers, and none of them from the library. The last six are of the library, and are 0 where it is right. So the
