@@ -1,6 +1,6 @@
 /*
  * Inputs of tramread, a card and words, and the text that each should print. What a card and a word are answered comes from the
- * second reader (crates/second_calls); the form of the lines is that of document 01, 'The program tramread'.
+ * second reader (tests/second_reader); the form of the lines is that of document 01, 'The program tramread'.
  */
 #ifndef TRACKS_H
 #define TRACKS_H
@@ -12,7 +12,7 @@
 #define WIDEST_WORD 40
 #define MOST_ROWS 12
 
-/* The calls of crates/second_calls: 0 or a refusal's number. */
+/* The calls of tests/second_reader/src/c_calls.rs: 0 or a refusal's number. */
 uint32_t second_check_card(const uint8_t *card, size_t card_bytes, uint32_t *values, size_t values_count);
 uint32_t second_write_word(const uint8_t *card, size_t card_bytes, uint32_t position, uint8_t *word, size_t word_bytes);
 uint32_t second_read_word(const uint8_t *card, size_t card_bytes, const uint8_t *word, size_t word_bytes, uint32_t *values,

@@ -1,0 +1,64 @@
+//! One call of the library against the same call of the second reader.
+use crate::library;
+use crate::tally::Tally;
+use second_reader::{Facts, Reading, Refusal};
+
+/// The lent bytes of every write, of which the word is to fill the first ones: what they hold before it, and how many they are.
+const HELD: u8 = 170;
+const LENT: usize = 48;
+pub type Lent = [u8; LENT];
+
+/// Counts a call by what the second reader answered, and whether the library's answer is unlike that. `calls` and `served` name
+/// the lines: of all such calls, and of those that are not refused. A card's own refusals are told apart where it is checked only.
+fn answered<T>(tally: &mut Tally, calls: &str, served: &str, second: Result<T, Refusal>, unlike: bool) {
+    match second {
+        Ok(_) => tally.add(served, true),
+        Err(1..=5) if calls != CARDS => tally.add(&format!("{calls} on refused cards"), true),
+        Err(refusal) => tally.add(&format!("{calls} refused {refusal}"), true),
+    }
+    tally.add("answers compared", true);
+    tally.add(&format!("mismatches of {calls}"), unlike);
+}
+
+const CARDS: &str = "cards";
+
+pub fn check(tally: &mut Tally, card: &[u8], second: Result<Facts, Refusal>) {
+    answered(tally, CARDS, "cards sound", second, library::check_card(card) != second);
+}
+
+/// A block start or a distance.
+pub fn number(tally: &mut Tally, answer: Result<u32, Refusal>, second: Result<u32, Refusal>) {
+    answered(tally, "starts and distances", "starts and distances", second, answer != second);
+}
+
+/// A number as a block, whose start is asked for, and as a position, whose distance is.
+pub fn numbers(tally: &mut Tally, card: &[u8], x: u32) {
+    number(tally, library::block_start(card, x), second_reader::block_start(card, x));
+    number(tally, library::millimetres(card, x), second_reader::millimetres(card, x));
+}
+
+/// A write into `len` bytes.
+pub fn write(tally: &mut Tally, card: &[u8], position: u32, len: usize) {
+    written(tally, card, position, len, |word| second_reader::write_word(card, position, word));
+}
+
+/// A write into `len` bytes against what `second` answers and leaves in as many. Bytes after these must stay as they are, and all
+/// where it is refused. Answers what the library left.
+pub fn written<F>(tally: &mut Tally, card: &[u8], position: u32, len: usize, second: F) -> Lent
+where
+    F: FnOnce(&mut [u8]) -> Result<(), Refusal>,
+{
+    let (mut left, mut right) = ([HELD; LENT], [HELD; LENT]);
+    let answer = library::write_word(card, position, &mut left[..len]);
+    let second = second(&mut right[..len]);
+    answered(tally, "writes", "positions written", second, answer != second || left != right);
+    left
+}
+
+/// What both read.
+pub fn read(tally: &mut Tally, answer: Result<Reading, Refusal>, second: Result<Reading, Refusal>) {
+    answered(tally, "words", "words read", second, answer != second);
+    if let Ok(reading) = second {
+        tally.add(&format!("words read by rule {}", reading.rule), true);
+    }
+}

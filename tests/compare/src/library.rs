@@ -1,0 +1,37 @@
+//! The library's public calls, with answers in the second reader's form.
+use second_reader::{Facts, Reading, Refusal};
+
+/// A status or rule that the Rust crate has no number for is a refusal that the second reader never answers.
+fn number(refusal: dunnavish::Refusal) -> Refusal {
+    refusal.number().unwrap_or(u32::MAX)
+}
+
+pub fn check_card(card: &[u8]) -> Result<Facts, Refusal> {
+    let summary = dunnavish::check_card(card).map_err(number)?;
+    Ok(Facts {
+        n: summary.length,
+        k: summary.rows,
+        track: summary.track,
+        distance: summary.distance,
+        radius: summary.radius,
+        bits: summary.word_bits,
+        last: summary.last,
+    })
+}
+
+pub fn write_word(card: &[u8], position: u32, word: &mut [u8]) -> Result<(), Refusal> {
+    dunnavish::write_word(card, position, word).map_err(number)
+}
+
+pub fn read_word(card: &[u8], word: &[u8]) -> Result<Reading, Refusal> {
+    let reading = dunnavish::read_word(card, word).map_err(number)?;
+    Ok(Reading { position: reading.position, residual: reading.residual, rule: reading.rule.number() })
+}
+
+pub fn block_start(card: &[u8], block: u32) -> Result<u32, Refusal> {
+    dunnavish::block_start(card, block).map_err(number)
+}
+
+pub fn millimetres(card: &[u8], position: u32) -> Result<u32, Refusal> {
+    dunnavish::millimetres(card, position).map_err(number)
+}

@@ -1,0 +1,71 @@
+//! Compares the library's public calls with the second reader, on cards of every shape and with faults and on words damaged in many
+//! ways, and prints counts. A call is compared in `calls.rs`, a count is a line of `tally.rs`, and what is tried stands in `trials`.
+//!
+//! How the file `expected` was made: every count but the last six follows from how the cards and words are made and from what the
+//! second reader answers, and none of them from the library. The last six are of the library, and are 0 where it is right. So the
+//! file has the former as the program printed them with a library that refused every call, and 0 for each of the latter.
+mod calls;
+mod library;
+mod positions;
+mod tally;
+mod trials;
+
+use second_reader::track::Track;
+use tally::Tally;
+use trials::{cards, faults, shapes};
+
+/// The shapes whose cards are also tried with every two faults at once.
+const WITH_FAULTS: [usize; 4] = [63, 65, 77, 90];
+
+fn main() {
+    let mut tally = Tally::new();
+    let shapes = shapes::all();
+    for (id, shape) in (0..).zip(&shapes) {
+        card(&mut tally, &cards::sealed(cards::of_shape(shape, trials::random(id, 0) as u16)), id);
+    }
+    for i in WITH_FAULTS {
+        let right = cards::of_shape(&shapes[i], i as u16);
+        for (a, b) in faults::pairs() {
+            card(&mut tally, &faults::faulty(right, a, b), shapes.len() as u64);
+        }
+    }
+    tally.print();
+}
+
+/// A card of any bytes. What is tried of it is chosen by `id`.
+fn card(tally: &mut Tally, card: &[u8], id: u64) {
+    let track = Track::of_card(card);
+    calls::check(tally, card, track.as_ref().map(Track::facts).map_err(|&refusal| refusal));
+    match track {
+        Ok(track) => {
+            positions::blocks(tally, card, &track);
+            positions::from_end_to_end(tally, card, &track, id);
+            ends(tally, card, &track);
+        }
+        Err(_) => {
+            of_length(tally, card, 0, 2);
+            calls::numbers(tally, card, 0);
+        }
+    }
+}
+
+/// Blocks and positions at the ends of what there is, and past them, with a right and a wrong length; words of other lengths.
+fn ends(tally: &mut Tally, card: &[u8], track: &Track) {
+    let (last, past) = (track.last(), track.last() + 1);
+    for number in [0, track.starts.len() as u32, last, past, u32::MAX] {
+        calls::numbers(tally, card, number);
+    }
+    let len = track.card.code.word_bytes();
+    of_length(tally, card, last, 0);
+    of_length(tally, card, past, len - 1);
+    of_length(tally, card, 0, len + 1);
+    calls::write(tally, card, past, len);
+    calls::write(tally, card, u32::MAX, len);
+}
+
+/// A write into, and a read of, `len` bytes.
+fn of_length(tally: &mut Tally, card: &[u8], position: u32, len: usize) {
+    calls::write(tally, card, position, len);
+    let word = vec![0; len];
+    calls::read(tally, library::read_word(card, &word), second_reader::read_word(card, &word));
+}

@@ -1,0 +1,77 @@
+//! The counts that the program prints.
+
+/// The printed lines in their order: a name each, under which something is counted.
+const LINES: [&str; 38] = [
+    // What the second reader answered, call by call.
+    "cards sound",
+    "cards refused 1",
+    "cards refused 2",
+    "cards refused 3",
+    "cards refused 4",
+    "cards refused 5",
+    "positions written",
+    "writes on refused cards",
+    "writes refused 6",
+    "writes refused 7",
+    "starts and distances",
+    "starts and distances on refused cards",
+    "starts and distances refused 6",
+    "starts and distances refused 7",
+    "words read",
+    "words on refused cards",
+    "words refused 6",
+    "words refused 7",
+    "words refused 8",
+    "words refused 9",
+    "words refused 10",
+    "words refused 11",
+    "words refused 12",
+    "words read by rule 1",
+    "words read by rule 2",
+    "words read by rule 3",
+    // What was tried, and how far off the second reader was.
+    "neighbours compared",
+    "words damaged within the radius",
+    "most bits turned in one of them",
+    "greatest error in steps",
+    "errors of twice the bits turned",
+    "answers compared",
+    // What the library got wrong: 0 each where it is right.
+    "mismatches of cards",
+    "mismatches of writes",
+    "mismatches of starts and distances",
+    "mismatches of words",
+    "neighbours not one bit apart",
+    "errors above twice the bits turned or refused",
+];
+
+/// A count for each line.
+pub struct Tally([u64; LINES.len()]);
+
+impl Tally {
+    pub fn new() -> Tally {
+        Tally([0; LINES.len()])
+    }
+
+    /// One more, if there is one.
+    pub fn add(&mut self, line: &str, one_more: bool) {
+        *self.count(line) += u64::from(one_more);
+    }
+
+    /// The greatest value so far.
+    pub fn greatest(&mut self, line: &str, value: u64) {
+        let count = self.count(line);
+        *count = value.max(*count);
+    }
+
+    fn count(&mut self, line: &str) -> &mut u64 {
+        let place = LINES.iter().position(|&name| name == line);
+        &mut self.0[place.unwrap_or_else(|| panic!("no line is named '{line}'"))]
+    }
+
+    pub fn print(&self) {
+        for (name, count) in LINES.iter().zip(self.0) {
+            println!("{name} {count}");
+        }
+    }
+}

@@ -1,0 +1,42 @@
+//! Which positions of a track are written, and at which of them words are read. `id` is the card's number.
+use super::random;
+use second_reader::walk::Walk;
+
+/// Up to this last position every position is written; on longer tracks about 2,000 are.
+const WRITE_ALL: u64 = 25_000;
+
+/// Whether the position at which a walk stands is written. On long tracks neighbours are written two by two.
+pub fn is_written(here: &Walk, id: u64) -> bool {
+    let last = u64::from(here.track.last());
+    last <= WRITE_ALL || among(u64::from(here.position) / 2, last / 2, 1000, id)
+}
+
+/// Whether words are read at the position at which a walk stands: at some of the track, and in some blocks on both sides of the
+/// start and where one chunk ends and the next begins.
+pub fn is_read(here: &Walk, id: u64) -> bool {
+    let many = match here.track.card.code.rows.len() {
+        0..=5 => 40,
+        6..=8 => 20,
+        _ => 8,
+    };
+    let blocks = here.track.starts.len() as u64 - 1;
+    among(here.position.into(), here.track.last().into(), many, id)
+        || (one_in(blocks / (many / 8 + 1), id + 1, here.block as u64) && at_border(here))
+}
+
+/// Whether the place to which a walk has come is next to the start of a block, or begins a chunk.
+fn at_border(here: &Walk) -> bool {
+    let begins = |place| here.track.card.code.chunks().iter().any(|chunk| chunk.start == place);
+    here.place < 2 || begins(here.place) || here.word.len() <= here.place + 1
+}
+
+/// Whether a number is one of some `many` from 0 to `last`: all of them if there are no more, else the first and the last three,
+/// and about so many between, at random.
+fn among(at: u64, last: u64, many: u64, id: u64) -> bool {
+    last <= many || at < 3 || last <= at + 2 || one_in(last / many, id, at)
+}
+
+/// True at random, once in `count` + 1.
+fn one_in(count: u64, id: u64, at: u64) -> bool {
+    random(id, at) % (count + 1) == 0
+}

@@ -1,0 +1,17 @@
+//! What the library and the second reader are tried on: cards of every shape and with faults, the positions of a track that are
+//! tried, and the words that are read there, damaged in many ways. All of it follows from numbers that count the cards, positions
+//! and words, so that every run tries the same.
+pub mod cards;
+pub mod choice;
+mod damage;
+pub mod faults;
+pub mod shapes;
+pub mod words;
+
+/// A number that looks random, of two numbers: four steps of a multiply-with-carry generator.
+pub fn random(a: u64, b: u64) -> u64 {
+    let stirred = |x: u64| x % (1 << 32) * 4_294_957_665 + (x >> 32);
+    let x = stirred(stirred(a ^ 0x9E37_79B9_7F4A_7C15) ^ b);
+    let y = stirred(stirred(x));
+    y ^ (y >> 32)
+}

@@ -1,0 +1,61 @@
+//! A second reader of robust Gray position words: cards, words, positions and readings, written from document 01's words by plain
+//! search, to be compared with the library.
+//!
+//! Words are single bits, made by walking from position 0 and turning one bit a step; block starts count those steps; the least
+//! distance is found by summing every set of rows, a chunk's codeword by trying all, and the nearest allowed position by trying each
+//! with its full word. Where document 01 has a short way and a plain one, this is the plain one.
+//!
+//! The calls below are the library's five. [`track::Track`] and [`walk::Walk`] are for a caller with many words of one card.
+#![deny(unsafe_code)]
+#![deny(unsafe_op_in_unsafe_fn)]
+
+#[allow(unsafe_code)]
+mod c_calls;
+pub mod card;
+pub mod code;
+pub mod reading;
+pub mod track;
+pub mod walk;
+pub mod word;
+
+pub use reading::Reading;
+pub use track::Facts;
+use track::Track;
+use walk::Walk;
+
+/// Why a call is turned down: the number in document 01's table.
+pub type Refusal = u32;
+
+/// Checks a card.
+pub fn check_card(card: &[u8]) -> Result<Facts, Refusal> {
+    Ok(Track::of_card(card)?.facts())
+}
+
+/// Writes the word of a position into the lent bytes. A refused write changes none of them.
+pub fn write_word(card: &[u8], position: u32, lent: &mut [u8]) -> Result<(), Refusal> {
+    let track = Track::of_card(card)?;
+    if lent.len() != track.card.code.word_bytes() {
+        return Err(6);
+    }
+    track.holds(position)?;
+    let mut walk = Walk::new(&track);
+    walk.go_to(position);
+    lent.copy_from_slice(&word::packed(&walk.word));
+    Ok(())
+}
+
+/// Reads a received word.
+pub fn read_word(card: &[u8], received: &[u8]) -> Result<Reading, Refusal> {
+    reading::read_from(&Walk::new(&Track::of_card(card)?), received)
+}
+
+/// The start of a block.
+pub fn block_start(card: &[u8], block: u32) -> Result<u32, Refusal> {
+    Track::of_card(card)?.starts.get(block as usize).copied().ok_or(7)
+}
+
+/// A position's distance from the buffer face in millimetres.
+pub fn millimetres(card: &[u8], position: u32) -> Result<u32, Refusal> {
+    Track::of_card(card)?.holds(position)?;
+    Ok(50 * position)
+}
