@@ -6,8 +6,6 @@ pub mod Walk
 pub mod Binary
 pub mod Searches
 pub mod Places
-pub mod PackedDistance
+pub mod ByteLists
 pub mod LowestOne
 pub mod Shifts
-pub mod FilledList
-pub mod CutWords

@@ -9,8 +9,10 @@ use lib.Dec.{eqb, ltb}
 use borrow.Author.Tests.{lt-ltb, le-ltb, eqb-false}
 use Rattle.bits.specs.Sums.{sumBelow, distance, unlike}
 use Rattle.bits.specs.Walk.{walk}
+use Rattle.bits.specs.Places.{cut}
 use Rattle.bits.proofs.Numbers.{lt-or-le}
-use Rattle.bits.proofs.Distance.{distance-suc, distance-longer, distance-one-place}
+use Rattle.bits.proofs.Distance.{distance-ext, distance-suc, distance-longer}
+use Rattle.bits.proofs.Places.{cut-below, cut-above}
 
 module _ (u v : ℕ → ℕ) where
   -- at a place with m differing places or more before it, the walk is u
@@ -84,20 +86,27 @@ module _ {u v : ℕ → ℕ} (hu : (p : ℕ) → u p < 2) (hv : (p : ℕ) → v 
   pub walk-isometry : (d m m′ : ℕ) → m ≤ m′ → m′ ≤ distance d u v → distance d (walk u v m) (walk u v m′) + m ≡ m′
   walk-isometry d m m′ h h′ = omega (arith, walk-apart d m m′ h)
 
-  -- the step at a differing place q with m differing places before it turns that bit from u's to v's, and no other
-  pub walk-step : (x : ℕ → ℕ) (d m q : ℕ) → q < d → distance q u v ≡ m → unlike (u q) (v q) ≡ 1
-      → distance d (walk u v (m + 1)) x + unlike (u q) (x q) ≡ distance d (walk u v m) x + unlike (v q) (x q)
-  walk-step x d m q h e differs =
-      rw (← (walk-ahead u v m q (omega arith)), ← (walk-passed (m + 1) q (omega arith)))
-      (distance-one-place (walk u v (m + 1)) (walk u v m) x d q h elsewhere)
-    where
-      elsewhere : (p : ℕ) → p < d → (p ≡ q → ⊥) → walk u v (m + 1) p ≡ walk u v m p
-      elsewhere p b ne =
-          ⊎-elim
-          (λ (l : p < q). rw (walk-before (m + 1) l (omega arith), walk-before m l (omega arith)))
-          (λ (l : q ≤ p).
-          rw (
-            walk-after u v (m + 1) {p = p} {a = suc q} (omega arith) (omega (arith, distance-suc q u v)),
-            walk-after u v m {p = p} {a = suc q} (omega arith) (omega (arith, distance-suc q u v)),
-          ))
-          (lt-or-le p q)
+-- Words that are cut off at place d: as far as d they are as far apart as the words are, and the walk between them is the walk between
+-- the words, cut off there.
+pub distance-cut : (d e : ℕ) (u v : ℕ → ℕ) → e ≤ d → distance e (cut d u) (cut d v) ≡ distance e u v
+distance-cut d e u v h = distance-ext e (λ q b. cut-below d u q (omega arith)) (λ q b. cut-below d v q (omega arith))
+
+pub walk-cut : (d : ℕ) (u v : ℕ → ℕ) (m p : ℕ) → walk (cut d u) (cut d v) m p ≡ cut d (walk u v m) p
+unfolding walk
+walk-cut d u v m p =
+    ⊎-elim
+    (λ (l : p < d).
+    rw (
+      cut-below d (walk u v m) p l,
+      cut-below d u p l,
+      cut-below d v p l,
+      distance-cut d p u v (omega arith),
+    ))
+    (λ (l : d ≤ p).
+    rw (cut-above d (walk u v m) p l, cut-above d u p l, cut-above d v p l)
+    (either (eqb (unlike 0 0) 1 && ltb (distance p (cut d u) (cut d v)) m)))
+    (lt-or-le p d)
+  where
+    either : (t : Bool) → _≡_ {A = ℕ} (cond t 0 0) 0
+    either true = refl
+    either false = refl

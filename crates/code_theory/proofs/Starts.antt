@@ -1,6 +1,6 @@
 -- The starts of the blocks follow one another: row z counts in r(i+1) - r(i) where (i + 1 + 2^z) / 2^(z+1) exceeds
 -- (i + 2^z) / 2^(z+1), by one, and that is for just one z, the count of trailing zeros of i + 1. And an upper
--- bound on every start, for sums that must fit: 4,095 blocks of at most 320 steps. Assumes nothing.
+-- bound on every start and every word, for sums that must fit: 4,095 blocks of at most 320 steps. Assumes nothing.
 use mathlib.Core.Path.{_≡_, refl, sym, ap, _∙_}
 use Prim.Native.Nat.{ℕ, zero, suc, _+_, _*_, _/_, _^_, _≤_, _<_}
 use native.Mathlib.Nat.{suc-add, zero-add, mul-zero, lt-suc-self, pow-succ', div-eq-of-lt, div-div-eq-div-mul}
@@ -13,6 +13,7 @@ use Rattle.bits.proofs.Sums.{sum-zero, sum-one-place}
 use Rattle.bits.proofs.Binary.{weight-le}
 use Rattle.model.specs.Card.{Code}
 use Rattle.model.specs.Order.{lastCodeword, changedRow, changedWeight, blockLength, start, lastPosition}
+use Rattle.model.specs.Words.{wordBits}
 use Rattle.code_theory.specs.Promise.{Sound}
 use Rattle.code_theory.proofs.TrailingZeros.{trailing-zeros-ind}
 use Rattle.code_theory.proofs.Codewords.{changed-row, changed-row-below}
@@ -79,6 +80,10 @@ start-next C i within =
 -- ---- bounds
 
 module _ (C : Code) (S : Sound C) where
+  -- the widest word has 320 bits
+  pub word-bits-bound : wordBits C ≤ 320
+  word-bits-bound = omega (arith, S .n-high, D-high C S)
+
   block-length-bound : (i : ℕ) → blockLength C i ≤ 320
   unfolding changedWeight
   block-length-bound i = omega (arith, D-high C S, S .n-high, weight-le (C .n) (C .row (changedRow C i)))

@@ -8,7 +8,7 @@ use lib.Bits.{bitXor}
 use lib.Count.{trailingZeros}
 use lib.ListN.{length, getD, set, length-set}
 use lib.Pow.{pow-mono}
-use Rattle.bits.proofs.FilledList.{one-entry-more}
+use Rattle.bits.proofs.ByteLists.{one-entry-more}
 use Rattle.model.specs.Card.{sumOfRows}
 use Rattle.model.specs.Order.{gray}
 use Rattle.code_theory.proofs.Codewords.{rows-start}

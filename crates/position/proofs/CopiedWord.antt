@@ -9,7 +9,7 @@ use native.Mathlib.Omega.{arith}
 use lib.ListN.{length, getD, set, replicate, List·getD-eq-default}
 use lib.Seq.{getD-set-other}
 use Rattle.bits.specs.Places.{place}
-use Rattle.bits.proofs.FilledList.{one-entry-more}
+use Rattle.bits.proofs.ByteLists.{one-entry-more, zero-byte}
 use Rattle.bits.proofs.Numbers.{lt-or-le}
 use Rattle.bits.proofs.Places.{length-pack, place-pack, byte-of-places, same-places}
 use Rattle.model.specs.Answers.{wordLength}
@@ -17,7 +17,6 @@ use Rattle.model.specs.Card.{Code}
 use Rattle.model.specs.Words.{wordBits, wordAt, wordBytes}
 use Rattle.position_theory.proofs.WordBytes.{word-at-bit}
 use Rattle.position.specs.HoldsWord.{HoldsWord}
-use Rattle.position.proofs.ZeroBytes.{zero-byte}
 
 -- ---- to zeros
 

@@ -3,8 +3,6 @@ pub mod BlockBetween
 pub mod GatheredBits
 pub mod ChunkByChunk
 pub mod FilledByte
-pub mod ByteDistance
-pub mod ZeroBytes
 pub mod WordChunks
 pub mod CopiedWord
 pub mod Splicing

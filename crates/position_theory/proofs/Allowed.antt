@@ -1,13 +1,12 @@
 -- Whatever word is received, where no row of the table holds, the positions that it allows are on the track, and their words differ
 -- in as many bits as they in steps: by rules 1 and 2 they lie in one block, by rule 3 within D steps of a start. Assumes nothing.
 use mathlib.Core.Path.{_≡_, refl}
-use mathlib.Core.Bool.{Bool, false, not, _&&_, _||_, true≢false}
+use mathlib.Core.Bool.{false, true≢false}
 use Prim.Native.Nat.{ℕ, _+_, _≤_, _<_}
 use native.Mathlib.Nat.{le-dest, add-sub-cancel}
 use native.Mathlib.Omega.{arith}
-use lib.Dec.{eqb}
-use borrow.Author.Tests.{eqb-true, eqb-false, not-false}
-use Rattle.bits.proofs.Numbers.{or-false-left, or-false-right}
+use borrow.Author.Tests.{eqb-false}
+use Rattle.bits.proofs.Numbers.{or-false-left}
 use Rattle.model.specs.Refusals.{firstRefusal}
 use Rattle.model.specs.Card.{Code}
 use Rattle.model.specs.Order.{lastCodeword, changedWeight, start, lastPosition}

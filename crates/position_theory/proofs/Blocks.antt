@@ -1,17 +1,19 @@
 -- Blocks follow one another from 0 to the last position: the starts rise, each position lies in exactly one block, and
--- the word of the position m steps into block i is the walk of m steps from w(i) to w(i+1), the block's end included.
--- Assumes nothing.
-use mathlib.Core.Path.{_≡_, sym, _∙_}
+-- the word of the position m steps into block i is the walk of m steps from w(i) to w(i+1), the block's end included: w(i+1) below
+-- some place, and w(i) from there on. Assumes nothing.
+use mathlib.Core.Path.{_≡_, refl, sym, _∙_}
+use mathlib.Core.Bool.{cond}
 use mathlib.Core.Logic.{_⊎_, inl, inr, ⊎-elim}
 use Prim.Native.Nat.{ℕ, zero, suc, _+_, _-_, _*_, _≤_, _<_}
 use native.Mathlib.Nat.{le-dest, eq-or-lt-of-le, eq-zero-or-pos, sub-self, add-sub-cancel-left}
 use native.Mathlib.Numerals.{add-one}
 use native.Mathlib.Omega.{arith}
-use lib.Dec.{leb}
+use lib.Dec.{leb, ltb}
 use borrow.Author.Tests.{le-leb, lt-leb, leb-true, leb-false}
 use Rattle.bits.specs.Sums.{distance}
 use Rattle.bits.specs.Walk.{walk}
-use Rattle.bits.proofs.Walk.{walk-none, walk-before}
+use Rattle.bits.proofs.Distance.{distance-longer}
+use Rattle.bits.proofs.Walk.{walk-none, walk-before, walk-spliced}
 use Rattle.bits.proofs.Searches.{greatest-is, greatest-le, greatest-holds, greatest-above}
 use Rattle.model.specs.Card.{Code}
 use Rattle.model.specs.Order.{lastCodeword, changedWeight, blockLength, start, lastPosition}
@@ -202,3 +204,16 @@ module _ (C : Code) (promise : ChunkPromise C) where
       (sym (walk-before (word-bit C i) (word-bit C (i + 1)) (blockLength C i) b (omega (arith, apart C promise i inside)))))
       (λ (l : m < blockLength C i). rw (block-inside i m inside l, add-sub-cancel-left))
       (eq-or-lt-of-le h)
+
+-- stepping through a block place by place, of which each that differs is one step
+module _ (C : Code) (promise : ChunkPromise C) (i : ℕ) (inside : i < lastCodeword C) where
+  -- no more steps are made below any place than the block has
+  steps-room : (q : ℕ) → q ≤ wordBits C → distance q (word C i) (word C (i + 1)) ≤ blockLength C i
+  steps-room q h = rw (← (apart C promise i inside)) (distance-longer (word C i) (word C (i + 1)) h)
+
+  -- where the places below a have been passed, the word is w(i+1) below a and w(i) from there on
+  pub word-passed : (a p : ℕ) → a ≤ wordBits C → p < wordBits C
+      → wordAt C (start C i + distance a (word C i) (word C (i + 1))) p ≡ cond (ltb p a) (word C (i + 1) p) (word C i p)
+  word-passed a p h b =
+      rw (word-in-block C promise i (distance a (word C i) (word C (i + 1))) inside (steps-room a h) p b)
+      (sym (walk-spliced (word-bit C i) (word-bit C (i + 1)) _ a refl p))

@@ -14,5 +14,3 @@ pub mod BoundedError
 pub mod DistinctWords
 pub mod Demands
 pub mod Writing
-pub mod Stepping
-pub mod Bounds

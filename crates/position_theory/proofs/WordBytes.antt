@@ -16,7 +16,7 @@ use Rattle.bits.proofs.Distance.{distance-ext-left}
 use Rattle.bits.proofs.Walk.{walk-bit}
 use Rattle.bits.proofs.Searches.{any-none, none-of-any}
 use Rattle.bits.proofs.Places.{place-bit, length-pack, place-packed, place-spare}
-use Rattle.bits.proofs.PackedDistance.{differing-below, packed-distance}
+use Rattle.bits.proofs.ByteLists.{differing-below, packed-distance}
 use Rattle.model.specs.Refusals.{firstRefusal}
 use Rattle.model.specs.Card.{Code}
 use Rattle.model.specs.Words.{wordBits, blockOf, wordAt, wordBytes}

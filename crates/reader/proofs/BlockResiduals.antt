@@ -17,10 +17,8 @@ use Rattle.model.specs.Words.{wordBits, word, wordAt}
 use Rattle.model.specs.Reading.{residual}
 use Rattle.code_theory.specs.Promise.{Sound}
 use Rattle.code_theory.proofs.Promise.{promise}
-use Rattle.code_theory.proofs.Starts.{start-zero}
-use Rattle.position_theory.proofs.Blocks.{word-at-start}
-use Rattle.position_theory.proofs.Bounds.{word-bits-bound}
-use Rattle.position_theory.proofs.Stepping.{word-passed}
+use Rattle.code_theory.proofs.Starts.{start-zero, word-bits-bound}
+use Rattle.position_theory.proofs.Blocks.{word-at-start, word-passed}
 use Rattle.position.specs.HoldsWord.{HoldsWord}
 use Rattle.reader.specs.declared.scan.Scan.{Scan}
 use Rattle.reader.specs.Received.{NothingSpare, ScannedIn, positionAt}

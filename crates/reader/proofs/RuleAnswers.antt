@@ -1,6 +1,6 @@
 -- What each rule answers, by what its chunks read as: one law for each way out of the code. A chunk that is unreadable is refusal 10;
 -- chunks that read differently are 11; a block that does not exist is 12. Assumes nothing.
-use mathlib.Core.Path.{_≡_, refl}
+use mathlib.Core.Path.{_≡_}
 use mathlib.Core.List.{List}
 use Prim.Native.Nat.{ℕ}
 use borrow.Author.Tests.{eq-eqb, ne-eqb}

@@ -1,7 +1,7 @@
 -- What each rule allows, as the search through a block meets it: rule 1 from separator 2 to the block's end, rule 2 from its
 -- start to the end of separator 2, and rule 3 over separator 3 of one block and separator 1 of the next.
 -- Assumes nothing.
-use mathlib.Core.Path.{_≡_, ap, _∙_}
+use mathlib.Core.Path.{_≡_}
 use Prim.Native.Nat.{ℕ, _+_, _-_, _<_, min}
 use native.Mathlib.Omega.{arith}
 use Rattle.bits.specs.Sums.{sumBelow, distance}

@@ -4,7 +4,7 @@ use super::random;
 use second_reader::walk::Walk;
 use second_reader::word::{packed, Word};
 
-/// How many words are read at a position, beside the one with a spare bit set.
+/// How many words are read at a position, beside those with a spare bit set.
 const COUNT: u64 = 27;
 
 /// A word that is received, and how many of its bits are turned if no chunk has more of them than the radius.
@@ -13,8 +13,9 @@ pub struct Received {
     pub turned_within_radius: Option<u64>,
 }
 
-/// The words of the position at which `here` stands, of card `id`. The walk `behind` stands further back. The last word has a spare
-/// bit set, if there is one, and counts as damaged beyond the radius.
+/// The words of the position at which `here` stands, of card `id`. The walk `behind` stands further back. The last two have a spare bit
+/// set, if there is one, and count as damaged beyond the radius: the position's own word, and one that is mostly refused without it,
+/// so that 8 is seen to come before 9 to 12.
 pub fn at<'a>(behind: &'a Walk, here: &'a Walk, id: u64) -> impl Iterator<Item = Received> + 'a {
     let seed = random(id, here.position.into());
     let words = (0..COUNT).map(move |q| {
@@ -22,7 +23,7 @@ pub fn at<'a>(behind: &'a Walk, here: &'a Walk, id: u64) -> impl Iterator<Item =
         let turned_within_radius = turned_within_radius(&here.track.card.code, &here.word, &word);
         Received { bytes: packed(&word), turned_within_radius }
     });
-    words.chain([with_spare_bit(here)])
+    words.chain([with_spare_bit(&here.word), with_spare_bit(&made_up(24, here, random(seed, COUNT)))])
 }
 
 /// Word q.
@@ -95,11 +96,11 @@ fn made_up(q: u64, here: &Walk, seed: u64) -> Word {
     }
 }
 
-/// A position's word with its first spare bit set.
-fn with_spare_bit(here: &Walk) -> Received {
-    let mut bytes = packed(&here.word);
-    if here.word.len() % 8 != 0 {
-        bytes[here.word.len() / 8] |= 1 << (here.word.len() % 8);
+/// A word with its first spare bit set.
+fn with_spare_bit(word: &Word) -> Received {
+    let mut bytes = packed(word);
+    if word.len() % 8 != 0 {
+        bytes[word.len() / 8] |= 1 << (word.len() % 8);
     }
     Received { bytes, turned_within_radius: None }
 }

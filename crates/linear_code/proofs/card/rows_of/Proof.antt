@@ -5,7 +5,7 @@ use mathlib.Core.Path.{_≡_, sym, _∙_}
 use borrow.Author.Needs.{needs}
 use native.Mathlib.Omega.{arith}
 use lib.ListN.{length, getD, length-set}
-use Rattle.bits.proofs.FilledList.{one-entry-more}
+use Rattle.bits.proofs.ByteLists.{one-entry-more}
 use Rattle.model.specs.Card.{rowOf}
 use Rattle.linear_code.proofs.Rows.{row-of-bytes, rows-alike}
 use Rattle.linear_code.proofs.card.rows_of.Statement.{statement}

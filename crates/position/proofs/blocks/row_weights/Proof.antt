@@ -9,7 +9,7 @@ use borrow.Author.Needs.{needs}
 use lib.ListN.{length, getD, length-set}
 use Rattle.bits.specs.Places.{weight}
 use Rattle.model.specs.Decoded.{meaning}
-use Rattle.bits.proofs.FilledList.{one-entry-more}
+use Rattle.bits.proofs.ByteLists.{one-entry-more}
 use Rattle.position.proofs.blocks.row_weights.Statement.{statement}
 use Rattle.position.proofs.blocks.row_weights.Tie as tie
 

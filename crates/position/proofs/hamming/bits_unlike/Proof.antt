@@ -8,7 +8,7 @@ use native.Mathlib.Omega.{arith}
 use Rattle.bits.specs.Sums.{sumBelow, distance}
 use Rattle.bits.specs.Places.{place}
 use Rattle.bits.proofs.Distance.{distance-le}
-use Rattle.position.proofs.ByteDistance.{distance-byte}
+use Rattle.bits.proofs.ByteLists.{distance-byte}
 use Rattle.position.proofs.hamming.bits_unlike.Statement.{statement}
 use Rattle.position.proofs.hamming.bits_unlike.Tie as tie
 

@@ -12,7 +12,7 @@ use borrow.Author.Needs.{needs}
 use Rattle.bits.specs.Sums.{sumBelow, distance}
 use Rattle.bits.specs.Places.{place}
 use Rattle.bits.proofs.Distance.{distance-suc, distance-le}
-use Rattle.position.proofs.ByteDistance.{distance-byte}
+use Rattle.bits.proofs.ByteLists.{distance-byte}
 use Rattle.position.proofs.hamming.place_after.Statement.{statement}
 use Rattle.position.proofs.hamming.place_after.Tie as tie
 

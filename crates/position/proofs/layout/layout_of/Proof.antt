@@ -5,7 +5,7 @@ use Prim.Native.Nat.{_≤_}
 use Rattle.model.specs.Decoded.{meaning}
 use Rattle.model.specs.Words.{wordBits}
 use Rattle.code_theory.proofs.LeastDistance.{D-high}
-use Rattle.position_theory.proofs.Bounds.{word-bits-bound}
+use Rattle.code_theory.proofs.Starts.{word-bits-bound}
 use Rattle.position.proofs.layout.layout_of.Statement.{statement}
 use Rattle.position.proofs.layout.layout_of.Tie as tie
 

@@ -5,14 +5,12 @@ use mathlib.Core.Path.{_∙_, fun-ext}
 use borrow.Author.Needs.{needs}
 use native.Mathlib.Omega.{arith}
 use Rattle.bits.specs.Places.{cut}
-use Rattle.bits.proofs.CutWords.{distance-cut, walk-cut}
+use Rattle.bits.proofs.Walk.{distance-cut, walk-cut, walk-spliced}
 use Rattle.bits.proofs.Distance.{distance-longer}
-use Rattle.bits.proofs.Walk.{walk-spliced}
 use Rattle.bits.proofs.Places.{place-bit}
 use Rattle.model.specs.Decoded.{meaning}
 use Rattle.model.specs.Words.{wordBits, word}
-use Rattle.code_theory.proofs.Starts.{last-codeword-bound}
-use Rattle.position_theory.proofs.Bounds.{word-bits-bound}
+use Rattle.code_theory.proofs.Starts.{last-codeword-bound, word-bits-bound}
 use Rattle.position.proofs.words.word_in_block.Statement.{statement}
 use Rattle.position.proofs.words.word_in_block.Tie as tie
 

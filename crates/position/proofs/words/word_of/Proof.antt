@@ -11,7 +11,7 @@ use Rattle.model.specs.Decoded.{meaning}
 use Rattle.position.specs.declared.layout.Layout.{Layout}
 use Rattle.position.specs.LayoutOf.{LayoutOf}
 use Rattle.position.proofs.WordChunks.{UpTo, put-separator₁, put-chunk₁, put-separator₂, put-chunk₂, put-separator₃, zeros-behind}
-use Rattle.position.proofs.ZeroBytes.{zero-place}
+use Rattle.bits.proofs.ByteLists.{zero-place}
 use Rattle.position.proofs.words.word_of.Statement.{statement}
 use Rattle.position.proofs.words.word_of.Tie as tie
 

@@ -9,9 +9,9 @@ use lib.ListN.{length, getD, length-set}
 use mir.Syntax.{w8}
 use mir.Val.{Fits}
 use Rattle.model.specs.Decoded.{meaning}
-use Rattle.position_theory.proofs.Bounds.{word-bits-bound}
+use Rattle.code_theory.proofs.Starts.{word-bits-bound}
 use Rattle.position.proofs.CopiedWord.{copied-word}
-use Rattle.bits.proofs.FilledList.{one-entry-more}
+use Rattle.bits.proofs.ByteLists.{one-entry-more}
 use Rattle.position.proofs.words.write.Statement.{statement}
 use Rattle.position.proofs.words.write.Tie as tie
 

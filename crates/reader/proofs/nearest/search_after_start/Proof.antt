@@ -1,13 +1,11 @@
 -- `reader::nearest::search_after_start` meets its contract: separator 1 of block p, from its start. Assumes nothing.
-use mathlib.Core.Path.{_≡_, _∙_, sym}
-use Prim.Native.Nat.{_+_}
+use mathlib.Core.Path.{_∙_}
 use native.Mathlib.Omega.{arith}
 use borrow.Author.Needs.{needs}
 use Rattle.model.specs.Decoded.{meaning}
 use Rattle.code_theory.proofs.Promise.{promise}
-use Rattle.code_theory.proofs.Starts.{last-codeword-bound, last-position-bound}
+use Rattle.code_theory.proofs.Starts.{last-codeword-bound, last-position-bound, word-bits-bound}
 use Rattle.position_theory.proofs.Blocks.{start-on-track}
-use Rattle.position_theory.proofs.Bounds.{word-bits-bound}
 use Rattle.reader.proofs.BlockResiduals.{residual-at-start, start-passed}
 use Rattle.reader.proofs.RuleRanges.{at-chunk₁}
 use Rattle.reader.proofs.nearest.search_after_start.Statement.{statement}

@@ -4,9 +4,8 @@ use native.Mathlib.Omega.{arith}
 use borrow.Author.Needs.{needs}
 use Rattle.model.specs.Decoded.{meaning}
 use Rattle.code_theory.proofs.Promise.{promise}
-use Rattle.code_theory.proofs.Starts.{last-codeword-bound, last-position-bound}
+use Rattle.code_theory.proofs.Starts.{last-codeword-bound, last-position-bound, word-bits-bound}
 use Rattle.position_theory.proofs.Blocks.{start-on-track}
-use Rattle.position_theory.proofs.Bounds.{word-bits-bound}
 use Rattle.reader.proofs.BlockResiduals.{block-searched}
 use Rattle.reader.proofs.nearest.search_block.Statement.{statement}
 use Rattle.reader.proofs.nearest.search_block.Tie as tie

@@ -5,7 +5,7 @@ use native.Mathlib.Omega.{arith}
 use borrow.Author.Needs.{needs}
 use Rattle.model.specs.Decoded.{meaning}
 use Rattle.code_theory.proofs.ChunkReading.{chunkReading-ext}
-use Rattle.position_theory.proofs.Bounds.{word-bits-bound}
+use Rattle.code_theory.proofs.Starts.{word-bits-bound}
 use Rattle.reader.proofs.reading.chunk_reading.Statement.{statement}
 use Rattle.reader.proofs.reading.chunk_reading.Tie as tie
 
