@@ -1,7 +1,7 @@
 -- The sum that a card's check is made of: bytes that are zero add nothing, so it ends at the last used byte where no unused byte
 -- is set. Assumes nothing.
 use Prim.Native.Nat.{ℕ, _+_, _*_, _≤_, _<_}
-use mathlib.Core.Path.{_≡_, refl}
+use mathlib.Core.Path.{_≡_}
 use mathlib.Core.Bool.{false, not}
 use mathlib.Core.List.{List}
 use borrow.Author.Tests.{eqb-true, not-false}
@@ -21,17 +21,10 @@ summand b p = (p + 1) * byte b p
 pub summand-most : (p d : ℕ) → p < 510 → d < 256 → (p + 1) * d ≤ 130050
 summand-most p d h k = mul-le-mul {n₁ = p + 1} {n₂ = 510} {m₂ = 255} (omega arith) (le-of-suc-le-suc k)
 
--- the sum over all places ends at place `end`
-abbrev pub EndsAt : List ℕ → ℕ → Type 0
-EndsAt b end = (end ≤ 510) × (sumBelow (summand b) 510 ≡ sumBelow (summand b) end)
-
-pub ends-at-all : (b : List ℕ) → EndsAt b 510
-ends-at-all b = (omega arith, refl)
-
--- where no unused byte is set, it ends at place 100
-pub ends-at-used : (b : List ℕ) → unusedByteSet b ≡ false → EndsAt b 100
+-- where no unused byte is set, the sum over all places ends at place 100
+pub ends-at-used : (b : List ℕ) → unusedByteSet b ≡ false → sumBelow (summand b) 510 ≡ sumBelow (summand b) 100
 unfolding unusedByteSet
 ends-at-used b none =
     let zero : (p : ℕ) → p < 410 → byte b (100 + p) ≡ 0 =
     λ p h. eqb-true (byte b (100 + p)) 0 (not-false _ (none-of-any (λ i. not (eqb (byte b (100 + i)) 0)) 410 none p h)) in
-    (omega arith, omega (arith, sum-split (summand b) 100 410, sum-zero {f = fromPlace 100 (summand b)} 410 (λ p h. rw (zero p h) (mul-zero _))))
+    omega (arith, sum-split (summand b) 100 410, sum-zero {f = fromPlace 100 (summand b)} 410 (λ p h. rw (zero p h) (mul-zero _)))

@@ -5,10 +5,10 @@ use mathlib.Core.Path.{_≡_, sym, ap, fun-ext, _∙_}
 use mathlib.Core.Logic.{⊎-elim}
 use Prim.Native.Nat.{ℕ, _+_, _-_, _^_, _≤_, _<_}
 use native.Mathlib.Omega.{arith}
-use lib.Bits.{bitAnd, bitXor}
+use lib.Bits.{bitAnd, bitXor, xor-comm, xor-zero-l}
 use lib.Count.{trailingZeros, ones}
 use Rattle.bits.specs.Places.{bit}
-use Rattle.bits.proofs.Binary.{ones-xor}
+use Rattle.bits.proofs.Binary.{xor-assoc, ones-xor}
 use Rattle.bits.proofs.LowestOne.{one-fewer}
 use Rattle.bits.proofs.Numbers.{eq-or-ne}
 use Rattle.model.specs.Card.{Code, sumOfRows, radius}
@@ -43,24 +43,36 @@ counted-past t d count rest all more far =
 
 -- ---- the codewords, by any count `far` of the places in which one is unlike the chunk
 
--- the search stands at codeword i of last, which is in word, and the codewords before it lie farther than the limit
-pub record AtCandidate (k : ℕ) (row : ℕ → ℕ) (far : ℕ → ℕ) (limit last word i : ℕ) : Type 0 where
+-- the search stands at codeword i of last, `apart` is where it and the chunk x differ, and the codewords before it lie farther
+-- than the limit
+pub record AtCandidate (k : ℕ) (row : ℕ → ℕ) (x : ℕ) (far : ℕ → ℕ) (limit last apart i : ℕ) : Type 0 where
+  pub word : ℕ
   pub at : AtSet k row last word i
+  pub differ : apart ≡ bitXor word x
   pub passed : (j : ℕ) → j < i → limit < far j
 
-module _ (k : ℕ) (row : ℕ → ℕ) (far : ℕ → ℕ) (limit : ℕ) where
-  pub search-starts : (two : ℕ) → two ≡ 2 ^ k → AtCandidate k row far limit (two - 1) 0 0
-  search-starts two e = record { at = set-start e; passed = λ j b. absurd (omega arith) }
+-- a row added to the codeword is added to where it differs
+differ-next : (word x row : ℕ) → bitXor (bitXor word x) row ≡ bitXor (bitXor word row) x
+differ-next word x row = rw (xor-assoc word x row, xor-comm x row, ← xor-assoc word row x)
 
-  module _ (last word i : ℕ) (stand : AtCandidate k row far limit last word i) where
+module _ (k : ℕ) (row : ℕ → ℕ) (x : ℕ) (far : ℕ → ℕ) (limit : ℕ) where
+  pub search-starts : (two : ℕ) → two ≡ 2 ^ k → AtCandidate k row x far limit (two - 1) x 0
+  search-starts two e = record { word = 0; at = set-start e; differ = sym (xor-zero-l x); passed = λ j b. absurd (omega arith) }
+
+  module _ (last apart i : ℕ) (stand : AtCandidate k row x far limit last apart i) where
     -- with this codeword, too, farther than the limit
     passed-too : limit < far i → (j : ℕ) → j < i + 1 → limit < far j
     passed-too here j b = ⊎-elim (λ (e : j ≡ i). rw e here) (λ (ne : j ≡ i → ⊥). stand .passed j (omega arith)) (eq-or-ne j i)
 
-    pub search-goes-on : k ≤ 12 → (i ≡ last → ⊥) → limit < far i
-        → AtCandidate k row far limit last (bitXor word (row (trailingZeros 32 (i + 1)))) (i + 1)
+    pub search-goes-on : k ≤ 12 → i < last → limit < far i
+        → AtCandidate k row x far limit last (bitXor apart (row (trailingZeros 32 (i + 1)))) (i + 1)
     search-goes-on twelve more here =
-        record { at = set-next twelve (stand .at) (omega (arith, stand .at .within)); passed = passed-too here }
+        record {
+          word = bitXor (stand .word) (row (trailingZeros 32 (i + 1)));
+          at = set-next twelve (stand .at) more;
+          differ = rw (stand .differ) (differ-next (stand .word) x _);
+          passed = passed-too here;
+        }
 
     pub search-found : (count : ℕ) → count ≡ far i → count ≤ limit → Codeword i count ≡ readWithin far limit (2 ^ k)
     search-found count e close =
@@ -75,8 +87,9 @@ module _ (k : ℕ) (row : ℕ → ℕ) (far : ℕ → ℕ) (limit : ℕ) where
 abbrev pub unlikeBits : (k : ℕ) (row : ℕ → ℕ) (x j : ℕ) → ℕ
 unlikeBits k row x j = ones (bitXor (sumOfRows row k (gray j)) x)
 
-pub bits-of-word : {k last word i : ℕ} {row : ℕ → ℕ} (x : ℕ) → AtSet k row last word i → ones (bitXor word x) ≡ unlikeBits k row x i
-bits-of-word x at = ap (λ (w : ℕ). ones (bitXor w x)) (at .current)
+pub bits-apart : {k x limit last apart i : ℕ} {row far : ℕ → ℕ} → AtCandidate k row x far limit last apart i
+    → ones apart ≡ unlikeBits k row x i
+bits-apart stand = rw (stand .differ, stand .at .current)
 
 -- codeword and chunk are numbers of n places, so it counts the places in which they differ, and the search reads the chunk
 pub search-reads : (C : Code) → Sound C → (x : ℕ) → x < 2 ^ C .n → (t : ℕ) → t ≡ radius C

@@ -1,9 +1,10 @@
 // The fields of a card, and what refusals 2, 3 and 4 test of them.
 ghost use mathlib.Core.Path.{_≡_};
 ghost use mathlib.Core.Bool.{_||_};
-ghost use Prim.Native.Nat.{_+_, _^_, _≤_, _<_};
+ghost use Prim.Native.Nat.{_+_, _*_, _^_, _≤_, _<_};
 ghost use lib.Dec.{leb};
 ghost use lib.ListN.{length, getD};
+ghost use Rattle.bits.specs.Sums.{sumBelow};
 ghost use Rattle.model.specs.Card.{byte, highFirst, rowOf, trackOf, storedCheck, computedCheck, withinLimits, rowTooWide, unusedRowSet, unusedByteSet};
 
 // A byte as a number of 64 bits.
@@ -51,18 +52,31 @@ pub fn stored_check(card: &[u8]) -> u32
     high_first(card, 510, 2) as u32
 }
 
-// The check that the card should carry. Where no unused byte is set, the bytes from 100 on add nothing.
-pub fn computed_check(card: &[u8], unused_set: bool) -> u32
-    requires { ⌜ (length (now card) ≡ 512) × («unused_set» ≡ unusedByteSet (now card)) ⌝ }
-    ensures { λ r. ⌜ r ≡ computedCheck (now (card .entry)) ⌝ }
+// The sum over the first `end` places of (place + 1) × byte.
+fn weighted_sum(card: &[u8], end: usize) -> u32
+    requires { ⌜ (length (now card) ≡ 512) × (end ≤ 510) ⌝ }
+    ensures { λ r. ⌜ r ≡ sumBelow (λ p. (p + 1) * byte (now (card .entry)) p) end ⌝ }
 {
-    let end: usize = if unused_set { 510 } else { 100 };
     let mut total: u32 = 0;
     let mut p: usize = 0;
     while p < end {
         total += (p as u32 + 1) * byte_at(card, p);
         p += 1;
     }
+    total
+}
+
+// The check that the card should carry. Where no unused byte is set, the bytes from 100 on add nothing. Each sum's end is a
+// constant, so that the compiler knows the weights of the short one and takes many bytes in one step.
+pub fn computed_check(card: &[u8], unused_set: bool) -> u32
+    requires { ⌜ (length (now card) ≡ 512) × («unused_set» ≡ unusedByteSet (now card)) ⌝ }
+    ensures { λ r. ⌜ r ≡ computedCheck (now (card .entry)) ⌝ }
+{
+    let total = if unused_set {
+        weighted_sum(card, 510)
+    } else {
+        weighted_sum(card, 100)
+    };
     total % 65521
 }
 

@@ -23,8 +23,9 @@ pub fn radius_of(code: DecodedCode) -> u32
 // The codeword within the radius of the chunk `x`, with the count of places in which the two differ: the status is 0, and the
 // values are the codeword's number and the count; the status is 10 where there is no such codeword.
 // Document 01 names the form: nested loops, over codewords and, inside, over bits. A label leaves the bit loop once the radius
-// is passed, and the loop over codewords yields its value by `break`. The bits met are those in which codeword and chunk
-// differ: each turn counts one and, unless the radius is passed, clears the lowest of them.
+// is passed, and the loop over codewords yields its value by `break`. What is kept of codeword i is `apart`, the places in which
+// it and the chunk differ: from one codeword to the next they change by one row. The bits met are those: each turn counts one
+// and, unless the radius is passed, clears the lowest that is left.
 pub fn read_chunk(code: DecodedCode, x: u64) -> Chunk
     requires { ⌜ Sound (meaning code) × (x < 2 ^ code .n) ⌝ }
     ensures answer { λ r. ⌜ r ≡ chunkReading (meaning code) (bit x) ⌝ }
@@ -34,11 +35,11 @@ pub fn read_chunk(code: DecodedCode, x: u64) -> Chunk
     let k = code.k;
     let rows = code.rows;
     let radius = radius_of(code);
-    let last = powers::two_to(k) - 1;
-    let mut word: u64 = 0;
+    let size = powers::two_to(k);
+    let mut apart = x;
     let mut i: u32 = 0;
     let found = loop {
-        let mut rest = word ^ x;
+        let mut rest = apart;
         let mut unlike: u32 = 0;
         'bits: while rest != 0 {
             unlike += 1;
@@ -50,12 +51,12 @@ pub fn read_chunk(code: DecodedCode, x: u64) -> Chunk
         if unlike <= radius {
             break Chunk::Codeword { number: i, unlike };
         }
-        if i == last {
+        i += 1;
+        if i == size {
             break Chunk::Unreadable;
         }
-        i += 1;
         let z = u32::trailing_zeros(i) as usize;
-        word ^= rows[z];
+        apart ^= rows[z];
     };
     found
 }

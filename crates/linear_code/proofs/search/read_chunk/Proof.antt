@@ -7,7 +7,7 @@ use mathlib.Core.Logic.{⊎-elim}
 use Prim.Native.Nat.{ℕ, _+_, _-_, _^_, _≤_, _<_}
 use native.Mathlib.Omega.{arith}
 use borrow.Author.Needs.{needs}
-use lib.Bits.{bitXor, and-le-r}
+use lib.Bits.{and-le-r}
 use lib.Count.{ones, trailingZeros}
 use lib.Dec.{ltb}
 use lib.ListN.{getD}
@@ -23,7 +23,7 @@ use Rattle.model.specs.declared.Chunk.the-variants.{Codeword, Unreadable}
 use Rattle.linear_code.proofs.GrayStep.{row-of-twelve}
 use Rattle.linear_code.proofs.ChunkSearch.{Counted, one-counted, counted-all, counted-past}
 use Rattle.linear_code.proofs.ChunkSearch.{AtCandidate, search-starts, search-goes-on, search-found, search-failed}
-use Rattle.linear_code.proofs.ChunkSearch.{unlikeBits, bits-of-word, search-reads}
+use Rattle.linear_code.proofs.ChunkSearch.{unlikeBits, bits-apart, search-reads}
 use Rattle.linear_code.proofs.search.read_chunk.Statement.{statement}
 use Rattle.linear_code.proofs.search.read_chunk.Tie as tie
 
@@ -48,23 +48,20 @@ meets : (code : Code) (x : ℕ → ℕ) (read : Chunk) → read ≡ chunkReading
 meets code x read e = rw e (refl, chunk-told code x)
 
 abbrev Inv-bits : tie.InvT-bits
-Inv-bits x k rows radius last word i rest₀ unlike₀ rest unlike = (unlike ≤ radius) × (unlike + ones rest ≡ ones (bitXor word x))
+Inv-bits x k rows radius size apart i rest₀ unlike₀ rest unlike = (unlike ≤ radius) × (unlike + ones rest ≡ ones apart)
 
 abbrev μ-bits : tie.MeasureT-bits
-μ-bits x k rows radius last word i rest₀ unlike₀ rest unlike = rest
+μ-bits x k rows radius size apart i rest₀ unlike₀ rest unlike = rest
 
 abbrev Inv-loop : tie.InvT-loop
-Inv-loop x k rows radius last word₀ i₀ word i =
-    let row : ℕ → ℕ = λ z. getD rows z 0 in AtCandidate k row (unlikeBits k row x) radius last word i
+Inv-loop x k rows radius size apart₀ i₀ apart i =
+    let row : ℕ → ℕ = λ z. getD rows z 0 in AtCandidate k row x (unlikeBits k row x) radius (size - 1) apart i
 
 abbrev μ-loop : tie.MeasureT-loop
-μ-loop x k rows radius last word₀ i₀ word i = last - i
-
-sub-last : tie.Need-sub-last Inv-bits μ-bits Inv-loop μ-loop
-sub-last c = omega (arith, c .two-to .ensures, pow-pos (c .before .before .before .args .code .k))
+μ-loop x k rows radius size apart₀ i₀ apart i = size - i
 
 loop-holds : tie.Need-loop-holds Inv-bits μ-bits Inv-loop μ-loop
-loop-holds c = search-starts _ _ _ _ _ (c .two-to .ensures)
+loop-holds c = search-starts _ _ _ _ _ _ (c .two-to .ensures)
 
 bits-holds : tie.Need-bits-holds Inv-bits μ-bits Inv-loop μ-loop
 bits-holds c = (omega arith, omega arith)
@@ -78,7 +75,7 @@ bits-again c = (omega arith, one-counted _ _ _ (c .before .before .bits .inv .1)
 -- the two ways out of the loop over bits
 counted : (c : tie.Left-bits Inv-bits μ-bits Inv-loop μ-loop)
     → let at = c .before .before in
-    Counted (at .before .before .radius-of .result) (bitXor (at .loop .word) (at .before .before .before .before .args .x)) (c .bits-test .unlike)
+    Counted (at .before .before .radius-of .result) (at .loop .apart) (c .bits-test .unlike)
 counted c =
     let all = c .before .bits .inv .1 in
     ⊎-elim (λ w. rw (w .1) (counted-all _ _ _ _ all (w .0 .left))) (λ w. rw (w .2) (counted-past _ _ _ _ all (w .0 .taken) (w .1 .taken)))
@@ -93,30 +90,37 @@ far : (c : tie.Left-bits Inv-bits μ-bits Inv-loop μ-loop)
     < unlikeBits (first .args .code .k) (λ z. getD (first .args .code .rows) z 0) (first .args .x) (at .loop .i)
 far c past =
     let at = c .before .before in
-    let first = at .before .before .before .before in
-    rw (← bits-of-word (first .args .x) (at .loop .inv .at)) (counted c .past past)
+    rw (← bits-apart (at .loop .inv)) (counted c .past past)
+
+-- where the search goes on, a codeword is left
+more : (c : tie.Else3 Inv-bits μ-bits Inv-loop μ-loop)
+    → let at = c .before .before .before .before in
+    at .loop .i < at .before .two-to .result - 1
+more c =
+    let at = c .before .before .before .before in
+    omega (arith, at .loop .inv .at .within, c .if3 .left, at .before .two-to .ensures, pow-pos (at .before .before .before .before .args .code .k))
 
 -- the number of the row that is added
 row : (c : tie.Else3 Inv-bits μ-bits Inv-loop μ-loop) → trailingZeros 32 (c .before .before .before .before .loop .i + 1) < 12
 row c =
     let at = c .before .before .before .before in
     let first = at .before .before .before .before in
-    row-of-twelve (first .pre .0 .k-high) (at .loop .inv .at) (omega (arith, at .loop .inv .at .within))
+    row-of-twelve (first .pre .0 .k-high) (at .loop .inv .at) (more c)
 
 cast-z : tie.Need-cast-z Inv-bits μ-bits Inv-loop μ-loop
 cast-z c = omega (arith, row c)
 
-mul-word : tie.Need-mul-word Inv-bits μ-bits Inv-loop μ-loop
-mul-word c = omega (arith, row c)
+mul-apart : tie.Need-mul-apart Inv-bits μ-bits Inv-loop μ-loop
+mul-apart c = omega (arith, row c)
 
-array-read-word : tie.Need-array-read-word Inv-bits μ-bits Inv-loop μ-loop
-array-read-word c = row c
+array-read-apart : tie.Need-array-read-apart Inv-bits μ-bits Inv-loop μ-loop
+array-read-apart c = row c
 
 loop-again : tie.Need-loop-again Inv-bits μ-bits Inv-loop μ-loop
 loop-again c =
     let at = c .before .before .before .before in
     let first = at .before .before .before .before in
-    search-goes-on _ _ _ _ _ _ _ (at .loop .inv) (first .pre .0 .k-high) (c .if3 .left) (far (c .before .before) (c .before .if2 .left))
+    search-goes-on _ _ _ _ _ _ _ _ (at .loop .inv) (first .pre .0 .k-high) (more c) (far (c .before .before) (c .before .if2 .left))
 
 -- what the search for this chunk reads is the chunk's reading
 read : (c : tie.At-loop Inv-bits μ-bits Inv-loop μ-loop)
@@ -131,14 +135,14 @@ read c =
 returns : tie.Need-returns Inv-bits μ-bits Inv-loop μ-loop
 returns c =
     let at = c .before .before .before in
-    let first = at .before .before .before .before in
-    let whole = counted (c .before) .whole (c .if2 .taken) ∙ bits-of-word (first .args .x) (at .loop .inv .at) in
-    meets _ _ _ (search-found _ _ _ _ _ _ _ (at .loop .inv) _ whole (c .if2 .taken) ∙ read at)
+    let whole = counted (c .before) .whole (c .if2 .taken) ∙ bits-apart (at .loop .inv) in
+    meets _ _ _ (search-found _ _ _ _ _ _ _ _ (at .loop .inv) _ whole (c .if2 .taken) ∙ read at)
 
 returns-2 : tie.Need-returns-2 Inv-bits μ-bits Inv-loop μ-loop
 returns-2 c =
     let at = c .before .before .before .before in
-    meets _ _ _ (search-failed _ _ _ _ _ _ _ (at .loop .inv) (c .if3 .taken) (far (c .before .before) (c .before .if2 .left)) ∙ read at)
+    let farther = far (c .before .before) (c .before .if2 .left) in
+    meets _ _ _ (search-failed _ _ _ _ _ _ _ _ (at .loop .inv) (omega (arith, c .if3 .taken)) farther ∙ read at)
 
 pub read-chunk-spec : {M : Type 1} → statement M
 read-chunk-spec =
@@ -150,7 +154,6 @@ read-chunk-spec =
     μ-loop
     (λ c κs. search needs)
     (λ c κs. search needs)
-    sub-last
     loop-holds
     bits-holds
     (λ c. search needs)
@@ -159,8 +162,8 @@ read-chunk-spec =
     bits-again
     (λ c. search needs)
     cast-z
-    mul-word
-    array-read-word
+    mul-apart
+    array-read-apart
     (λ c. search needs)
     loop-again
     returns
