@@ -25,8 +25,7 @@ use Rattle.code_theory.proofs.LeastOfSets.{AtMostEach, least-in-any-order}
 use Rattle.linear_code.proofs.GrayStep.{AtSet, set-start, row-below, set-next}
 use Rattle.linear_code.proofs.LeastOf.{LeastOf, least-of-same}
 use Rattle.linear_code.proofs.LowSums.{Table}
-use Rattle.linear_code.proofs.Rows.{Narrow}
-use Rattle.linear_code.proofs.SplitRows.{behind, rows-split}
+use Rattle.linear_code.proofs.Rows.{Narrow, behind, rows-split}
 
 -- the sum of set j of the low rows and set h of the rows behind
 abbrev both : (low high : ℕ) (row : ℕ → ℕ) (h j : ℕ) → ℕ

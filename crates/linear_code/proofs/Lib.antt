@@ -1,11 +1,8 @@
-pub mod Bytes
-pub mod JoinedBytes
-pub mod CheckSum
+pub mod CardBytes
 pub mod Refusals
 pub mod Rows
 pub mod Decoding
 pub mod GrayStep
-pub mod SplitRows
 pub mod LowSums
 pub mod LeastOf
 pub mod LeastWeightLoop

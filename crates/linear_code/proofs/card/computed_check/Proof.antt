@@ -1,10 +1,10 @@
 -- `linear_code::card::computed_check` meets its contract: the sum over all places ends at place 100 where no unused byte is set.
 -- Assumes nothing.
-use mathlib.Core.Path.{_≡_, sym, _∙_}
+use mathlib.Core.Path.{sym, _∙_}
 use mathlib.Core.Logic.{⊎-elim}
 use borrow.Author.Needs.{needs}
 use Rattle.model.specs.Card.{computedCheck}
-use Rattle.linear_code.proofs.CheckSum.{ends-at-used}
+use Rattle.linear_code.proofs.CardBytes.{ends-at-used}
 use Rattle.linear_code.proofs.card.computed_check.Statement.{statement}
 use Rattle.linear_code.proofs.card.computed_check.Tie as tie
 

@@ -6,7 +6,7 @@ use borrow.Author.Needs.{needs}
 use native.Mathlib.Nat.{sub-self}
 use native.Mathlib.Omega.{arith}
 use Rattle.model.specs.Card.{highFirst}
-use Rattle.linear_code.proofs.Bytes.{high-first-more, byte-more, bytes-fit}
+use Rattle.linear_code.proofs.CardBytes.{high-first-more, byte-more, bytes-fit}
 use Rattle.linear_code.proofs.card.high_first.Statement.{statement}
 use Rattle.linear_code.proofs.card.high_first.Tie as tie
 

@@ -8,7 +8,7 @@ use native.Mathlib.Omega.{arith}
 use lib.Dec.{eqb}
 use Rattle.bits.specs.Searches.{anyBelow}
 use Rattle.model.specs.Card.{byte, unusedByteSet}
-use Rattle.linear_code.proofs.JoinedBytes.{join-more}
+use Rattle.linear_code.proofs.CardBytes.{join-more}
 use Rattle.linear_code.proofs.card.unused_byte_set.Statement.{statement}
 use Rattle.linear_code.proofs.card.unused_byte_set.Tie as tie
 

@@ -6,7 +6,7 @@ use borrow.Author.Needs.{needs}
 use native.Mathlib.Omega.{arith}
 use Rattle.bits.specs.Sums.{sumBelow}
 use Rattle.bits.proofs.Sums.{sum-more}
-use Rattle.linear_code.proofs.CheckSum.{summand, summand-most}
+use Rattle.linear_code.proofs.CardBytes.{summand, summand-most}
 use Rattle.linear_code.proofs.card.weighted_sum.Statement.{statement}
 use Rattle.linear_code.proofs.card.weighted_sum.Tie as tie
 

@@ -1,11 +1,12 @@
 -- `reader::nearest::nearest_before` meets its contract: block p - 1 from separator 2 to its end. Assumes nothing.
-use mathlib.Core.Path.{_≡_, _∙_}
+use mathlib.Core.Path.{_≡_, ap, _∙_}
 use Prim.Native.Nat.{_+_, _-_, _<_}
 use native.Mathlib.Omega.{arith}
 use borrow.Author.Needs.{needs}
 use Rattle.model.specs.Decoded.{meaning}
 use Rattle.model.specs.Order.{lastCodeword}
 use Rattle.model.specs.Reading.{range₁}
+use Rattle.reader.specs.Received.{positionAt}
 use Rattle.reader.proofs.RuleRanges.{at-separator₂, at-end}
 use Rattle.reader.proofs.Scanning.{answer-of-search}
 use Rattle.reader.proofs.nearest.nearest_before.Statement.{statement}
@@ -23,8 +24,8 @@ returns c =
     let inside : i < lastCodeword C = omega arith in
     c .found .ensures
     ∙ answer-of-search C _ 1 (range₁ C (first .args .p)) _ scanned
-    (rw here at (rw (at .separator₂-at) at low ∙ at-separator₂ C sound i inside))
-    (rw here at (rw (at .bits-are) at position ∙ at-end C sound i inside))
+    (rw here at (low ∙ ap (positionAt C i) (at .separator₂-at) ∙ at-separator₂ C sound i inside))
+    (rw here at (position ∙ ap (positionAt C i) (at .bits-are) ∙ at-end C sound i inside))
 
 pub nearest-before-spec : {M : Type 1} → statement M
 nearest-before-spec =

@@ -1,12 +1,13 @@
 -- `reader::nearest::search_before_start` meets its contract: at the first start there is nothing before, and at any other one separator
 -- 3 of the block before. Assumes nothing.
-use mathlib.Core.Path.{_≡_, _∙_, sym}
+use mathlib.Core.Path.{_≡_, _∙_, sym, ap}
 use Prim.Native.Nat.{_+_, _-_, _<_}
 use native.Mathlib.Omega.{arith}
 use borrow.Author.Needs.{needs}
 use Rattle.model.specs.Decoded.{meaning}
 use Rattle.model.specs.Order.{lastCodeword, start}
 use Rattle.code_theory.proofs.Starts.{start-zero}
+use Rattle.reader.specs.Received.{positionAt}
 use Rattle.reader.proofs.BlockResiduals.{first-word, count-is-residual}
 use Rattle.reader.proofs.RuleRanges.{at-separator₃, at-end}
 use Rattle.reader.proofs.Scanning.{scanned-first}
@@ -30,8 +31,8 @@ returns-2 c =
     let i = first .args .p - 1 in
     let here : first .args .p ≡ i + 1 = omega (arith, c .before .before .if1 .left) in
     let inside : i < lastCodeword C = omega (arith, c .before .before .if1 .left, first .pre .2) in (
-      rw (← here) at (rw (at .separator₃-at) at low ∙ at-separator₃ C (first .pre .0) i inside),
-      rw (← here) at (rw (at .bits-are) at position ∙ at-end C (first .pre .0) i inside),
+      rw (← here) at (low ∙ ap (positionAt C i) (at .separator₃-at) ∙ at-separator₃ C (first .pre .0) i inside),
+      rw (← here) at (position ∙ ap (positionAt C i) (at .bits-are) ∙ at-end C (first .pre .0) i inside),
       scanned,
     )
 

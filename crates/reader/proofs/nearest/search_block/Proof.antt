@@ -13,6 +13,16 @@ use Rattle.reader.proofs.nearest.search_block.Tie as tie
 add-word-of : tie.Need-add-word-of
 add-word-of c = omega (arith, c .before .pre .2, last-codeword-bound (meaning (c .before .args .code)) (c .before .pre .0))
 
+returns : tie.Need-returns
+returns c =
+    let started = c .before in
+    let new = started .before in
+    let old = new .before in
+    let first = old .before in
+    let (sound, spare, inside, forward, room) = first .pre in
+    block-searched (meaning (first .args .code)) sound (first .args .i) inside _ _ (old .word-of .ensures) (new .word-of2 .ensures) _ spare
+    _ _ _ _ (started .block-start .ensures) forward room (c .search-places .ensures)
+
 search-places-requires : tie.Need-search-places-requires
 search-places-requires c κs =
     let first = c .before .before .before in
@@ -23,16 +33,6 @@ search-places-requires c κs =
       rw (c .block-start .ensures)
           (omega (arith, start-on-track C (promise C sound) (first .args .i) (omega (arith, first .pre .2)), last-position-bound C sound)),
     )
-
-returns : tie.Need-returns
-returns c =
-    let started = c .before in
-    let new = started .before in
-    let old = new .before in
-    let first = old .before in
-    let (sound, spare, inside, forward, room) = first .pre in
-    block-searched (meaning (first .args .code)) sound (first .args .i) inside _ _ (old .word-of .ensures) (new .word-of2 .ensures) _ spare
-    _ _ _ _ (started .block-start .ensures) forward room (c .search-places .ensures)
 
 pub search-block-spec : {M : Type 1} → statement M
 search-block-spec =
