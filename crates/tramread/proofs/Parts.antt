@@ -1,5 +1,4 @@
--- What is put out is a part of a report: the card's line, the lines of a turn, and the last part. Of a refused card the line is the last
--- part; of a sound one it is the last part of the words' report, which follows the card's line. Assumes nothing.
+-- What is put out is a part of a report: the card's line, and the last part. Of a refused card the line is the last part; of a sound one it is the last part of the words' report, which follows the card's line. Assumes nothing.
 use Prim.Native.Nat.{ℕ, _≤_}
 use mathlib.Core.Path.{_≡_, sym, _∙_}
 use mathlib.Core.Bool.{cond}
@@ -9,15 +8,12 @@ use lib.ListN.{length, take, drop}
 use lib.Seq.{take-all}
 use Rattle.model.specs.Card.{Code, cardRefusal, codeOf, SoundCard}
 use Rattle.model.specs.Answers.{cardAnswer}
-use Rattle.report.specs.Lines.{cardLine, shortLine, lastLine}
+use Rattle.report.specs.Lines.{cardLine}
 use Rattle.report.specs.Report.{wordsReport, reportOf}
-use Rattle.stream.specs.declared.turn.Progress.{Progress}
-use Rattle.stream.specs.Streamed.{Streamed}
-use Rattle.stream.proofs.Streaming.{report-streamed}
 use Rattle.stream.proofs.Whole.{report-of-sound, report-of-refused}
-use Rattle.tramread.specs.declared.Ended.{Ended}
-use Rattle.tramread.specs.declared.Ended.the-variants.{At, Failed}
-use Rattle.tramread.specs.Parts.{FromCard, PartOfReport, Completed, LastPart}
+use Rattle.word_loop.specs.declared.Ended.{Ended}
+use Rattle.word_loop.specs.declared.Ended.the-variants.{At, Failed}
+use Rattle.word_loop.specs.Parts.{PartOfReport, Completed, LastPart}
 
 -- the report, as a function of what comes in behind the card
 abbrev behind : (card came : List ℕ) → List ℕ
@@ -33,17 +29,6 @@ card-line-part card short line =
       before = [];
       after = cond (eqb (cardRefusal card) 0) (wordsReport (codeOf card) (drop 512 card)) [];
       whole = rw (all, line);
-    }
-
--- the lines of a turn, which follow the text before them
-pub turn-lines-part : (C : Code) → FromCard C → {all input : List ℕ} (text lines : List ℕ) {p : Progress}
-    → Streamed C all (text ++ lines) input p → PartOfReport lines
-turn-lines-part C from {all} text lines {p} s =
-    record {
-      input = from .card ++ all;
-      before = cardLine (cardAnswer (from .card)) ++ text;
-      after = shortLine (p .held) ++ lastLine (p .met) (p .read);
-      whole = report-of-sound (from .card) (from .sound) all ∙ rw (← (from .is), report-streamed C s) (simp append-assoc);
     }
 
 -- the last part

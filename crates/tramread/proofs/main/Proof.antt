@@ -5,19 +5,19 @@ use native.Mathlib.Omega.{arith}
 use borrow.Author.Needs.{needs}
 use lib.ListN.{take}
 use lib.Seq.{length-take-le}
-use Rattle.tramread.specs.Parts.{LastPart}
+use Rattle.word_loop.specs.Parts.{LastPart}
 use Rattle.tramread.proofs.Parts.{last-part}
 use Rattle.tramread.proofs.main.Statement.{statement}
 use Rattle.tramread.proofs.main.Tie as tie
 
 slice-aggregate-report-on : tie.Need-slice-aggregate-report-on
-slice-aggregate-report-on c = sym (length-take-le _ _ (c .before .before .before .before .before .receive-all .ensures))
+slice-aggregate-report-on c = sym (length-take-le _ _ (c .before .before .before .before .before .receive-card .ensures))
 
 report-on-requires : tie.Need-report-on-requires
 report-on-requires c κs =
     let card = c .before .before .before .before .before .before .before in
     let made = c .before .before .before in (
-      rw (length-take-le (card .receive-all .result .end) (card .receive-all .last .0) (card .receive-all .ensures)) (omega arith),
+      rw (length-take-le (card .receive-card .result .end) (card .receive-card .last .0) (card .receive-card .ensures)) (omega arith),
       (sym (made .before .input-buffer .ensures), sym (made .line-buffer .ensures)),
     )
 
@@ -28,7 +28,7 @@ put-out-requires c κs =
     let report = known .before .before .before .before in
     let last = rw (known .ended .given .1) at (report .report-on .ensures) in
     let card = report .before .before .before .before .before .before .before .before in
-    (last .0, last-part (take (card .receive-all .result .end) (card .receive-all .last .0)) (last .1))
+    (last .0, last-part (take (card .receive-card .result .end) (card .receive-card .last .0)) (last .1))
 
 pub main-spec : {M : Type 1} → statement M
 main-spec =

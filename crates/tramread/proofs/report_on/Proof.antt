@@ -7,7 +7,7 @@ use lib.ListN.{take}
 use Rattle.model.specs.Answers.{cardAnswer}
 use Rattle.report.specs.Lines.{cardLine}
 use Rattle.stream.proofs.Streaming.{text-at-front}
-use Rattle.tramread.specs.Parts.{LastPart}
+use Rattle.word_loop.specs.Parts.{LastPart}
 use Rattle.tramread.proofs.Parts.{card-line-part, refused-card-line, words-behind-card}
 use Rattle.tramread.proofs.report_on.Statement.{statement}
 use Rattle.tramread.proofs.report_on.Tie as tie

@@ -1,26 +1,26 @@
--- `tramread::system::put_out` is safe and ends. The loop's invariant: no more bytes are done than there are. The measure is the tries
+-- `standard_io::put_all` is safe and ends. The loop's invariant: no more bytes are done than there are. The measure is the tries
 -- that are left. Assumes nothing.
 use Prim.Native.Nat.{_≤_}
 use mathlib.Core.Logic.{⊎-elim}
 use native.Mathlib.Omega.{arith}
 use borrow.Author.Needs.{needs}
 use lib.ListN.{length-take}
-use Rattle.tramread.proofs.system.put_out.Statement.{statement}
-use Rattle.tramread.proofs.system.put_out.Tie as tie
+use Rattle.standard_io.proofs.put_all.Statement.{statement}
+use Rattle.standard_io.proofs.put_all.Tie as tie
 
 abbrev Inv-loop : tie.InvT-loop
-Inv-loop buffer end done₀ tries₀ done tries = done ≤ end
+Inv-loop buffer end told done₀ tries₀ done tries = done ≤ end
 
 abbrev μ-loop : tie.MeasureT-loop
-μ-loop buffer end done₀ tries₀ done tries = tries
+μ-loop buffer end told done₀ tries₀ done tries = tries
 
 loop-again : tie.Need-loop-again Inv-loop μ-loop
 loop-again c =
     let inv = c .before .before .before .before .before .loop .inv in
     ⊎-elim (λ w. rw (w .3) (omega (arith, simp length-take at (w .2 .ensures .0 .0)))) (λ w. rw (w .3) inv) (c .if2 .came)
 
-pub put-out-spec : {M : Type 1} → statement M
-put-out-spec =
+pub put-all-spec : {M : Type 1} → statement M
+put-all-spec =
     tie.close
     (tie.spec
     Inv-loop

@@ -1,12 +1,10 @@
-// Standard input and standard output. A call of the system's that was interrupted is made again; any other failure is told in one
-// line on standard error, what failed and the system's reason, and answered to the caller. What a call reads or writes is the
-// system's: no contract speaks of it.
+// Standard input and standard output of a program. A call of the system's that was interrupted is made again; any other failure is
+// told in one line on standard error, the text `told` that the caller gives and the system's reason, and answered to the caller.
+// What a call reads or writes is the system's: no contract speaks of it.
 ghost use mathlib.Core.Path.{_≡_};
 ghost use Prim.Native.Nat.{_≤_};
 ghost use lib.ListN.{length, take};
-ghost use Rattle.tramread.specs.Parts.{PartOfReport};
 use libc::EINTR;
-use libc::STDERR_FILENO;
 use libc::STDIN_FILENO;
 use libc::STDOUT_FILENO;
 
@@ -20,19 +18,11 @@ pub struct Received {
     pub failed: bool,
 }
 
-// Tells on standard error how the program is used.
-pub fn tell_usage() {
-    io::write_all(
-        STDERR_FILENO,
-        b"usage: tramread < INPUT   (a card of 512 bytes, then words)\n",
-    );
-}
-
 // A read that failed brought nothing.
-fn read_failed(held: usize) -> Received
+fn read_failed(held: usize, told: &[u8]) -> Received
     ensures { λ r. ⌜ r .end ≡ held ⌝ }
 {
-    os::fail(b"tramread: reading standard input");
+    os::fail(told);
     Received {
         end: held,
         failed: true,
@@ -40,14 +30,14 @@ fn read_failed(held: usize) -> Received
 }
 
 // A write that failed.
-fn write_failed() -> bool {
-    os::fail(b"tramread: writing standard output");
+fn write_failed(told: &[u8]) -> bool {
+    os::fail(told);
     false
 }
 
 // Reads once, into the buffer's bytes from place `held` up to `full`. The bytes in use are as many as before, `held`, where the input
 // has ended or the system failed. What is held stays as it is.
-pub fn receive(buffer: &mut [u8], held: usize, full: usize) -> Received
+pub fn receive(buffer: &mut [u8], held: usize, full: usize, told: &[u8]) -> Received
     requires { ⌜ (held ≤ full) × (full ≤ length (now buffer)) ⌝ }
     ensures { λ r. ⌜ (held ≤ r .end) × (r .end ≤ full) ⌝ }
     ensures { λ r. ⌜ take held (now (buffer .exit)) ≡ take held (now (buffer .entry)) ⌝ }
@@ -62,21 +52,21 @@ pub fn receive(buffer: &mut [u8], held: usize, full: usize) -> Received
             };
         }
         if os::errno() != EINTR {
-            return read_failed(held);
+            return read_failed(held, told);
         }
         tries -= 1;
     }
-    read_failed(held)
+    read_failed(held, told)
 }
 
 // Reads until the buffer is full or the input ends.
-pub fn receive_all(buffer: &mut [u8]) -> Received
+pub fn receive_all(buffer: &mut [u8], told: &[u8]) -> Received
     ensures { λ r. ⌜ r .end ≤ length (now (buffer .exit)) ⌝ }
 {
     let full = buffer.len();
     let mut held: usize = 0;
     while held < full {
-        let came = receive(buffer, held, full);
+        let came = receive(buffer, held, full, told);
         let end = came.end;
         if end == held {
             return came;
@@ -89,22 +79,21 @@ pub fn receive_all(buffer: &mut [u8]) -> Received
     }
 }
 
-// Writes the first `end` bytes of the buffer, which are a part of a report, and answers whether all of them were taken.
-pub fn put_out(buffer: &[u8], end: usize) -> bool
+// Writes the first `end` bytes of the buffer, and answers whether all of them were taken.
+pub fn put_all(buffer: &[u8], end: usize, told: &[u8]) -> bool
     requires { ⌜ end ≤ length (now buffer) ⌝ }
-    requires { ⌜ PartOfReport (take end (now buffer)) ⌝ }
 {
     let mut done: usize = 0;
     let mut tries = TRIES;
     while done < end {
         if tries == 0 {
-            return write_failed();
+            return write_failed(told);
         }
         let got = libc::write(STDOUT_FILENO, &buffer[done..end]);
         if got > 0 {
             done += io::count(got, &buffer[done..end]);
         } else if os::errno() != EINTR {
-            return write_failed();
+            return write_failed(told);
         }
         tries -= 1;
     }

@@ -3,14 +3,18 @@
 -- Assumes nothing.
 use Prim.Native.Nat.{ℕ, _+_, _≤_, _<_}
 use mathlib.Core.Path.{_≡_, _∙_}
-use mathlib.Core.List.{List, [], _++_}
+use mathlib.Core.List.{List, [], _++_, append-assoc}
 use native.Mathlib.Omega.{arith}
 use lib.ListN.{length, take, drop, length-append, length-drop}
 use lib.Seq.{length-take-le}
 use Rattle.model.specs.Card.{Code}
+use Rattle.model.specs.Answers.{cardAnswer}
+use Rattle.report.specs.Lines.{cardLine, shortLine, lastLine}
 use Rattle.stream.specs.declared.turn.Progress.{Progress}
 use Rattle.stream.specs.Streamed.{Streamed, Follows}
-use Rattle.stream.proofs.Streaming.{streamed-nothing}
+use Rattle.stream.proofs.Streaming.{streamed-nothing, report-streamed}
+use Rattle.stream.proofs.Whole.{report-of-sound}
+use Rattle.word_loop.specs.Parts.{FromCard, PartOfReport}
 
 pub record Reached (C : Code) (input : List ℕ) (p : Progress) (turns : ℕ) : Type 0 where
   pub all : List ℕ
@@ -45,4 +49,15 @@ reached-turn C input n p lines input′ p′ follows some within reached =
       text = reached .text ++ lines;
       streamed = follows (reached .all) (reached .text) (reached .streamed);
       each-turn = rw (length-append, length-drop, arrived) (omega (arith, reached .each-turn));
+    }
+
+-- the lines of a turn, which follow the text before them, are a part of the report
+pub turn-lines-part : (C : Code) → FromCard C → {all input : List ℕ} (text lines : List ℕ) {p : Progress}
+    → Streamed C all (text ++ lines) input p → PartOfReport lines
+turn-lines-part C from {all} text lines {p} s =
+    record {
+      input = from .card ++ all;
+      before = cardLine (cardAnswer (from .card)) ++ text;
+      after = shortLine (p .held) ++ lastLine (p .met) (p .read);
+      whole = report-of-sound (from .card) (from .sound) all ∙ rw (← (from .is), report-streamed C s) (simp append-assoc);
     }

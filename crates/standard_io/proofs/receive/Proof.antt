@@ -1,4 +1,4 @@
--- `tramread::system::receive` meets its contract. The loop's invariant: the buffer is as long as it was, and what is held stands in it
+-- `standard_io::receive` meets its contract. The loop's invariant: the buffer is as long as it was, and what is held stands in it
 -- as it stood; a read fills a part of the buffer and leaves what stands before it. The measure is the tries that are left.
 -- Assumes nothing.
 use Prim.Native.Nat.{_-_, _≤_}
@@ -7,24 +7,24 @@ use native.Mathlib.Omega.{arith}
 use borrow.Author.Needs.{needs}
 use borrow.Rule.Slice.PartMut.{putMid, same-len-mid, take-put}
 use lib.ListN.{length, take, length-take}
-use Rattle.tramread.proofs.system.receive.Statement.{statement}
-use Rattle.tramread.proofs.system.receive.Tie as tie
+use Rattle.standard_io.proofs.receive.Statement.{statement}
+use Rattle.standard_io.proofs.receive.Tie as tie
 
 abbrev Inv-loop : tie.InvT-loop
-Inv-loop buffer₀ held full tries₀ buffer tries = (length buffer ≡ length buffer₀) × (take held buffer ≡ take held buffer₀)
+Inv-loop buffer₀ held full told tries₀ buffer tries = (length buffer ≡ length buffer₀) × (take held buffer ≡ take held buffer₀)
 
 abbrev μ-loop : tie.MeasureT-loop
-μ-loop buffer₀ held full tries₀ buffer tries = tries
+μ-loop buffer₀ held full told tries₀ buffer tries = tries
 
 -- a read keeps the invariant
 kept : (c : tie.After-read Inv-loop μ-loop)
     → let head = c .before .before .before in
-    let args = head .before .before .args in
+    let args = head .before .before .before .args in
     let left = putMid (args .held) (args .full - args .held) (head .loop .buffer) (c .read .last .1 .0) in
     (length left ≡ length (args .buffer .now)) × (take (args .held) left ≡ take (args .held) (args .buffer .now))
 kept c =
     let head = c .before .before .before in
-    let args = head .before .before .args in (
+    let args = head .before .before .before .args in (
       same-len-mid (args .held) (args .full - args .held) (head .loop .buffer) (c .read .last .1 .0) (c .read .kept .1 .0) ∙ head .loop .inv .0,
       take-put (args .held) (args .full - args .held) (head .loop .buffer) (c .read .last .1 .0) (omega arith) ∙ head .loop .inv .1,
     )
@@ -32,7 +32,7 @@ kept c =
 returns : tie.Need-returns Inv-loop μ-loop
 returns c =
     let read = c .before .before .before .before .before .before in
-    let args = read .before .before .before .before .before .args in
+    let args = read .before .before .before .before .before .before .args in
     let came : c .count .result ≤ args .full - args .held = omega (arith, simp length-take at (c .count .ensures .0 .0)) in
     ((omega arith, omega arith), kept read .1)
 

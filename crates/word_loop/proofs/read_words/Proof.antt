@@ -1,4 +1,4 @@
--- `tramread::read_words` meets its contract. The loop's invariant: some bytes that came in, at least one with each turn taken, and the
+-- `word_loop::read_words` meets its contract. The loop's invariant: some bytes that came in, at least one with each turn taken, and the
 -- lines put out for them lead to how the reader stands (`Reached`), and the numbers of words still fit when all turns have been
 -- taken, each with at most 1,600 words. Each turn adds what it received and its lines (`reached-turn`), and the end completes the
 -- report. The measure is the turns that are left. Assumes nothing.
@@ -14,11 +14,10 @@ use Rattle.model.specs.Decoded.{meaning}
 use Rattle.model.specs.Answers.{wordLength}
 use Rattle.stream.specs.Streamed.{Follows, Completes}
 use Rattle.stream.proofs.Streaming.{few-held, few-read}
-use Rattle.tramread.specs.Parts.{LastPart}
-use Rattle.tramread.proofs.Reached.{Reached, reached-first, reached-still, reached-turn}
-use Rattle.tramread.proofs.Parts.{turn-lines-part}
-use Rattle.tramread.proofs.read_words.Statement.{statement}
-use Rattle.tramread.proofs.read_words.Tie as tie
+use Rattle.word_loop.specs.Parts.{LastPart}
+use Rattle.word_loop.proofs.Reached.{Reached, reached-first, reached-still, reached-turn, turn-lines-part}
+use Rattle.word_loop.proofs.read_words.Statement.{statement}
+use Rattle.word_loop.proofs.read_words.Tie as tie
 
 abbrev Inv-loop : tie.InvT-loop
 Inv-loop code input₀ out₀ full progress₀ turns₀ input out progress turns =

@@ -6,8 +6,8 @@ use Prim.Native.Nat.{ℕ, _≤_}
 use lib.ListN.{length, take}
 use Rattle.model.specs.Card.{Code, codeOf, SoundCard}
 use Rattle.report.specs.Report.{reportOf}
-use Rattle.tramread.specs.declared.Ended.{Ended}
-use Rattle.tramread.specs.declared.Ended.the-variants.{At, Failed}
+use Rattle.word_loop.specs.declared.Ended.{Ended}
+use Rattle.word_loop.specs.declared.Ended.the-variants.{At, Failed}
 
 -- a code that a sound card gives
 pub record FromCard (C : Code) : Type 0 where
