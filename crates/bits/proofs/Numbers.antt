@@ -10,6 +10,11 @@ pub true-or-false : (b : Bool) → (b ≡ true) ⊎ (b ≡ false)
 true-or-false true = inl refl
 true-or-false false = inr refl
 
+-- a test that can't hold fails
+pub not-true : (b : Bool) → (b ≡ true → ⊥) → b ≡ false
+not-true true never = absurd (never refl)
+not-true false never = refl
+
 pub lt-or-le : (a b : ℕ) → (a < b) ⊎ (b ≤ a)
 lt-or-le a b = ⊎-elim (λ e. inl (ltb-true a b e)) (λ e. inr (ltb-false a b e)) (true-or-false (ltb a b))
 

@@ -7,7 +7,7 @@ use mathlib.Core.List.{List, [], _∷_, _++_}
 use Prim.Native.Nat.{ℕ}
 use borrow.Author.Tests.{eq-eqb, ne-eqb}
 use lib.Dec.{eqb}
-use Rattle.model.specs.Refusals.{Row, rowsBy, firstRefusal, unlessRefused}
+use Rattle.model.specs.Refusals.{Row, refusedAs, firstRefusal, unlessRefused}
 
 -- none of the rows holds
 unfoldable pub NoneHolds : List Row → Type 0
@@ -59,10 +59,10 @@ refused-if-some refusal refused served some = rw (ne-eqb refusal 0 some)
 
 -- a call that has a card: its refusal comes first, and past it the call's own rows decide
 module _ {A : Type 0} (card : ℕ) (rows : List Row) (refused : ℕ → A) (served : A) where
-  pub refused-by-card : (card ≡ 0 → ⊥) → unlessRefused (firstRefusal (rowsBy card ∷ rows)) refused served ≡ refused card
+  pub refused-by-card : (card ≡ 0 → ⊥) → unlessRefused (firstRefusal (refusedAs card ∷ rows)) refused served ≡ refused card
   unfolding firstRefusal
   refused-by-card ne = rw (ne-eqb card 0 ne) (refused-if-some card refused served ne)
 
-  pub past-card : card ≡ 0 → unlessRefused (firstRefusal (rowsBy card ∷ rows)) refused served ≡ unlessRefused (firstRefusal rows) refused served
+  pub past-card : card ≡ 0 → unlessRefused (firstRefusal (refusedAs card ∷ rows)) refused served ≡ unlessRefused (firstRefusal rows) refused served
   unfolding firstRefusal
   past-card e = rw (eq-eqb card 0 e)

@@ -1,10 +1,11 @@
 -- What is known of a sound card's code, and the chunk promise: what the theory of words and reading may know of it.
 -- Assumes nothing.
 use mathlib.Core.Path.{_≡_}
+use mathlib.Core.Bool.{Bool, true}
 use Prim.Native.Nat.{ℕ, _+_, _^_, _≤_, _<_}
-use Rattle.model.specs.Card.{Code, sumOfRows, leastWeight, radius}
+use Rattle.model.specs.Card.{Code, sumOfRows, leastWeight}
 use Rattle.model.specs.Order.{lastCodeword, changedWeight, blockLength, start}
-use Rattle.model.specs.Reading.{chunkDistance, chunkReading}
+use Rattle.model.specs.Reading.{chunkDistance, withinRadius, chunkReading}
 use Rattle.model.specs.declared.Chunk.{Chunk}
 use Rattle.model.specs.declared.Chunk.the-variants.{Codeword}
 use Rattle.code_theory.specs.LeastDistance.{codewordDistance}
@@ -22,18 +23,17 @@ pub record Sound (C : Code) : Type 0 where
   pub independent : (g : ℕ) → 0 < g → g < 2 ^ C .k → sumOfRows (C .row) (C .k) g ≡ 0 → ⊥
   pub least : C .D ≡ leastWeight (C .n) (sumOfRows (C .row) (C .k)) (2 ^ C .k)
 
--- What a reader of chunks promises, whatever its search, of codewords 0 to `last`, a count `far` of the places in which a chunk and
--- a codeword are unlike, and a limit of it, which may both go by the chunk. Two readers that promise it answer alike
--- (`readers-agree`).
-pub record ReadsWithin (X : Type 0) (last : ℕ) (far : X → ℕ → ℕ) (limit : X → ℕ) (read : X → Chunk) : Type 0 where
-  -- a chunk within the limit of codeword p reads p, with the count
-  pub reads : (x : X) (p : ℕ) → p ≤ last → far x p ≤ limit x → read x ≡ Codeword p (far x p)
-  -- a chunk that reads p is within the limit of codeword p, one of the code's, and the count is theirs
-  pub within : (x : X) (p e : ℕ) → read x ≡ Codeword p e → (p ≤ last) × (e ≡ far x p) × (e ≤ limit x)
+-- What a reader of chunks promises, whatever its search, of codewords 0 to `last`, a test which of them are near to a chunk, and a
+-- count of the places in which the two are unlike. Two readers that promise it answer alike (`readers-agree`).
+pub record ReadsNear (X : Type 0) (last : ℕ) (near : X → ℕ → Bool) (count : X → ℕ → ℕ) (read : X → Chunk) : Type 0 where
+  -- a chunk to which codeword p is near reads p, with the count
+  pub reads : (x : X) (p : ℕ) → p ≤ last → near x p ≡ true → read x ≡ Codeword p (count x p)
+  -- codeword p, one of the code's, is near to a chunk that reads p, and the count is theirs
+  pub within : (x : X) (p e : ℕ) → read x ≡ Codeword p e → (p ≤ last) × (near x p ≡ true) × (e ≡ count x p)
 
--- what a reader of code chunks promises: the codeword within the radius
+-- what a reader of code chunks promises: the codeword within the radius, and in how many places the two differ
 abbrev pub ReadsChunks : Code → ((ℕ → ℕ) → Chunk) → Type 0
-ReadsChunks C read = ReadsWithin (ℕ → ℕ) (lastCodeword C) (chunkDistance C) (λ x. radius C) read
+ReadsChunks C read = ReadsNear (ℕ → ℕ) (lastCodeword C) (withinRadius C) (chunkDistance C) read
 
 -- The chunk promise: all that the laws of words and reading know of the code and its order (only the bounds on the size of numbers,
 -- which code needs, go by the card's limits)

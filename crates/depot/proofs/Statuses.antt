@@ -14,8 +14,8 @@ use Rattle.model.specs.Words.{millimetresOf}
 use Rattle.model.specs.Answers.{summaryOf, cardAnswer, cardFigures, writeRefusal, writeAnswer, readingOf}
 use Rattle.model.specs.Answers.{readRefusal, readAnswer, readFigures}
 use Rattle.model.specs.Answers.{startRefusal, startAnswer, millimetresRefusal, millimetresAnswer}
-use Rattle.model.specs.Numbers.{ifServed, cardStatus, cardValues, writeStatus, writeValues}
-use Rattle.model.specs.Numbers.{readStatus, readValues, numberStatus, numberValues}
+use Rattle.model.specs.Statuses.{ifServed, cardStatus, cardValues, writeStatus, writeValues}
+use Rattle.model.specs.Statuses.{readStatus, readValues, numberStatus, numberValues}
 use Rattle.model.specs.declared.CardAnswer.the-variants.{Sound, Refused as CardRefused}
 use Rattle.model.specs.declared.WriteAnswer.{WriteAnswer}
 use Rattle.model.specs.declared.WriteAnswer.the-variants.{Written, Refused as WriteRefused}

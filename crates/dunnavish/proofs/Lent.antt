@@ -7,7 +7,7 @@ use native.Mathlib.Omega.{arith}
 use borrow.Author.Tests.{eq-eqb, ne-eqb}
 use lib.ListN.{length}
 use lib.Seq.{sets, sets-eq, drop-length}
-use Rattle.model.specs.Numbers.{ifServed}
+use Rattle.model.specs.Statuses.{ifServed}
 use Rattle.dunnavish.specs.Crossing.{wrongCount, statusFor, leftBy, UnchangedUnlessZero}
 
 module _ (count : ℕ) (lent : List ℕ) where

@@ -7,7 +7,7 @@ use Prim.Native.Nat.{ℕ}
 use lib.ListN.{length}
 use borrow.Author.Tests.{eq-eqb}
 use Rattle.model.specs.Answers.{readAnswer}
-use Rattle.model.specs.Numbers.{readStatus, readValues}
+use Rattle.model.specs.Statuses.{readStatus, readValues}
 use Rattle.model.specs.declared.ReadAnswer.{ReadAnswer}
 use Rattle.model.specs.declared.ReadAnswer.the-variants.{At, Refused}
 use Rattle.position_theory.specs.Damage.{Near, residualOf}

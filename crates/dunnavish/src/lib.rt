@@ -4,7 +4,7 @@
 // is not 0, nothing that was lent has changed. include/dunnavish.h says the same to a programmer in C.
 ghost use mathlib.Core.Path.{_≡_};
 ghost use Rattle.model.specs.Answers.{cardAnswer, writeAnswer, lentAfterWrite, readAnswer, startAnswer, millimetresAnswer};
-ghost use Rattle.model.specs.Numbers.{cardStatus, cardValues, writeStatus, readStatus, readValues, numberStatus, numberValues};
+ghost use Rattle.model.specs.Statuses.{cardStatus, cardValues, writeStatus, readStatus, readValues, numberStatus, numberValues};
 ghost use Rattle.dunnavish.specs.Crossing.{cardCount, readCount, numberCount, statusFor, leftBy, UnchangedUnlessZero};
 ghost use Rattle.dunnavish.specs.Demands.{ServedWithinTwiceTurned, ServedWithinTurnedAndResidual};
 use model::CardAnswer;

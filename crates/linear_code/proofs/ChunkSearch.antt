@@ -2,18 +2,20 @@
 -- what the two ways out of the search have found. The places in which codeword and chunk differ are the ones of their
 -- exclusive-or, and these are met one after the other. Assumes nothing.
 use mathlib.Core.Path.{_≡_, sym, ap, fun-ext, _∙_}
+use mathlib.Core.Bool.{Bool, true, false}
 use mathlib.Core.Logic.{⊎-elim}
 use Prim.Native.Nat.{ℕ, _+_, _-_, _^_, _≤_, _<_}
 use native.Mathlib.Omega.{arith}
 use lib.Bits.{bitAnd, bitXor, xor-comm, xor-zero-l}
 use lib.Count.{trailingZeros, ones}
+use lib.Dec.{leb}
 use Rattle.bits.specs.Places.{bit}
 use Rattle.bits.proofs.Binary.{xor-assoc, ones-xor}
 use Rattle.bits.proofs.LowestOne.{one-fewer}
 use Rattle.bits.proofs.Numbers.{eq-or-ne}
 use Rattle.model.specs.Card.{Code, sumOfRows, radius}
 use Rattle.model.specs.Order.{gray, codeword}
-use Rattle.model.specs.Reading.{chunkDistance, readWithin, chunkReading}
+use Rattle.model.specs.Reading.{chunkDistance, withinRadius, readFirst, chunkReading}
 use Rattle.model.specs.declared.Chunk.the-variants.{Codeword, Unreadable}
 use Rattle.code_theory.specs.Promise.{Sound}
 use Rattle.code_theory.proofs.LeastDistance.{codeword-narrow}
@@ -41,31 +43,30 @@ pub counted-past : (t d count rest : ℕ) → count + ones rest ≡ ones d → (
 counted-past t d count rest all more far =
     record { whole = λ l. absurd (omega arith); past = λ l. omega (arith, one-fewer rest (omega arith)) }
 
--- ---- the codewords, by any count `far` of the places in which one is unlike the chunk
+-- ---- the codewords, by any test which of them are near to the chunk
 
--- the search stands at codeword i of last, `apart` is where it and the chunk x differ, and the codewords before it lie farther
--- than the limit
-pub record AtCandidate (k : ℕ) (row : ℕ → ℕ) (x : ℕ) (far : ℕ → ℕ) (limit last apart i : ℕ) : Type 0 where
+-- the search stands at codeword i of last, `apart` is where it and the chunk x differ, and the codewords before it are not near
+pub record AtCandidate (k : ℕ) (row : ℕ → ℕ) (x : ℕ) (near : ℕ → Bool) (last apart i : ℕ) : Type 0 where
   pub word : ℕ
   pub at : AtSet k row last word i
   pub differ : apart ≡ bitXor word x
-  pub passed : (j : ℕ) → j < i → limit < far j
+  pub passed : (j : ℕ) → j < i → near j ≡ false
 
 -- a row added to the codeword is added to where it differs
 differ-next : (word x row : ℕ) → bitXor (bitXor word x) row ≡ bitXor (bitXor word row) x
 differ-next word x row = rw (xor-assoc word x row, xor-comm x row, ← xor-assoc word row x)
 
-module _ (k : ℕ) (row : ℕ → ℕ) (x : ℕ) (far : ℕ → ℕ) (limit : ℕ) where
-  pub search-starts : (two : ℕ) → two ≡ 2 ^ k → AtCandidate k row x far limit (two - 1) x 0
+module _ (k : ℕ) (row : ℕ → ℕ) (x : ℕ) (near : ℕ → Bool) where
+  pub search-starts : (two : ℕ) → two ≡ 2 ^ k → AtCandidate k row x near (two - 1) x 0
   search-starts two e = record { word = 0; at = set-start e; differ = sym (xor-zero-l x); passed = λ j b. absurd (omega arith) }
 
-  module _ (last apart i : ℕ) (stand : AtCandidate k row x far limit last apart i) where
-    -- with this codeword, too, farther than the limit
-    passed-too : limit < far i → (j : ℕ) → j < i + 1 → limit < far j
+  module _ (last apart i : ℕ) (stand : AtCandidate k row x near last apart i) where
+    -- this codeword is not near either
+    passed-too : near i ≡ false → (j : ℕ) → j < i + 1 → near j ≡ false
     passed-too here j b = ⊎-elim (λ (e : j ≡ i). rw e here) (λ (ne : j ≡ i → ⊥). stand .passed j (omega arith)) (eq-or-ne j i)
 
-    pub search-goes-on : k ≤ 12 → i < last → limit < far i
-        → AtCandidate k row x far limit last (bitXor apart (row (trailingZeros 32 (i + 1)))) (i + 1)
+    pub search-goes-on : k ≤ 12 → i < last → near i ≡ false
+        → AtCandidate k row x near last (bitXor apart (row (trailingZeros 32 (i + 1)))) (i + 1)
     search-goes-on twelve more here =
         record {
           word = bitXor (stand .word) (row (trailingZeros 32 (i + 1)));
@@ -74,28 +75,33 @@ module _ (k : ℕ) (row : ℕ → ℕ) (x : ℕ) (far : ℕ → ℕ) (limit : �
           passed = passed-too here;
         }
 
-    pub search-found : (count : ℕ) → count ≡ far i → count ≤ limit → Codeword i count ≡ readWithin far limit (2 ^ k)
-    search-found count e close =
+    pub search-found : (count : ℕ → ℕ) (unlike : ℕ) → unlike ≡ count i → near i ≡ true
+        → Codeword i unlike ≡ readFirst near count (2 ^ k)
+    search-found count unlike e here =
         ap (Codeword i) e
-        ∙ sym (reading-first far limit (2 ^ k) i (omega (arith, stand .at .end, stand .at .within)) (stand .passed) (omega arith))
+        ∙ sym (reading-first near count (2 ^ k) i (omega (arith, stand .at .end, stand .at .within)) (stand .passed) here)
 
-    pub search-failed : i ≡ last → limit < far i → Unreadable ≡ readWithin far limit (2 ^ k)
-    search-failed done here =
-        sym (reading-passed far limit (2 ^ k) (λ j b. passed-too here j (omega (arith, stand .at .end))))
+    pub search-failed : (count : ℕ → ℕ) → i ≡ last → near i ≡ false → Unreadable ≡ readFirst near count (2 ^ k)
+    search-failed count done here =
+        sym (reading-passed near count (2 ^ k) (λ j b. passed-too here j (omega (arith, stand .at .end))))
 
--- ---- the count that this search goes by: the ones of codeword j and the chunk x, joined by exclusive-or
+-- ---- the count and the test of this search: the ones of codeword j and the chunk x, joined by exclusive-or, and a limit of them
+
 abbrev pub unlikeBits : (k : ℕ) (row : ℕ → ℕ) (x j : ℕ) → ℕ
 unlikeBits k row x j = ones (bitXor (sumOfRows row k (gray j)) x)
 
-pub bits-apart : {k x limit last apart i : ℕ} {row far : ℕ → ℕ} → AtCandidate k row x far limit last apart i
+abbrev pub nearBits : (k : ℕ) (row : ℕ → ℕ) (x limit j : ℕ) → Bool
+nearBits k row x limit j = leb (unlikeBits k row x j) limit
+
+pub bits-apart : {k x last apart i : ℕ} {row : ℕ → ℕ} {near : ℕ → Bool} → AtCandidate k row x near last apart i
     → ones apart ≡ unlikeBits k row x i
 bits-apart stand = rw (stand .differ, stand .at .current)
 
 -- codeword and chunk are numbers of n places, so it counts the places in which they differ, and the search reads the chunk
 pub search-reads : (C : Code) → Sound C → (x : ℕ) → x < 2 ^ C .n → (t : ℕ) → t ≡ radius C
-    → readWithin (unlikeBits (C .k) (C .row) x) t (2 ^ C .k) ≡ chunkReading C (bit x)
-unfolding chunkReading chunkDistance codeword
+    → readFirst (nearBits (C .k) (C .row) x t) (unlikeBits (C .k) (C .row) x) (2 ^ C .k) ≡ chunkReading C (bit x)
+unfolding chunkReading withinRadius chunkDistance codeword
 search-reads C sound x fits t is-radius =
     rw is-radius
-    (ap (λ (far : ℕ → ℕ). readWithin far (radius C) (2 ^ C .k))
+    (ap (λ (far : ℕ → ℕ). readFirst (λ j. leb (far j) (radius C)) far (2 ^ C .k))
     (fun-ext (λ j. ones-xor (C .n) (codeword C j) x (codeword-narrow C sound j) fits)))

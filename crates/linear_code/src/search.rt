@@ -2,11 +2,10 @@
 ghost use mathlib.Core.Path.{_≡_};
 ghost use Prim.Native.Nat.{_^_, _<_};
 ghost use Rattle.bits.specs.Places.{bit};
-ghost use Rattle.model.specs.Answers.{chunkRefusal, chunkFigures};
 ghost use Rattle.model.specs.Card.{radius};
 ghost use Rattle.model.specs.Decoded.{meaning};
-ghost use Rattle.model.specs.Numbers.{ifServed, chunkStatus, chunkValues};
-ghost use Rattle.model.specs.Reading.{chunkReading};
+ghost use Rattle.model.specs.Statuses.{ifServed, chunkStatus, chunkValues};
+ghost use Rattle.model.specs.Reading.{chunkReading, chunkRefusal, chunkFigures};
 ghost use Rattle.code_theory.specs.Promise.{Sound};
 use super::powers;
 use model::Chunk;

@@ -1,19 +1,19 @@
 -- Document 01, "Where a call can be turned down": what each of the five public calls answers, for every list of bytes and
 -- every number. The refusals stand in the table's order, as far as the call has the thing, and the first that holds is the
 -- answer. Beside each answer stand the number of its refusal, 0 where the call is served, and its values where it is; that the
--- answer's status and values, by Numbers.antt, are these is part of the calls' contracts. Assumes nothing.
-use mathlib.Core.Bool.{Bool, cond, not}
+-- answer's status and values, by Statuses.antt, are these is part of the calls' contracts. Assumes nothing.
+use mathlib.Core.Bool.{Bool, not}
 use mathlib.Core.List.{List, [], _∷_}
-use Prim.Native.Nat.{ℕ, _+_, _-_, _*_, _^_}
+use Prim.Native.Nat.{ℕ, _+_, _-_, _*_}
 use lib.Dec.{ltb, eqb}
 use lib.ListN.{length}
 use Rattle.bits.specs.Places.{bytesFor, place}
 use Rattle.bits.specs.Searches.{anyBelow}
-use Rattle.model.specs.Refusals.{Row, row, rowsBy, firstRefusal, unlessRefused}
+use Rattle.model.specs.Refusals.{Row, refuses, refusedAs, firstRefusal, unlessRefused}
 use Rattle.model.specs.Card.{Code, cardRefusal, codeOf, radius, trackOf}
 use Rattle.model.specs.Order.{lastCodeword, lastPosition, start}
 use Rattle.model.specs.Words.{wordBits, wordBytes, millimetresOf}
-use Rattle.model.specs.Reading.{chunkDistance, firstWithin, ruleNamed, rowsOf, allowed, residual, nearest}
+use Rattle.model.specs.Reading.{ruleNamed, rowsOf, allowed, residual, nearest}
 use Rattle.model.specs.declared.Reading.{Reading}
 use Rattle.model.specs.declared.CardSummary.{CardSummary}
 use Rattle.model.specs.declared.CardAnswer.{CardAnswer}
@@ -56,9 +56,9 @@ cardFigures b =
 unfoldable pub writeRefusal : (card : List ℕ) (position : ℕ) (lent : List ℕ) → ℕ
 writeRefusal card position lent =
     firstRefusal
-    (rowsBy (cardRefusal card)
-    ∷ row 6 (not (eqb (length lent) (wordLength (codeOf card))))
-    ∷ row 7 (ltb (lastPosition (codeOf card)) position)
+    (refusedAs (cardRefusal card)
+    ∷ refuses 6 (not (eqb (length lent) (wordLength (codeOf card))))
+    ∷ refuses 7 (ltb (lastPosition (codeOf card)) position)
     ∷ [])
 
 -- write: the answer
@@ -70,15 +70,6 @@ unfoldable pub lentAfterWrite : (card : List ℕ) (position : ℕ) (lent : List 
 lentAfterWrite card position lent =
     unlessRefused (writeRefusal card position lent) (λ refusal. lent) (wordBytes (codeOf card) position)
 
--- a chunk: the refusal's number, or 0 where some codeword lies within the radius
-unfoldable pub chunkRefusal : Code → (x : ℕ → ℕ) → ℕ
-chunkRefusal C x = cond (ltb (firstWithin (chunkDistance C x) (radius C) (2 ^ C .k)) (2 ^ C .k)) 0 10
-
--- the values of a chunk that is read: the codeword's number, and in how many bits the two differ
-unfoldable pub chunkFigures : Code → (x : ℕ → ℕ) → List ℕ
-chunkFigures C x =
-    let p : ℕ = firstWithin (chunkDistance C x) (radius C) (2 ^ C .k) in p ∷ chunkDistance C x p ∷ []
-
 -- some bit past the d bits of a word is set
 unfoldable pub spareSet : Code → List ℕ → Bool
 spareSet C received = anyBelow (λ q. eqb (place received (wordBits C + q)) 1) (8 * wordLength C - wordBits C)
@@ -86,8 +77,8 @@ spareSet C received = anyBelow (λ q. eqb (place received (wordBits C + q)) 1) (
 -- read: the rows of a received word, once its card is sound
 unfoldable pub rowsOfWord : Code → (received : List ℕ) → List Row
 rowsOfWord C received =
-    row 6 (not (eqb (length received) (wordLength C)))
-    ∷ row 8 (spareSet C received)
+    refuses 6 (not (eqb (length received) (wordLength C)))
+    ∷ refuses 8 (spareSet C received)
     ∷ rowsOf C (place received)
 
 -- read: the position nearest to the received bytes among the allowed ones, its residual and the rule
@@ -101,7 +92,7 @@ readWord C received = unlessRefused (firstRefusal (rowsOfWord C received)) ReadR
 
 -- read: the refusal's number, or 0 where the word is read
 unfoldable pub readRefusal : (card received : List ℕ) → ℕ
-readRefusal card received = firstRefusal (rowsBy (cardRefusal card) ∷ rowsOfWord (codeOf card) received)
+readRefusal card received = firstRefusal (refusedAs (cardRefusal card) ∷ rowsOfWord (codeOf card) received)
 
 -- read: the answer
 unfoldable pub readAnswer : (card received : List ℕ) → ReadAnswer
@@ -114,7 +105,7 @@ readFigures card received =
 
 -- block start: the refusal's number, or 0
 unfoldable pub startRefusal : (card : List ℕ) (block : ℕ) → ℕ
-startRefusal card block = firstRefusal (rowsBy (cardRefusal card) ∷ row 7 (ltb (lastCodeword (codeOf card)) block) ∷ [])
+startRefusal card block = firstRefusal (refusedAs (cardRefusal card) ∷ refuses 7 (ltb (lastCodeword (codeOf card)) block) ∷ [])
 
 -- block start: r(block)
 unfoldable pub startAnswer : (card : List ℕ) (block : ℕ) → NumberAnswer
@@ -122,7 +113,7 @@ startAnswer card block = unlessRefused (startRefusal card block) NumberRefused (
 
 -- millimetres: the refusal's number, or 0
 unfoldable pub millimetresRefusal : (card : List ℕ) (position : ℕ) → ℕ
-millimetresRefusal card position = firstRefusal (rowsBy (cardRefusal card) ∷ row 7 (ltb (lastPosition (codeOf card)) position) ∷ [])
+millimetresRefusal card position = firstRefusal (refusedAs (cardRefusal card) ∷ refuses 7 (ltb (lastPosition (codeOf card)) position) ∷ [])
 
 -- millimetres: the distance of a position from the buffer face
 unfoldable pub millimetresAnswer : (card : List ℕ) (position : ℕ) → NumberAnswer

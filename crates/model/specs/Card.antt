@@ -11,7 +11,7 @@ use lib.ListN.{length, getD}
 use Rattle.bits.specs.Sums.{sumBelow}
 use Rattle.bits.specs.Places.{bit, weight}
 use Rattle.bits.specs.Searches.{anyBelow}
-use Rattle.model.specs.Refusals.{row, firstRefusal}
+use Rattle.model.specs.Refusals.{refuses, firstRefusal}
 
 -- byte i of the card
 abbrev pub byte : (b : List ℕ) (i : ℕ) → ℕ
@@ -108,11 +108,11 @@ dependent k row = anyBelow (λ g. eqb (sumOfRows row k (g + 1)) 0) (2 ^ k - 1)
 unfoldable pub cardRefusal : List ℕ → ℕ
 cardRefusal b =
     firstRefusal
-    (row 1 (not (eqb (length b) 512))
-    ∷ row 2 (not (eqb (storedCheck b) (computedCheck b)))
-    ∷ row 3 (not (withinLimits (lengthOf b) (rowCountOf b)))
-    ∷ row 4 (misplaced b)
-    ∷ row 5 (dependent (rowCountOf b) (rowOf b))
+    (refuses 1 (not (eqb (length b) 512))
+    ∷ refuses 2 (not (eqb (storedCheck b) (computedCheck b)))
+    ∷ refuses 3 (not (withinLimits (lengthOf b) (rowCountOf b)))
+    ∷ refuses 4 (misplaced b)
+    ∷ refuses 5 (dependent (rowCountOf b) (rowOf b))
     ∷ [])
 
 -- a sound card: none of the refusals 1 to 5 holds of it

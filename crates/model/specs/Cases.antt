@@ -10,7 +10,7 @@ use Rattle.model.specs.Card.{Code, computedCheck, storedCheck, codeOf}
 use Rattle.model.specs.Order.{codeword, lastPosition, start}
 use Rattle.model.specs.Words.{separator₁, separator₂, separator₃, wordBytes}
 use Rattle.model.specs.Answers.{cardAnswer, writeAnswer, lentAfterWrite, readAnswer}
-use Rattle.model.specs.Numbers.{cardStatus, cardValues, writeStatus, writeValues, readStatus, readValues}
+use Rattle.model.specs.Statuses.{cardStatus, cardValues, writeStatus, writeValues, readStatus, readValues}
 
 -- rows below 256, each as 8 bytes, high byte first
 unfoldable pub rowBytes : List ℕ → List ℕ

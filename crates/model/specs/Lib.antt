@@ -5,5 +5,5 @@ pub mod Order
 pub mod Words
 pub mod Reading
 pub mod Answers
-pub mod Numbers
+pub mod Statuses
 pub mod Cases

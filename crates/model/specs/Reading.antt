@@ -7,16 +7,13 @@ use lib.Dec.{leb, ltb, eqb}
 use Rattle.bits.specs.Sums.{sumBelow, distance}
 use Rattle.bits.specs.Places.{bit}
 use Rattle.bits.specs.Searches.{first, leastAt}
-use Rattle.model.specs.Refusals.{Row, row, firstRefusal, unlessRefused}
+use Rattle.model.specs.Refusals.{Row, refuses}
 use Rattle.model.specs.Card.{Code, radius}
 use Rattle.model.specs.Order.{codeword, lastCodeword, changedWeight, start, lastPosition}
-use Rattle.model.specs.Words.{wordBits, wordAt, separator₁}
-pub use Rattle.model.specs.Words.{chunk₁, separator₂, chunk₂, separator₃}
+use Rattle.model.specs.Words.{wordBits, wordAt, separator₁, chunk₁, separator₂, chunk₂, separator₃}
 use Rattle.model.specs.declared.Chunk.{Chunk}
 use Rattle.model.specs.declared.Chunk.the-variants.{Codeword, Unreadable}
 use Rattle.model.specs.declared.Reading.{Reading}
-use Rattle.model.specs.declared.ReadAnswer.{ReadAnswer}
-use Rattle.model.specs.declared.ReadAnswer.the-variants.{At, Refused}
 
 -- a separator of D bits reads 1 if more than half its bits are 1, else 0; a tie reads 0
 unfoldable pub majority : (D : ℕ) (x : ℕ → ℕ) → ℕ
@@ -26,21 +23,30 @@ majority D x = cond (ltb D (2 * sumBelow x D)) 1 0
 unfoldable pub chunkDistance : Code → (x : ℕ → ℕ) (p : ℕ) → ℕ
 chunkDistance C x p = distance (C .n) (bit (codeword C p)) x
 
--- the first of so many codewords that is within a limit by some count of unlike places, or their number where none is
-unfoldable pub firstWithin : (far : ℕ → ℕ) (limit many : ℕ) → ℕ
-firstWithin far limit many = first (λ i. leb (far i) limit) many
+-- whether c(p) lies within t bits of it
+unfoldable pub withinRadius : Code → (x : ℕ → ℕ) (p : ℕ) → Bool
+withinRadius C x p = leb (chunkDistance C x p) (radius C)
 
--- what a chunk reads as by that search: the codeword's number and its count
-unfoldable pub readWithin : (far : ℕ → ℕ) (limit many : ℕ) → Chunk
-readWithin far limit many =
-    let p : ℕ = firstWithin far limit many in cond (ltb p many) (Codeword p (far p)) Unreadable
+-- what a chunk reads as by a search: the first of so many codewords that is near enough, with its count of unlike places; nothing
+-- where none is
+unfoldable pub readFirst : (near : ℕ → Bool) (count : ℕ → ℕ) (many : ℕ) → Chunk
+readFirst near count many = let p : ℕ = first near many in cond (ltb p many) (Codeword p (count p)) Unreadable
 
 -- a code chunk reads as p if c(p) lies within t bits of it (the first such p; there is one at most, by the law
 -- `one-within-radius`)
 unfoldable pub chunkReading : Code → (x : ℕ → ℕ) → Chunk
-chunkReading C x = readWithin (chunkDistance C x) (radius C) (2 ^ C .k)
+chunkReading C x = readFirst (withinRadius C x) (chunkDistance C x) (2 ^ C .k)
 
--- whether a chunk reads as no codeword, and the number of the codeword that any other reads as
+-- a chunk: the refusal's number, or 0 where some codeword lies within the radius
+unfoldable pub chunkRefusal : Code → (x : ℕ → ℕ) → ℕ
+chunkRefusal C x = cond (ltb (first (withinRadius C x) (2 ^ C .k)) (2 ^ C .k)) 0 10
+
+-- the values of a chunk that is read: the codeword's number, and in how many bits the two differ
+unfoldable pub chunkFigures : Code → (x : ℕ → ℕ) → List ℕ
+chunkFigures C x = let p : ℕ = first (withinRadius C x) (2 ^ C .k) in p ∷ chunkDistance C x p ∷ []
+
+-- whether a chunk reads as no codeword, and the number of the codeword that any other reads as (0 of an unreadable one, which means
+-- nothing: row 10 comes first)
 unfoldable pub unreadable : Chunk → Bool
 unreadable (Codeword p e) = false
 unreadable Unreadable = true
@@ -120,17 +126,18 @@ twoEnds C =
 -- rows 9 to 12 of the table, for what is seen of a word whose separators name this rule, 0 for none
 unfoldable pub rowsSeen : Rules → Seen → (rule : ℕ) → List Row
 rowsSeen R s rule =
-    row 9 (eqb rule 0)
-    ∷ row 10 (namesFirst rule && unreadable (s .read₁) || namesSecond rule && unreadable (s .read₂))
-    ∷ row 11 (eqb rule 3 && not (eqb (numberRead (s .read₁)) (numberRead (s .read₂))))
-    ∷ row 12 (R .noBlock rule (numberBy s rule))
+    refuses 9 (eqb rule 0)
+    ∷ refuses 10 (namesFirst rule && unreadable (s .read₁) || namesSecond rule && unreadable (s .read₂))
+    ∷ refuses 11 (eqb rule 3 && not (eqb (numberRead (s .read₁)) (numberRead (s .read₂))))
+    ∷ refuses 12 (R .noBlock rule (numberBy s rule))
     ∷ []
 
 -- the positions that a rule allows of what is seen, where none of these rows holds
 abbrev pub rangeSeen : Rules → Seen → (rule : ℕ) → Range
 rangeSeen R s rule = R .range rule (numberBy s rule)
 
--- the same of a received word's bits, on a track with two ends: the rule named, the rows, and the positions allowed
+-- the same of a received word's bits, on a track with two ends: the rule named, the rows, and the positions allowed (which mean
+-- nothing where a row holds)
 unfoldable pub ruleNamed : Code → (x : ℕ → ℕ) → ℕ
 ruleNamed C x = ruleSeen (seen C x)
 
@@ -153,8 +160,3 @@ unfoldable pub nearest : (residual : ℕ → ℕ) (rule : ℕ) → Range → Rea
 nearest residual rule range =
     let position : ℕ = nearestIn residual range in
     record { position = position; residual = residual position; rule = rule }
-
--- the reading of a received word, given as a bit function: refusals 9 to 12, or the nearest allowed position
-unfoldable pub reading : Code → (x : ℕ → ℕ) → ReadAnswer
-reading C x =
-    unlessRefused (firstRefusal (rowsOf C x)) Refused (At (nearest (residual C x) (ruleNamed C x) (allowed C x)))

@@ -10,12 +10,12 @@ pub record Row : Type 0 where
   pub number : ℕ
   pub holds : Bool
 
-abbrev pub row : (number : ℕ) (holds : Bool) → Row
-row number holds = record { number = number; holds = holds }
+abbrev pub refuses : (number : ℕ) (holds : Bool) → Row
+refuses number holds = record { number = number; holds = holds }
 
--- the rows of a part that has been checked already, by the number of its refusal, 0 where none holds
-abbrev pub rowsBy : (refusal : ℕ) → Row
-rowsBy refusal = row refusal (not (eqb refusal 0))
+-- one row for all those of a part that has been checked already, by the number of its refusal, 0 where none holds
+abbrev pub refusedAs : (refusal : ℕ) → Row
+refusedAs refusal = refuses refusal (not (eqb refusal 0))
 
 -- the number of the first row that holds, or 0
 unfoldable pub firstRefusal : List Row → ℕ

@@ -9,11 +9,12 @@ use Rattle.bits.proofs.Numbers.{eq-or-ne}
 use Rattle.model.specs.Refusals.{firstRefusal}
 use Rattle.model.specs.Card.{Code}
 use Rattle.model.specs.Words.{wordBits, wordAt}
-use Rattle.model.specs.Reading.{seen, ruleNamed, twoEnds, rowsOf, allowed, residual, nearestIn, nearest, reading}
+use Rattle.model.specs.Reading.{seen, ruleNamed, twoEnds, rowsOf, allowed, residual, nearestIn, nearest}
 use Rattle.code_theory.specs.Promise.{ChunkPromise}
 use Rattle.code_theory.proofs.Refusals.{served-if-none, refused-if-some}
 use Rattle.position_theory.specs.Damage.{Near, residualOf}
 use Rattle.position_theory.specs.Nearest.{NearestAllowed, IsReading}
+use Rattle.position_theory.proofs.WordBytes.{reading}
 use Rattle.position_theory.proofs.Ranges.{nearest-in, counted-residuals, answer-off-by}
 use Rattle.position_theory.proofs.Allowed.{allowed-isometric}
 use Rattle.position_theory.proofs.TrueAllowed.{Allows}

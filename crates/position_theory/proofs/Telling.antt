@@ -8,7 +8,7 @@ use Prim.Native.Nat.{ℕ, zero, suc, _+_, _-_, _*_, _/_, _%_, _≤_, _<_}
 use native.Mathlib.Nat.{eq-zero-or-pos}
 use native.Mathlib.Omega.{arith}
 use lib.Dec.{ltb}
-use borrow.Author.Tests.{lt-ltb, le-ltb}
+use borrow.Author.Tests.{lt-ltb, le-ltb, le-leb}
 use Rattle.bits.specs.Sums.{sumBelow, distance, fromPlace}
 use Rattle.bits.specs.Places.{bit}
 use Rattle.bits.specs.Walk.{walk}
@@ -18,7 +18,7 @@ use Rattle.bits.proofs.Distance.{distance-ext-left}
 use Rattle.model.specs.Card.{Code, radius}
 use Rattle.model.specs.Order.{codeword, lastCodeword}
 use Rattle.model.specs.Words.{chunkSize, placesBefore, chunkOf, word}
-use Rattle.model.specs.Reading.{majority, chunkDistance, chunkReading, Seen, seen}
+use Rattle.model.specs.Reading.{majority, chunkDistance, withinRadius, chunkReading, Seen, seen}
 use Rattle.model.specs.declared.Chunk.{Chunk}
 use Rattle.model.specs.declared.Chunk.the-variants.{Codeword}
 use Rattle.code_theory.specs.Promise.{ChunkPromise}
@@ -81,9 +81,9 @@ majority-bit D y = by-test (λ b. b < 2) (ltb D (2 * sumBelow y D)) (λ _. omega
 -- a code chunk that holds c(j) reads j if at most t of its bits are turned
 code-reads : (C : Code) → ChunkPromise C → (j : ℕ) (u y : ℕ → ℕ) → j ≤ lastCodeword C
     → ((p : ℕ) → p < C .n → u p ≡ bit (codeword C j) p) → distance (C .n) u y ≤ radius C → ReadsAs (chunkReading C y) j
-unfolding chunkDistance
+unfolding withinRadius chunkDistance
 code-reads C promise j u y h hu d =
-    (_, promise .chunks .reads y j h (rw (← (distance-ext-left (C .n) y hu)) d))
+    (_, promise .chunks .reads y j h (le-leb _ _ (rw (distance-ext-left (C .n) y hu) at d)))
 
 module _ (C : Code) (promise : ChunkPromise C) {x : ℕ → ℕ} (hx : (p : ℕ) → x p < 2) where
   -- chunk c of a word u that holds there what w(j) holds, with at most t bits turned

@@ -17,11 +17,13 @@ use Rattle.bits.proofs.Walk.{walk-bit}
 use Rattle.bits.proofs.Searches.{any-none, none-of-any}
 use Rattle.bits.proofs.Places.{place-bit, length-pack, place-packed, place-spare}
 use Rattle.bits.proofs.ByteLists.{differing-below, packed-distance}
-use Rattle.model.specs.Refusals.{firstRefusal}
+use Rattle.model.specs.Refusals.{firstRefusal, unlessRefused}
 use Rattle.model.specs.Card.{Code}
 use Rattle.model.specs.Words.{wordBits, blockOf, wordAt, wordBytes}
-use Rattle.model.specs.Reading.{residual, reading}
+use Rattle.model.specs.Reading.{ruleNamed, rowsOf, allowed, residual, nearest}
 use Rattle.model.specs.Answers.{wordLength, spareSet, rowsOfWord, readWord}
+use Rattle.model.specs.declared.ReadAnswer.{ReadAnswer}
+use Rattle.model.specs.declared.ReadAnswer.the-variants.{At, Refused}
 use Rattle.position_theory.proofs.Words.{word-bit}
 
 pub word-at-bit : (C : Code) (position p : ℕ) → wordAt C position p < 2
@@ -49,6 +51,11 @@ pub differing-words : (C : Code) (p q : ℕ)
     → differingBits (wordBytes C p) (wordBytes C q) ≡ distance (wordBits C) (wordAt C p) (wordAt C q)
 unfolding wordBytes
 differing-words C p q = packed-distance (wordBits C) (word-at-bit C p) (word-at-bit C q)
+
+-- the reading of a received word, given as a bit function: refusals 9 to 12, or the nearest allowed position
+unfoldable pub reading : Code → (x : ℕ → ℕ) → ReadAnswer
+reading C x =
+    unlessRefused (firstRefusal (rowsOf C x)) Refused (At (nearest (residual C x) (ruleNamed C x) (allowed C x)))
 
 -- a word of the right length with spare bits zero is read
 pub read-if-whole : (C : Code) (received : List ℕ) → length received ≡ wordLength C → spareSet C received ≡ false

@@ -9,7 +9,7 @@ use Rattle.model.specs.Reading.{ruleNamed, rowsOf, allowed, residual}
 use Rattle.model.specs.declared.ReadAnswer.{ReadAnswer}
 use Rattle.model.specs.declared.ReadAnswer.the-variants.{At, Refused}
 
--- no row of the table holds, the position q is allowed by this rule, the one named, and on the track, no allowed one is nearer to x,
+-- none of rows 9 to 12 holds, the position q is allowed by this rule, the one named, and on the track, no allowed one is nearer to x,
 -- none smaller is as near, and e is its residual
 pub record NearestAllowed (C : Code) (x : ℕ → ℕ) (q e rule : ℕ) : Type 0 where
   pub none-refuses : firstRefusal (rowsOf C x) ≡ 0

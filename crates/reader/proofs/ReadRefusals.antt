@@ -11,9 +11,9 @@ use Rattle.bits.specs.Places.{place}
 use Rattle.model.specs.Refusals.{firstRefusal, unlessRefused}
 use Rattle.model.specs.Answers.{wordLength, spareSet, rowsOfWord, readWord}
 use Rattle.model.specs.Card.{Code}
-use Rattle.model.specs.Reading.{ruleNamed, rowsSeen, rowsOf, allowed, reading}
+use Rattle.model.specs.Reading.{ruleNamed, rowsSeen, rowsOf, allowed}
 use Rattle.model.specs.declared.ReadAnswer.the-variants.{Refused}
-use Rattle.position_theory.proofs.WordBytes.{read-if-whole}
+use Rattle.position_theory.proofs.WordBytes.{reading, read-if-whole}
 use Rattle.reader.specs.Received.{answerBy}
 
 pub refused-6 : (C : Code) (received : List ℕ) → (length received ≡ wordLength C → ⊥) → Refused 6 ≡ readWord C received

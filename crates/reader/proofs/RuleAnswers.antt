@@ -5,18 +5,28 @@ use mathlib.Core.List.{List}
 use Prim.Native.Nat.{ℕ}
 use borrow.Author.Tests.{eq-eqb, ne-eqb}
 use Rattle.bits.specs.Sums.{fromPlace}
+use Rattle.bits.specs.Places.{place}
 use Rattle.model.specs.Refusals.{firstRefusal, unlessRefused}
 use Rattle.model.specs.Card.{Code}
 use Rattle.model.specs.Order.{lastCodeword}
 use Rattle.model.specs.Reading.{chunkReading, unreadable, numberRead, seen, numberBy, range₁, range₂, range₃, twoEnds, rowsSeen}
+use Rattle.model.specs.Words.{chunk₁, chunk₂}
+use Rattle.model.specs.declared.Chunk.{Chunk}
 use Rattle.model.specs.declared.Chunk.the-variants.{Codeword, Unreadable}
 use Rattle.model.specs.declared.ReadAnswer.the-variants.{Refused}
-use Rattle.reader.specs.Received.{nearestBy, answerBy, chunk₁Reads, chunk₂Reads}
+use Rattle.reader.specs.Received.{nearestBy, answerBy}
 
 -- of a chunk it matters only where it begins
 pub read-from : (C : Code) (x : ℕ → ℕ) (at there : ℕ) → at ≡ there
     → chunkReading C (fromPlace at x) ≡ chunkReading C (fromPlace there x)
 read-from C x at there e = rw e
+
+-- what the code chunks of the word in the array x read as
+abbrev pub chunk₁Reads : Code → (x : List ℕ) → Chunk
+chunk₁Reads C x = chunkReading C (chunk₁ C (place x))
+
+abbrev pub chunk₂Reads : Code → (x : List ℕ) → Chunk
+chunk₂Reads C x = chunkReading C (chunk₂ C (place x))
 
 module _ (C : Code) (x : List ℕ) where
   pub rule₁-unreadable : chunk₁Reads C x ≡ Unreadable → Refused 10 ≡ answerBy C x 1

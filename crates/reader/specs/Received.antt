@@ -9,8 +9,7 @@ use Rattle.model.specs.Refusals.{firstRefusal, unlessRefused}
 use Rattle.model.specs.Card.{Code}
 use Rattle.model.specs.Order.{lastCodeword, start}
 use Rattle.model.specs.Words.{wordBits, word}
-use Rattle.model.specs.Reading.{chunk₁, chunk₂, chunkReading, Seen, seen, Range, twoEnds, rowsSeen, rangeSeen, residual, nearest}
-use Rattle.model.specs.declared.Chunk.{Chunk}
+use Rattle.model.specs.Reading.{Seen, seen, Range, twoEnds, rowsSeen, rangeSeen, residual, nearest}
 use Rattle.model.specs.declared.ReadAnswer.{ReadAnswer}
 use Rattle.model.specs.declared.ReadAnswer.the-variants.{At, Refused}
 use Rattle.code_theory.specs.Promise.{Sound}
@@ -26,13 +25,6 @@ unfoldable pub answerBy : Code → (x : List ℕ) (rule : ℕ) → ReadAnswer
 answerBy C x rule =
     let s : Seen = seen C (place x) in
     unlessRefused (firstRefusal (rowsSeen (twoEnds C) s rule)) Refused (nearestBy C x rule (rangeSeen (twoEnds C) s rule))
-
--- what its code chunks read as
-abbrev pub chunk₁Reads : Code → (x : List ℕ) → Chunk
-chunk₁Reads C x = chunkReading C (chunk₁ C (place x))
-
-abbrev pub chunk₂Reads : Code → (x : List ℕ) → Chunk
-chunk₂Reads C x = chunkReading C (chunk₂ C (place x))
 
 -- nothing is set past the word's bits
 unfoldable pub NothingSpare : Code → List ℕ → Type 0

@@ -11,7 +11,7 @@ use Rattle.model.specs.Card.{highFirst, trackOf, rowOf, storedCheck, computedCh
 use Rattle.model.specs.Card.{withinLimits, rowTooWide, unusedRowSet, unusedByteSet, misplaced, dependent, cardRefusal}
 use Rattle.model.specs.Order.{gray, lastCodeword, codeword, changedRow, changedWeight, start, lastPosition}
 use Rattle.model.specs.Words.{fiveChunks, word, blockOf, wordAt}
-use Rattle.model.specs.Reading.{majority, chunkDistance, firstWithin, readWithin, chunkReading, unreadable, numberRead, seen}
+use Rattle.model.specs.Reading.{majority, chunkDistance, withinRadius, readFirst, chunkReading, unreadable, numberRead, seen}
 use Rattle.model.specs.Reading.{ruleOf, numberBy, twoEnds, rowsSeen, ruleNamed, rowsOf, allowed, residual, nearestIn, nearest}
 use Rattle.model.specs.Answers.{summaryOf, cardAnswer, spareSet, rowsOfWord, readWord}
 use Rattle.model.specs.Cases.{rowBytes, sealed, cardOf, cardB}
@@ -33,7 +33,7 @@ unfolding sumBelow distance joinAt
     firstRefusal unlessRefused withinLimits rowTooWide unusedRowSet unusedByteSet misplaced dependent cardRefusal
     gray lastCodeword codeword changedRow changedWeight start lastPosition
     fiveChunks word blockOf wordAt
-    majority chunkDistance firstWithin readWithin chunkReading unreadable numberRead seen
+    majority chunkDistance withinRadius readFirst chunkReading unreadable numberRead seen
     ruleOf numberBy twoEnds rowsSeen ruleNamed rowsOf allowed residual nearestIn nearest
     summaryOf cardAnswer spareSet rowsOfWord readWord
     rowBytes sealed cardOf cardB

@@ -8,8 +8,9 @@ const HELD: u8 = 170;
 const LENT: usize = 48;
 pub type Lent = [u8; LENT];
 
-/// Counts a call by what the second reader answered, and whether the library's answer is unlike that. `calls` and `served` name
-/// the lines: of all such calls, and of those that are not refused. A card's own refusals are told apart where it is checked only.
+/// Counts a call by what the second reader answered, and whether the library's answer is unlike that. `served` names the line of
+/// calls that are served; the lines of refusals begin with `calls`, and that of the mismatches ends with it. A card's own refusals
+/// are told apart where it is checked only.
 fn answered<T>(tally: &mut Tally, calls: &str, served: &str, second: Result<T, Refusal>, unlike: bool) {
     match second {
         Ok(_) => tally.add(served, true),

@@ -1,9 +1,10 @@
 //! A second reader of robust Gray position words: cards, words, positions and readings, written from document 01's words by plain
 //! search, to be compared with the library.
 //!
-//! Words are single bits, made by walking from position 0 and turning one bit a step; block starts count those steps; the least
-//! distance is found by summing every set of rows, a chunk's codeword by trying all, and the nearest allowed position by trying each
-//! with its full word. Where document 01 has a short way and a plain one, this is the plain one.
+//! Words are single bits, made by walking from position 0 and turning one bit a step; block starts add up the places in which one
+//! whole word and the next differ; the least distance is found by summing every set of rows, a chunk's codeword by trying all, and
+//! the nearest allowed position by trying each with its full word. Where document 01 has a short way and a plain one, this is the
+//! plain one.
 //!
 //! The calls below are the library's five. [`track::Track`] and [`walk::Walk`] are for a caller with many words of one card.
 #![deny(unsafe_code)]

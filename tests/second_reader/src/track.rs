@@ -1,4 +1,4 @@
-//! The track of a card: the starts of its blocks, counted step by step.
+//! The track of a card: the starts of its blocks, added up block by block.
 use crate::card::Card;
 use crate::code::Code;
 use crate::word::unlike;

@@ -6,7 +6,7 @@ use native.Mathlib.Omega.{arith}
 use borrow.Author.Needs.{needs}
 use lib.ListN.{length-set}
 use Rattle.model.specs.Answers.{cardFigures}
-use Rattle.model.specs.Numbers.{cardStatus, cardValues}
+use Rattle.model.specs.Statuses.{cardStatus, cardValues}
 use Rattle.dunnavish.specs.Crossing.{cardCount}
 use Rattle.dunnavish.proofs.Lent.{wrong-count-changes-nothing, refusal-changes-nothing, values-are-left, all-stored, refusal-nonzero}
 use Rattle.dunnavish.proofs.dunnavish_check_card.Statement.{statement}

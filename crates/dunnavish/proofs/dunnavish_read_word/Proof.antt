@@ -3,7 +3,7 @@
 use mathlib.Core.List.{[], _∷_}
 use borrow.Author.Needs.{needs}
 use Rattle.model.specs.Answers.{readFigures}
-use Rattle.model.specs.Numbers.{readStatus, readValues}
+use Rattle.model.specs.Statuses.{readStatus, readValues}
 use Rattle.dunnavish.specs.Crossing.{readCount}
 use Rattle.dunnavish.proofs.Lent.{refusal-changes-nothing, values-are-left, all-stored, refusal-nonzero}
 use Rattle.dunnavish.proofs.ReadDemands.{wrong-count-claims-nothing, bounds-cross}

@@ -2,47 +2,30 @@
 -- and those left are all that differ; both ways out of the bit loop tell whether the codeword lies within the radius. The status
 -- and the values are those of the reading. Assumes nothing.
 use mathlib.Core.Path.{_≡_, refl, _∙_}
-use mathlib.Core.Bool.{Bool, true, false, cond}
+use mathlib.Core.Bool.{false}
 use mathlib.Core.Logic.{⊎-elim}
 use Prim.Native.Nat.{ℕ, _+_, _-_, _^_, _≤_, _<_}
 use native.Mathlib.Omega.{arith}
 use borrow.Author.Needs.{needs}
+use borrow.Author.Tests.{le-leb, lt-leb}
 use lib.Bits.{and-le-r}
 use lib.Count.{ones, trailingZeros}
-use lib.Dec.{ltb}
 use lib.ListN.{getD}
 use lib.Pow.{pow-pos}
 use Rattle.bits.specs.Places.{bit}
-use Rattle.model.specs.Answers.{chunkRefusal, chunkFigures}
-use Rattle.model.specs.Card.{Code, radius}
+use Rattle.model.specs.Card.{Code}
 use Rattle.model.specs.Decoded.{meaning}
-use Rattle.model.specs.Numbers.{ifServed, chunkStatus, chunkValues}
-use Rattle.model.specs.Reading.{chunkDistance, firstWithin, readWithin, chunkReading}
+use Rattle.model.specs.Reading.{readFirst, chunkReading, chunkRefusal}
 use Rattle.model.specs.declared.Chunk.{Chunk}
-use Rattle.model.specs.declared.Chunk.the-variants.{Codeword, Unreadable}
+use Rattle.code_theory.proofs.ChunkReading.{ChunkTold, chunk-told}
 use Rattle.linear_code.proofs.GrayStep.{row-of-twelve}
 use Rattle.linear_code.proofs.ChunkSearch.{Counted, one-counted, counted-all, counted-past}
 use Rattle.linear_code.proofs.ChunkSearch.{AtCandidate, search-starts, search-goes-on, search-found, search-failed}
-use Rattle.linear_code.proofs.ChunkSearch.{unlikeBits, bits-apart, search-reads}
+use Rattle.linear_code.proofs.ChunkSearch.{unlikeBits, nearBits, bits-apart, search-reads}
 use Rattle.linear_code.proofs.search.read_chunk.Statement.{statement}
 use Rattle.linear_code.proofs.search.read_chunk.Tie as tie
 
--- what the contract says of the status and the values of a chunk
-abbrev ChunkTold : (refusal : ℕ) (code : Code) (x : ℕ → ℕ) → Chunk → Type 0
-ChunkTold refusal code x read = (chunkStatus read ≡ refusal) × (chunkValues read ≡ ifServed (chunkStatus read) (chunkFigures code x))
-
-chunk-told : (code : Code) (x : ℕ → ℕ) → ChunkTold (chunkRefusal code x) code x (chunkReading code x)
-unfolding chunkReading readWithin chunkRefusal chunkFigures chunkStatus chunkValues ifServed
-chunk-told code x = by-within (ltb p (2 ^ code .k))
-  where
-    p : ℕ
-    p = firstWithin (chunkDistance code x) (radius code) (2 ^ code .k)
-
-    by-within : (t : Bool) → ChunkTold (cond t 0 10) code x (cond t (Codeword p (chunkDistance code x p)) Unreadable)
-    by-within true = (refl, refl)
-    by-within false = (refl, refl)
-
--- and so of a chunk that is the reading
+-- what the contract says of a chunk that is the reading
 meets : (code : Code) (x : ℕ → ℕ) (read : Chunk) → read ≡ chunkReading code x
     → (read ≡ chunkReading code x) × ChunkTold (chunkRefusal code x) code x read
 meets code x read e = rw e (refl, chunk-told code x)
@@ -55,13 +38,13 @@ abbrev μ-bits : tie.MeasureT-bits
 
 abbrev Inv-loop : tie.InvT-loop
 Inv-loop x k rows radius size apart₀ i₀ apart i =
-    let row : ℕ → ℕ = λ z. getD rows z 0 in AtCandidate k row x (unlikeBits k row x) radius (size - 1) apart i
+    let row : ℕ → ℕ = λ z. getD rows z 0 in AtCandidate k row x (nearBits k row x radius) (size - 1) apart i
 
 abbrev μ-loop : tie.MeasureT-loop
 μ-loop x k rows radius size apart₀ i₀ apart i = size - i
 
 loop-holds : tie.Need-loop-holds Inv-bits μ-bits Inv-loop μ-loop
-loop-holds c = search-starts _ _ _ _ _ _ (c .two-to .ensures)
+loop-holds c = search-starts _ _ _ _ _ (c .two-to .ensures)
 
 bits-holds : tie.Need-bits-holds Inv-bits μ-bits Inv-loop μ-loop
 bits-holds c = (omega arith, omega arith)
@@ -81,16 +64,15 @@ counted c =
     ⊎-elim (λ w. rw (w .1) (counted-all _ _ _ _ all (w .0 .left))) (λ w. rw (w .2) (counted-past _ _ _ _ all (w .0 .taken) (w .1 .taken)))
     (c .bits-test .came)
 
--- where the radius is passed, the codeword lies farther
+-- where the radius is passed, the codeword is not near
 far : (c : tie.Left-bits Inv-bits μ-bits Inv-loop μ-loop)
     → let at = c .before .before in
     let first = at .before .before .before .before in
-    at .before .before .radius-of .result < c .bits-test .unlike
-    → at .before .before .radius-of .result
-    < unlikeBits (first .args .code .k) (λ z. getD (first .args .code .rows) z 0) (first .args .x) (at .loop .i)
+    let radius = at .before .before .radius-of .result in
+    radius < c .bits-test .unlike
+    → nearBits (first .args .code .k) (λ z. getD (first .args .code .rows) z 0) (first .args .x) radius (at .loop .i) ≡ false
 far c past =
-    let at = c .before .before in
-    rw (← bits-apart (at .loop .inv)) (counted c .past past)
+    let at = c .before .before in lt-leb _ _ (rw (bits-apart (at .loop .inv)) at (counted c .past past))
 
 -- where the search goes on, a codeword is left
 more : (c : tie.Else3 Inv-bits μ-bits Inv-loop μ-loop)
@@ -120,14 +102,15 @@ loop-again : tie.Need-loop-again Inv-bits μ-bits Inv-loop μ-loop
 loop-again c =
     let at = c .before .before .before .before in
     let first = at .before .before .before .before in
-    search-goes-on _ _ _ _ _ _ _ _ (at .loop .inv) (first .pre .0 .k-high) (more c) (far (c .before .before) (c .before .if2 .left))
+    search-goes-on _ _ _ _ _ _ _ (at .loop .inv) (first .pre .0 .k-high) (more c) (far (c .before .before) (c .before .if2 .left))
 
 -- what the search for this chunk reads is the chunk's reading
 read : (c : tie.At-loop Inv-bits μ-bits Inv-loop μ-loop)
     → let first = c .before .before .before .before in
     let code = meaning (first .args .code) in
-    readWithin (unlikeBits (code .k) (code .row) (first .args .x)) (c .before .before .radius-of .result) (2 ^ code .k)
-    ≡ chunkReading code (bit (first .args .x))
+    let x = first .args .x in
+    readFirst (nearBits (code .k) (code .row) x (c .before .before .radius-of .result)) (unlikeBits (code .k) (code .row) x) (2 ^ code .k)
+    ≡ chunkReading code (bit x)
 read c =
     let first = c .before .before .before .before in
     search-reads (meaning (first .args .code)) (first .pre .0) (first .args .x) (first .pre .1) _ (c .before .before .radius-of .ensures)
@@ -136,13 +119,14 @@ returns : tie.Need-returns Inv-bits μ-bits Inv-loop μ-loop
 returns c =
     let at = c .before .before .before in
     let whole = counted (c .before) .whole (c .if2 .taken) ∙ bits-apart (at .loop .inv) in
-    meets _ _ _ (search-found _ _ _ _ _ _ _ _ (at .loop .inv) _ whole (c .if2 .taken) ∙ read at)
+    let near = le-leb _ _ (rw whole at (c .if2 .taken)) in
+    meets _ _ _ (search-found _ _ _ _ _ _ _ (at .loop .inv) _ _ whole near ∙ read at)
 
 returns-2 : tie.Need-returns-2 Inv-bits μ-bits Inv-loop μ-loop
 returns-2 c =
     let at = c .before .before .before .before in
     let farther = far (c .before .before) (c .before .if2 .left) in
-    meets _ _ _ (search-failed _ _ _ _ _ _ _ _ (at .loop .inv) (omega (arith, c .if3 .taken)) farther ∙ read at)
+    meets _ _ _ (search-failed _ _ _ _ _ _ _ (at .loop .inv) _ (omega (arith, c .if3 .taken)) farther ∙ read at)
 
 pub read-chunk-spec : {M : Type 1} → statement M
 read-chunk-spec =

@@ -8,8 +8,7 @@ use Rattle.model.specs.declared.Chunk.the-variants.{Codeword}
 use Rattle.code_theory.proofs.Promise.{promise}
 use native.Mathlib.Omega.{arith}
 use borrow.Author.Needs.{needs}
-use Rattle.reader.specs.Received.{chunk₁Reads}
-use Rattle.reader.proofs.RuleAnswers.{read-from, rule₁-unreadable, rule₁-no-block, rule₁-answers}
+use Rattle.reader.proofs.RuleAnswers.{chunk₁Reads, read-from, rule₁-unreadable, rule₁-no-block, rule₁-answers}
 use Rattle.reader.proofs.reading.by_rule1.Statement.{statement}
 use Rattle.reader.proofs.reading.by_rule1.Tie as tie
 

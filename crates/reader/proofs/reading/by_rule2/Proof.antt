@@ -8,8 +8,7 @@ use Rattle.model.specs.declared.Chunk.the-variants.{Codeword}
 use Rattle.code_theory.proofs.Promise.{promise}
 use native.Mathlib.Omega.{arith}
 use borrow.Author.Needs.{needs}
-use Rattle.reader.specs.Received.{chunk₂Reads}
-use Rattle.reader.proofs.RuleAnswers.{read-from, rule₂-unreadable, rule₂-no-block, rule₂-answers}
+use Rattle.reader.proofs.RuleAnswers.{chunk₂Reads, read-from, rule₂-unreadable, rule₂-no-block, rule₂-answers}
 use Rattle.reader.proofs.reading.by_rule2.Statement.{statement}
 use Rattle.reader.proofs.reading.by_rule2.Tie as tie
 

@@ -7,8 +7,8 @@ use Rattle.model.specs.Decoded.{meaning}
 use Rattle.model.specs.declared.Chunk.the-variants.{Codeword}
 use Rattle.code_theory.proofs.Promise.{promise}
 use borrow.Author.Needs.{needs}
-use Rattle.reader.specs.Received.{chunk₁Reads, chunk₂Reads}
-use Rattle.reader.proofs.RuleAnswers.{read-from, rule₃-unreadable, rule₃-second-unreadable, rule₃-unlike, rule₃-answers}
+use Rattle.reader.proofs.RuleAnswers.{chunk₁Reads, chunk₂Reads, read-from}
+use Rattle.reader.proofs.RuleAnswers.{rule₃-unreadable, rule₃-second-unreadable, rule₃-unlike, rule₃-answers}
 use Rattle.reader.proofs.reading.by_rule3.Statement.{statement}
 use Rattle.reader.proofs.reading.by_rule3.Tie as tie
 
