@@ -1,4 +1,5 @@
--- What is put out is a part of a report: the card's line, and the last part. Of a refused card the line is the last part; of a sound one it is the last part of the words' report, which follows the card's line. Assumes nothing.
+-- What is put out is a part of a report: the card's line, and the last part. Of a refused card the line is the last part; of a sound
+-- one it is the last part of the words' report, which follows the card's line. Assumes nothing.
 use Prim.Native.Nat.{ℕ, _≤_}
 use mathlib.Core.Path.{_≡_, sym, _∙_}
 use mathlib.Core.Bool.{cond}
