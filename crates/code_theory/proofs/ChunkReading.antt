@@ -2,7 +2,7 @@
 -- passed over the codewords before p and finds p near has read the chunk. The reading of a chunk depends on its n places alone, and
 -- its status and values are those that stand beside it. Assumes nothing.
 use mathlib.Core.Path.{_≡_, refl, sym, ap, fun-ext, _∙_}
-use mathlib.Core.Bool.{Bool, true, false, cond}
+use mathlib.Core.Bool.{Bool, true, false, cond, not}
 use mathlib.Core.Logic.{⊎-elim}
 use Prim.Native.Nat.{ℕ, _^_, _<_, _≤_}
 use native.Mathlib.Omega.{arith}
@@ -12,6 +12,7 @@ use Rattle.bits.specs.Searches.{first}
 use Rattle.bits.proofs.Numbers.{lt-or-le}
 use Rattle.bits.proofs.Distance.{distance-ext}
 use Rattle.bits.proofs.Searches.{first-is, first-holds, first-none}
+use Rattle.model.specs.Refusals.{firstRefusal}
 use Rattle.model.specs.Card.{Code, radius}
 use Rattle.model.specs.Reading.{chunkDistance, withinRadius, readFirst, chunkReading, chunkRefusal, chunkFigures}
 use Rattle.model.specs.Statuses.{ifServed, chunkStatus, chunkValues}
@@ -67,12 +68,12 @@ abbrev pub ChunkTold : (refusal : ℕ) → Code → (x : ℕ → ℕ) → Chunk 
 ChunkTold refusal C x read = (chunkStatus read ≡ refusal) × (chunkValues read ≡ ifServed (chunkStatus read) (chunkFigures C x))
 
 pub chunk-told : (C : Code) (x : ℕ → ℕ) → ChunkTold (chunkRefusal C x) C x (chunkReading C x)
-unfolding chunkReading readFirst chunkRefusal chunkFigures chunkStatus chunkValues ifServed
+unfolding chunkReading readFirst chunkRefusal firstRefusal chunkFigures chunkStatus chunkValues ifServed
 chunk-told C x = by-found (ltb p (2 ^ C .k))
   where
     p : ℕ
     p = first (withinRadius C x) (2 ^ C .k)
 
-    by-found : (t : Bool) → ChunkTold (cond t 0 10) C x (cond t (Codeword p (chunkDistance C x p)) Unreadable)
+    by-found : (t : Bool) → ChunkTold (cond (not t) 10 0) C x (cond t (Codeword p (chunkDistance C x p)) Unreadable)
     by-found true = (refl, refl)
     by-found false = (refl, refl)

@@ -1,5 +1,5 @@
 -- How an answer of the library crosses to a caller in C: its status, and its values in numbers that the caller lends. The status
--- and the values of each answer are those of the model's Numbers.antt. Assumes nothing.
+-- and the values of each answer are those of the model's Statuses.antt. Assumes nothing.
 use Prim.Native.Nat.{ℕ}
 use mathlib.Core.Path.{_≡_}
 use mathlib.Core.Bool.{cond}

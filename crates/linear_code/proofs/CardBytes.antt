@@ -17,7 +17,7 @@ use Rattle.bits.specs.Searches.{anyBelow}
 use Rattle.bits.proofs.Numbers.{eq-or-ne}
 use Rattle.bits.proofs.Searches.{none-of-any}
 use Rattle.bits.proofs.Sums.{sum-split, sum-zero}
-use Rattle.model.specs.Card.{highFirst, byte, unusedByteSet}
+use Rattle.model.specs.Card.{highFirst, byte, checkShare, unusedByteSet}
 
 -- ---- numbers, high byte first
 
@@ -37,21 +37,17 @@ bytes-fit v d j h k l =
 
 -- ---- the check's sum
 
--- what place p adds
-abbrev pub summand : List ℕ → ℕ → ℕ
-summand b p = (p + 1) * byte b p
-
--- it is at most 510 × 255
-pub summand-most : (p d : ℕ) → p < 510 → d < 256 → (p + 1) * d ≤ 130050
-summand-most p d h k = mul-le-mul {n₁ = p + 1} {n₂ = 510} {m₂ = 255} (omega arith) (le-of-suc-le-suc k)
+-- what a place adds is at most 510 × 255
+pub share-most : (p d : ℕ) → p < 510 → d < 256 → (p + 1) * d ≤ 130050
+share-most p d h k = mul-le-mul {n₁ = p + 1} {n₂ = 510} {m₂ = 255} (omega arith) (le-of-suc-le-suc k)
 
 -- where no unused byte is set, the sum over all places ends at place 100
-pub ends-at-used : (b : List ℕ) → unusedByteSet b ≡ false → sumBelow (summand b) 510 ≡ sumBelow (summand b) 100
+pub ends-at-used : (b : List ℕ) → unusedByteSet b ≡ false → sumBelow (checkShare b) 510 ≡ sumBelow (checkShare b) 100
 unfolding unusedByteSet
 ends-at-used b none =
     let zero : (p : ℕ) → p < 410 → byte b (100 + p) ≡ 0 =
     λ p h. eqb-true (byte b (100 + p)) 0 (not-false _ (none-of-any (λ i. not (eqb (byte b (100 + i)) 0)) 410 none p h)) in
-    omega (arith, sum-split (summand b) 100 410, sum-zero {f = fromPlace 100 (summand b)} 410 (λ p h. rw (zero p h) (mul-zero _)))
+    omega (arith, sum-split (checkShare b) 100 410, sum-zero {f = fromPlace 100 (checkShare b)} 410 (λ p h. rw (zero p h) (mul-zero _)))
 
 -- ---- bytes joined by or
 

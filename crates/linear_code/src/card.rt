@@ -1,11 +1,11 @@
 // The fields of a card, and what refusals 2, 3 and 4 test of them.
 ghost use mathlib.Core.Path.{_≡_};
 ghost use mathlib.Core.Bool.{_||_};
-ghost use Prim.Native.Nat.{_+_, _*_, _^_, _≤_, _<_};
+ghost use Prim.Native.Nat.{_+_, _^_, _≤_, _<_};
 ghost use lib.Dec.{leb};
 ghost use lib.ListN.{length, getD};
 ghost use Rattle.bits.specs.Sums.{sumBelow};
-ghost use Rattle.model.specs.Card.{byte, highFirst, rowOf, trackOf, storedCheck, computedCheck, withinLimits, rowTooWide, unusedRowSet, unusedByteSet};
+ghost use Rattle.model.specs.Card.{byte, checkShare, highFirst, rowOf, trackOf, storedCheck, computedCheck, withinLimits, rowTooWide, unusedRowSet, unusedByteSet};
 
 // A byte as a number of 64 bits.
 fn wide(b: u8) -> u64
@@ -55,7 +55,7 @@ pub fn stored_check(card: &[u8]) -> u32
 // The sum over the first `end` places of (place + 1) × byte.
 fn weighted_sum(card: &[u8], end: usize) -> u32
     requires { ⌜ (length (now card) ≡ 512) × (end ≤ 510) ⌝ }
-    ensures { λ r. ⌜ r ≡ sumBelow (λ p. (p + 1) * byte (now (card .entry)) p) end ⌝ }
+    ensures { λ r. ⌜ r ≡ sumBelow (checkShare (now (card .entry))) end ⌝ }
 {
     let mut total: u32 = 0;
     let mut p: usize = 0;

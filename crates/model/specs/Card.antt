@@ -42,9 +42,13 @@ rowOf b z = cond (ltb z 12) (highFirst b (4 + 8 * z) 8) 0
 unfoldable pub storedCheck : List ℕ → ℕ
 storedCheck b = highFirst b 510 2
 
+-- what place p adds to the check: (place + 1) × byte
+abbrev pub checkShare : (b : List ℕ) (p : ℕ) → ℕ
+checkShare b p = (p + 1) * byte b p
+
 -- the check that the card should carry: the sum over places 0 to 509 of (place + 1) × byte, modulo 65,521
 unfoldable pub computedCheck : List ℕ → ℕ
-computedCheck b = sumBelow (λ p. (p + 1) * byte b p) 510 % 65521
+computedCheck b = sumBelow (checkShare b) 510 % 65521
 
 -- the sum, modulo 2, of those rows z, from 0 to k - 1, whose bit 2^z is set in g
 unfoldable pub sumOfRows : (row : ℕ → ℕ) (k g : ℕ) → ℕ

@@ -7,7 +7,7 @@ use lib.Dec.{leb, ltb, eqb}
 use Rattle.bits.specs.Sums.{sumBelow, distance}
 use Rattle.bits.specs.Places.{bit}
 use Rattle.bits.specs.Searches.{first, leastAt}
-use Rattle.model.specs.Refusals.{Row, refuses}
+use Rattle.model.specs.Refusals.{Row, refuses, firstRefusal}
 use Rattle.model.specs.Card.{Code, radius}
 use Rattle.model.specs.Order.{codeword, lastCodeword, changedWeight, start, lastPosition}
 use Rattle.model.specs.Words.{wordBits, wordAt, separator₁, chunk₁, separator₂, chunk₂, separator₃}
@@ -39,7 +39,7 @@ chunkReading C x = readFirst (withinRadius C x) (chunkDistance C x) (2 ^ C .k)
 
 -- a chunk: the refusal's number, or 0 where some codeword lies within the radius
 unfoldable pub chunkRefusal : Code → (x : ℕ → ℕ) → ℕ
-chunkRefusal C x = cond (ltb (first (withinRadius C x) (2 ^ C .k)) (2 ^ C .k)) 0 10
+chunkRefusal C x = firstRefusal (refuses 10 (not (ltb (first (withinRadius C x) (2 ^ C .k)) (2 ^ C .k))) ∷ [])
 
 -- the values of a chunk that is read: the codeword's number, and in how many bits the two differ
 unfoldable pub chunkFigures : Code → (x : ℕ → ℕ) → List ℕ

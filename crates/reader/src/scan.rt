@@ -47,7 +47,8 @@ fn next_residual(residual: u32, new: u32, received: u32) -> u32
     }
 }
 
-// One position on, with its residual. No block starts above 1,310,400, and none has more than 320 steps.
+// One position on, with its residual. No block starts above 1,310,400; a search begins at most 320 steps past a start, and passes at
+// most 320 places.
 fn advance(s: Scan, residual: u32) -> Scan
     requires { ⌜ s .position ≤ 1311040 ⌝ }
     ensures { λ r. ⌜ (r .low ≡ s .low) × (r .position ≡ s .position + 1) × (r .residual ≡ residual) ⌝ }

@@ -6,12 +6,13 @@ use borrow.Author.Needs.{needs}
 use native.Mathlib.Omega.{arith}
 use Rattle.bits.specs.Sums.{sumBelow}
 use Rattle.bits.proofs.Sums.{sum-more}
-use Rattle.linear_code.proofs.CardBytes.{summand, summand-most}
+use Rattle.model.specs.Card.{checkShare}
+use Rattle.linear_code.proofs.CardBytes.{share-most}
 use Rattle.linear_code.proofs.card.weighted_sum.Statement.{statement}
 use Rattle.linear_code.proofs.card.weighted_sum.Tie as tie
 
 abbrev Inv-loop : tie.InvT-loop
-Inv-loop card end total₀ p₀ total p = (p ≤ end) × (total ≡ sumBelow (summand card) p) × (total ≤ 130050 * p)
+Inv-loop card end total₀ p₀ total p = (p ≤ end) × (total ≡ sumBelow (checkShare card) p) × (total ≤ 130050 * p)
 
 abbrev μ-loop : tie.MeasureT-loop
 μ-loop card end total₀ p₀ total p = end - p
@@ -22,7 +23,7 @@ loop-holds c = (omega arith, refl, omega arith)
 
 -- what this turn adds
 added : (c : tie.After-byte-at Inv-loop μ-loop) → (c .before .before .loop .p + 1) * c .byte-at .result ≤ 130050
-added c = summand-most (c .before .before .loop .p) (c .byte-at .result) (omega arith) (c .byte-at .ensures .1)
+added c = share-most (c .before .before .loop .p) (c .byte-at .result) (omega arith) (c .byte-at .ensures .1)
 
 mul-total : tie.Need-mul-total Inv-loop μ-loop
 mul-total c = omega (arith, added c)
