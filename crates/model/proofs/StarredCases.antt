@@ -8,14 +8,19 @@ use Rattle.bits.specs.Searches.{anyBelow, firstFrom, first, leastAt, greatest}
 use Rattle.model.specs.Refusals.{firstRefusal, unlessRefused}
 use Rattle.model.specs.Card.{highFirst, trackOf, rowOf, storedCheck, computedCheck, sumOfRows, leastWeight, codeOf}
 use Rattle.model.specs.Card.{withinLimits, rowTooWide, unusedRowSet, unusedByteSet, misplaced, dependent, cardRefusal}
+use Rattle.model.specs.CardBytes.{bytesOf, rowBytes, sealed, cardOf}
 use Rattle.model.specs.Order.{gray, lastCodeword, codeword, changedRow, changedWeight, start, lastPosition}
 use Rattle.model.specs.Words.{fiveChunks, word, blockOf, wordAt, wordBytes}
 use Rattle.model.specs.Reading.{majority, chunkDistance, withinRadius, readFirst, chunkReading, unreadable, numberRead, seen}
 use Rattle.model.specs.Reading.{ruleOf, numberBy, twoEnds, rowsSeen, ruleNamed, rowsOf, allowed, residual, nearestIn, nearest}
 use Rattle.model.specs.Answers.{summaryOf, cardAnswer, writeRefusal, writeAnswer, lentAfterWrite}
 use Rattle.model.specs.Answers.{spareSet, rowsOfWord, readRefusal, readAnswer}
-use Rattle.model.specs.Statuses.{cardStatus, cardValues, writeStatus, writeValues, readStatus, readValues}
-use Rattle.model.specs.Cases.{Case, rowBytes, sealed, cardOf, cardA, cardB, numbersOf, codewordPlaces, answerTo, starredCases}
+use Rattle.model.specs.Answers.{makeRefusal, makeAnswer, voteRefusal, voteAnswer}
+use Rattle.model.specs.ReedMuller.{product, those, setsOf, setsUpTo, countOfSets, productRow, productOf, reedMullerCard, orderWithinLimits}
+use Rattle.model.specs.ReedMuller.{classSum, classes, votesForOne, coefficient, round, afterRounds, voted, votedRows, votedNumber}
+use Rattle.model.specs.ReedMuller.{votedDistance, votedWithin}
+use Rattle.model.specs.Statuses.{cardStatus, cardValues, writeStatus, writeValues, readStatus, readValues, voteStatus, voteValues}
+use Rattle.model.specs.Cases.{Case, cardA, cardB, numbersOf, codewordPlaces, answerTo, starredCases}
 
 pub starred-cases : map (λ (c : Case). answerTo (c .question)) starredCases ≡ map (λ (c : Case). c .answer) starredCases
 unfolding sumBelow distance joinAt
@@ -29,6 +34,9 @@ unfolding sumBelow distance joinAt
     majority chunkDistance withinRadius readFirst chunkReading unreadable numberRead seen
     ruleOf numberBy twoEnds rowsSeen ruleNamed rowsOf allowed residual nearestIn nearest
     summaryOf cardAnswer writeRefusal writeAnswer lentAfterWrite spareSet rowsOfWord readRefusal readAnswer
-    cardStatus cardValues writeStatus writeValues readStatus readValues
-    rowBytes sealed cardOf cardA cardB numbersOf codewordPlaces answerTo starredCases
+    makeRefusal makeAnswer voteRefusal voteAnswer
+    product those setsOf setsUpTo countOfSets productRow productOf reedMullerCard orderWithinLimits
+    classSum classes votesForOne coefficient round afterRounds voted votedRows votedNumber votedDistance votedWithin
+    cardStatus cardValues writeStatus writeValues readStatus readValues voteStatus voteValues
+    bytesOf rowBytes sealed cardOf cardA cardB numbersOf codewordPlaces answerTo starredCases
 starred-cases = refl

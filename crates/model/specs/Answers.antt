@@ -1,19 +1,20 @@
--- Document 01, "Where a call can be turned down": what each of the five public calls answers, for every list of bytes and
--- every number. The refusals stand in the table's order, as far as the call has the thing, and the first that holds is the
+-- Documents 01, "Where a call can be turned down", and 02: what each public call answers, for every list of bytes and every
+-- number. The refusals stand in the table's order, as far as the call has the thing, and the first that holds is the
 -- answer. Beside each answer stand the number of its refusal, 0 where the call is served, and its values where it is; that the
 -- answer's status and values, by Statuses.antt, are these is part of the calls' contracts. Assumes nothing.
 use mathlib.Core.Bool.{Bool, not}
 use mathlib.Core.List.{List, [], _∷_}
-use Prim.Native.Nat.{ℕ, _+_, _-_, _*_}
-use lib.Dec.{ltb, eqb}
-use lib.ListN.{length}
-use Rattle.bits.specs.Places.{bytesFor, place}
+use Prim.Native.Nat.{ℕ, _+_, _-_, _*_, _^_}
+use lib.Dec.{leb, ltb, eqb}
+use lib.ListN.{length, replicate}
+use Rattle.bits.specs.Places.{bit, bytesFor, place}
 use Rattle.bits.specs.Searches.{anyBelow}
 use Rattle.model.specs.Refusals.{Row, refuses, refusedAs, firstRefusal, unlessRefused}
 use Rattle.model.specs.Card.{Code, cardRefusal, codeOf, radius, trackOf}
 use Rattle.model.specs.Order.{lastCodeword, lastPosition, start}
 use Rattle.model.specs.Words.{wordBits, wordBytes, millimetresOf}
 use Rattle.model.specs.Reading.{ruleNamed, rowsOf, allowed, residual, nearest}
+use Rattle.model.specs.ReedMuller.{reedMullerCard, orderWithinLimits, votedNumber, votedDistance, votedWithin}
 use Rattle.model.specs.declared.Reading.{Reading}
 use Rattle.model.specs.declared.CardSummary.{CardSummary}
 use Rattle.model.specs.declared.CardAnswer.{CardAnswer}
@@ -24,6 +25,9 @@ use Rattle.model.specs.declared.ReadAnswer.{ReadAnswer}
 use Rattle.model.specs.declared.ReadAnswer.the-variants.{At, Refused as ReadRefused}
 use Rattle.model.specs.declared.NumberAnswer.{NumberAnswer}
 use Rattle.model.specs.declared.NumberAnswer.the-variants.{Number, Refused as NumberRefused}
+use Rattle.model.specs.declared.MadeCard.{MadeCard}
+use Rattle.model.specs.declared.VoteAnswer.{VoteAnswer}
+use Rattle.model.specs.declared.VoteAnswer.the-variants.{Voted, Refused as VoteRefused}
 
 -- what a sound card is answered with: n, k, track, D, t, d and the last position
 unfoldable pub summaryOf : List ℕ → CardSummary
@@ -118,3 +122,32 @@ millimetresRefusal card position = firstRefusal (refusedAs (cardRefusal card) �
 -- millimetres: the distance of a position from the buffer face
 unfoldable pub millimetresAnswer : (card : List ℕ) (position : ℕ) → NumberAnswer
 millimetresAnswer card position = unlessRefused (millimetresRefusal card position) NumberRefused (Number (millimetresOf position))
+
+-- make a card: the refusal's number, or 0 where the card is made
+unfoldable pub makeRefusal : (r m : ℕ) → ℕ
+makeRefusal r m = firstRefusal (refuses 13 (not (orderWithinLimits r m)) ∷ [])
+
+-- make a card: the refusal's number with 512 zero bytes, or 0 with the bytes of the Reed-Muller code's card
+unfoldable pub makeAnswer : (track r m : ℕ) → MadeCard
+makeAnswer track r m =
+    unlessRefused (makeRefusal r m)
+    (λ refusal. record { refusal = refusal; bytes = replicate 512 0 })
+    (record { refusal = 0; bytes = reedMullerCard track r m })
+
+-- vote on a chunk, a number of 64 bits: the refusal's number, or 0 where it is read. 8 is a bit at n or above, and n is 2^m
+unfoldable pub voteRefusal : (r m chunk : ℕ) → ℕ
+voteRefusal r m chunk =
+    firstRefusal
+    (refuses 13 (not (orderWithinLimits r m))
+    ∷ refuses 8 (leb (2 ^ 2 ^ m) chunk)
+    ∷ refuses 10 (not (votedWithin r m (bit chunk)))
+    ∷ [])
+
+-- vote on a chunk: the answer
+unfoldable pub voteAnswer : (r m chunk : ℕ) → VoteAnswer
+voteAnswer r m chunk =
+    unlessRefused (voteRefusal r m chunk) VoteRefused (Voted (votedNumber r m (bit chunk)) (votedDistance r m (bit chunk)))
+
+-- the values of a chunk that is read by voting: the codeword's number, and in how many bits the two differ
+unfoldable pub voteFigures : (r m chunk : ℕ) → List ℕ
+voteFigures r m chunk = votedNumber r m (bit chunk) ∷ votedDistance r m (bit chunk) ∷ []

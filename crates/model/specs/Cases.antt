@@ -1,35 +1,28 @@
 -- Document 01, "Two cards to try": every case marked *, and with them the cards' figures and the refused cards and words
--- that it names, as one table of questions and answers. That the definitions answer so is one theorem, `starred-cases`.
+-- that it names; and the borders of document 02's requests; as one table of questions and answers. That the definitions answer so is one theorem, `starred-cases`.
 -- Assumes nothing.
 use mathlib.Core.List.{List, [], _∷_, _++_}
-use Prim.Native.Nat.{ℕ, zero, suc, _-_, _*_, _/_, _%_}
-use lib.ListN.{length, replicate}
+use Prim.Native.Nat.{ℕ, zero, suc}
+use lib.ListN.{getD, replicate}
 use Rattle.bits.specs.Sums.{sumBelow}
 use Rattle.bits.specs.Places.{bit, place, listOf, differingBits}
-use Rattle.model.specs.Card.{Code, computedCheck, storedCheck, codeOf}
+use Rattle.model.specs.Card.{Code, rowOf, storedCheck, codeOf}
+use Rattle.model.specs.CardBytes.{cardOf}
 use Rattle.model.specs.Order.{codeword, lastPosition, start}
 use Rattle.model.specs.Words.{separator₁, separator₂, separator₃, wordBytes}
-use Rattle.model.specs.Answers.{cardAnswer, writeAnswer, lentAfterWrite, readAnswer}
-use Rattle.model.specs.Statuses.{cardStatus, cardValues, writeStatus, writeValues, readStatus, readValues}
+use Rattle.model.specs.Answers.{cardAnswer, writeAnswer, lentAfterWrite, readAnswer, makeAnswer, voteAnswer}
+use Rattle.model.specs.Statuses.{cardStatus, cardValues, writeStatus, writeValues, readStatus, readValues, voteStatus, voteValues}
+use Rattle.model.specs.declared.MadeCard.{MadeCard}
 
--- rows below 256, each as 8 bytes, high byte first
-unfoldable pub rowBytes : List ℕ → List ℕ
-rowBytes [] = []
-rowBytes (row ∷ rows) = replicate 7 0 ++ (row ∷ rowBytes rows)
-
--- 510 bytes and their check
-unfoldable pub sealed : List ℕ → List ℕ
-sealed body = body ++ (computedCheck body / 256 ∷ computedCheck body % 256 ∷ [])
-
--- a card of n, k, a track below 256 and rows below 256, with its check
-unfoldable pub cardOf : (n k track : ℕ) → List ℕ → List ℕ
-cardOf n k track rows = sealed (n ∷ k ∷ 0 ∷ track ∷ (rowBytes rows ++ replicate (506 - 8 * length rows) 0))
+-- a card with these rows, and zero for the others
+abbrev pub cardWith : (n k track : ℕ) → List ℕ → List ℕ
+cardWith n k track rows = cardOf n k track (λ z. getD rows z 0)
 
 unfoldable pub cardA : List ℕ
-cardA = cardOf 3 2 0 (3 ∷ 6 ∷ [])
+cardA = cardWith 3 2 0 (3 ∷ 6 ∷ [])
 
 unfoldable pub cardB : List ℕ
-cardB = cardOf 3 1 14 (7 ∷ [])
+cardB = cardWith 3 1 14 (7 ∷ [])
 
 -- what may be asked of a card
 pub data Question : Type 0 where
@@ -49,6 +42,10 @@ pub data Question : Type 0 where
   bitsUnlike : (card : List ℕ) (position : ℕ) (received : List ℕ) → Question
   -- how many bits of each separator are 1
   onesOfSeparators : (card received : List ℕ) → Question
+  -- the refusal of a card that is to be made, or 0; then the answer to a check of its bytes, and its first rows, so many
+  made : (track r m rows : ℕ) → Question
+  -- the answer to a vote on a chunk
+  vote : (r m chunk : ℕ) → Question
 
 -- an answer written out: its status, then its values
 unfoldable pub numbersOf : {A : Type 0} (status : A → ℕ) (values : A → List ℕ) (answer : A) → List ℕ
@@ -73,8 +70,12 @@ answerTo (onesOfSeparators card received) =
     let C : Code = codeOf card in
     let x : ℕ → ℕ = place received in
     sumBelow (separator₁ C x) (C .D) ∷ sumBelow (separator₂ C x) (C .D) ∷ sumBelow (separator₃ C x) (C .D) ∷ []
+answerTo (made track r m rows) =
+    let card : MadeCard = makeAnswer track r m in
+    card .refusal ∷ (numbersOf cardStatus cardValues (cardAnswer (card .bytes)) ++ listOf rows (rowOf (card .bytes)))
+answerTo (vote r m chunk) = numbersOf voteStatus voteValues (voteAnswer r m chunk)
 
--- a question and what document 01 says
+-- a question and what the documents say
 pub record Case : Type 0 where
   pub question : Question
   pub answer : List ℕ
@@ -113,7 +114,26 @@ starredCases =
     ∷ case (read cardA (0b00000100 ∷ 0b0000 ∷ [])) (10 ∷ [])
     -- cards: 512 zero bytes, k 13, rows 3 and 3, 511 bytes
     ∷ case (checkCard (replicate 512 0)) (3 ∷ [])
-    ∷ case (checkCard (cardOf 13 13 0 [])) (3 ∷ [])
-    ∷ case (checkCard (cardOf 3 2 0 (3 ∷ 3 ∷ []))) (5 ∷ [])
+    ∷ case (checkCard (cardWith 13 13 0 [])) (3 ∷ [])
+    ∷ case (checkCard (cardWith 3 2 0 (3 ∷ 3 ∷ []))) (5 ∷ [])
     ∷ case (checkCard (replicate 511 0)) (1 ∷ [])
+    -- document 02, P1: made cards of orders 0, 1 and m, on the first, some and the last track: n is 2^m, D 2^(m-r), rows by size and S
+    ∷ case (made 0 0 1 2) (0 ∷ 0 ∷ 2 ∷ 1 ∷ 0 ∷ 2 ∷ 0 ∷ 10 ∷ 10 ∷ 0b11 ∷ 0 ∷ [])
+    ∷ case (made 14 1 2 3) (0 ∷ 0 ∷ 4 ∷ 3 ∷ 14 ∷ 2 ∷ 0 ∷ 14 ∷ 86 ∷ 0b1111 ∷ 0b1010 ∷ 0b1100 ∷ [])
+    ∷ case (made 65535 2 2 4) (0 ∷ 0 ∷ 4 ∷ 4 ∷ 65535 ∷ 1 ∷ 0 ∷ 11 ∷ 135 ∷ 0b1111 ∷ 0b1010 ∷ 0b1100 ∷ 0b1000 ∷ [])
+    -- 13: no variable, seven, r above m, k 15 and 16; and the bytes, all zero, are refusal 3
+    ∷ case (made 14 0 0 0) (13 ∷ 3 ∷ [])
+    ∷ case (made 14 1 7 0) (13 ∷ 3 ∷ [])
+    ∷ case (made 14 4 3 0) (13 ∷ 3 ∷ [])
+    ∷ case (made 14 3 4 0) (13 ∷ 3 ∷ [])
+    ∷ case (made 14 2 5 0) (13 ∷ 3 ∷ [])
+    ∷ case (made 14 1 4294967295 0) (13 ∷ 3 ∷ [])
+    ∷ case (made 14 4294967295 1 0) (13 ∷ 3 ∷ [])
+    -- votes: a codeword, one bit off and two bits off, where t is 1; 8 before 10, and 13 before 8
+    ∷ case (vote 1 3 0b01011010) (0 ∷ 12 ∷ 0 ∷ [])
+    ∷ case (vote 1 3 0b01011110) (0 ∷ 12 ∷ 1 ∷ [])
+    ∷ case (vote 1 3 0b00011110) (10 ∷ [])
+    ∷ case (vote 1 3 0b100011110) (8 ∷ [])
+    ∷ case (vote 0 0 2) (13 ∷ [])
+    ∷ case (vote 2 5 4294967296) (13 ∷ [])
     ∷ []

@@ -1,9 +1,11 @@
 pub mod Refusals
 pub mod Card
 pub mod Decoded
+pub mod CardBytes
 pub mod Order
 pub mod Words
 pub mod Reading
+pub mod ReedMuller
 pub mod Answers
 pub mod Statuses
 pub mod Cases

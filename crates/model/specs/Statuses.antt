@@ -15,6 +15,8 @@ use Rattle.model.specs.declared.ReadAnswer.{ReadAnswer}
 use Rattle.model.specs.declared.ReadAnswer.the-variants.{At, Refused as ReadRefused}
 use Rattle.model.specs.declared.NumberAnswer.{NumberAnswer}
 use Rattle.model.specs.declared.NumberAnswer.the-variants.{Number, Refused as NumberRefused}
+use Rattle.model.specs.declared.VoteAnswer.{VoteAnswer}
+use Rattle.model.specs.declared.VoteAnswer.the-variants.{Voted, Refused as VoteRefused}
 
 -- the values of an answer with this status: these where it is 0, and none of a refusal
 unfoldable pub ifServed : (status : ℕ) (values : List ℕ) → List ℕ
@@ -64,3 +66,12 @@ numberStatus (NumberRefused refusal) = refusal
 unfoldable pub numberValues : NumberAnswer → List ℕ
 numberValues (Number number) = number ∷ []
 numberValues (NumberRefused refusal) = []
+
+-- a vote on a chunk: the codeword's number, and in how many bits the two differ
+unfoldable pub voteStatus : VoteAnswer → ℕ
+voteStatus (Voted number unlike) = 0
+voteStatus (VoteRefused refusal) = refusal
+
+unfoldable pub voteValues : VoteAnswer → List ℕ
+voteValues (Voted number unlike) = number ∷ unlike ∷ []
+voteValues (VoteRefused refusal) = []

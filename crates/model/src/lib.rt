@@ -63,3 +63,15 @@ pub enum NumberAnswer {
     Number(u32),
     Refused(u32),
 }
+
+// A card that was made: the refusal's number, or 0, and the card's bytes, all zero where it is refused.
+pub struct MadeCard {
+    pub refusal: u32,
+    pub bytes: [u8; 512],
+}
+
+// The answer to a vote on a chunk: the codeword's number, and in how many bits the two differ.
+pub enum VoteAnswer {
+    Voted { number: u32, unlike: u32 },
+    Refused(u32),
+}

@@ -14,7 +14,8 @@ use Rattle.model.specs.Words.{fiveChunks, word, blockOf, wordAt}
 use Rattle.model.specs.Reading.{majority, chunkDistance, withinRadius, readFirst, chunkReading, unreadable, numberRead, seen}
 use Rattle.model.specs.Reading.{ruleOf, numberBy, twoEnds, rowsSeen, ruleNamed, rowsOf, allowed, residual, nearestIn, nearest}
 use Rattle.model.specs.Answers.{summaryOf, cardAnswer, spareSet, rowsOfWord, readWord}
-use Rattle.model.specs.Cases.{rowBytes, sealed, cardOf, cardB}
+use Rattle.model.specs.CardBytes.{bytesOf, rowBytes, sealed, cardOf}
+use Rattle.model.specs.Cases.{cardB}
 use Rattle.report.specs.Text.{ascii, digitsWithin, decimal}
 use Rattle.report.specs.Lines.{cardLine, wordLine, shortLine, lastLine}
 use Rattle.report.specs.Report.{wordLines, readCount, wordsRead, wordsReport, reportOf}
@@ -36,7 +37,7 @@ unfolding sumBelow distance joinAt
     majority chunkDistance withinRadius readFirst chunkReading unreadable numberRead seen
     ruleOf numberBy twoEnds rowsSeen ruleNamed rowsOf allowed residual nearestIn nearest
     summaryOf cardAnswer spareSet rowsOfWord readWord
-    rowBytes sealed cardOf cardB
+    bytesOf rowBytes sealed cardOf cardB
     ascii digitsWithin decimal
     cardLine wordLine shortLine lastLine
     wordLines readCount wordsRead wordsReport reportOf
