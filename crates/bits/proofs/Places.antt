@@ -36,10 +36,10 @@ getD-listOf (suc m) f i h =
 -- ---- binary numbers
 
 -- the number whose bits are w(0), …, w(m - 1)
-abbrev number : (ℕ → ℕ) → ℕ → ℕ
+abbrev pub number : (ℕ → ℕ) → ℕ → ℕ
 number w m = sumBelow (λ q. w q * 2 ^ q) m
 
-number-below : (w : ℕ → ℕ) → ((q : ℕ) → w q < 2) → (m : ℕ) → number w m < 2 ^ m
+pub number-below : (w : ℕ → ℕ) → ((q : ℕ) → w q < 2) → (m : ℕ) → number w m < 2 ^ m
 unfolding sumBelow
 number-below w bits zero = omega arith
 number-below w bits (suc m) =
@@ -48,7 +48,7 @@ number-below w bits (suc m) =
 higher-power : (x q k : ℕ) → x * 2 ^ (suc q + k) ≡ x * 2 ^ k * 2 * 2 ^ q
 higher-power x q k = rw (pow-add 2 (suc q) k, pow-succ' 2 q) (omega arith)
 
-bit-of-number : (w : ℕ → ℕ) → ((q : ℕ) → w q < 2) → (m q : ℕ) → q < m → bit (number w m) q ≡ w q
+pub bit-of-number : (w : ℕ → ℕ) → ((q : ℕ) → w q < 2) → (m q : ℕ) → q < m → bit (number w m) q ≡ w q
 unfolding sumBelow
 bit-of-number w bits zero q l = absurd (omega arith)
 bit-of-number w bits (suc m) q l =

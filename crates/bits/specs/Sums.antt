@@ -1,6 +1,7 @@
 -- Sums over places, the Hamming distance of two bit functions, and bit functions taken apart and joined. A bit function gives
 -- each place 0 or 1. Assumes nothing.
 use mathlib.Core.Bool.{cond}
+use mathlib.Core.List.{List, [], _∷_}
 use Prim.Native.Nat.{ℕ, zero, suc, _+_, _-_, _%_}
 use lib.Dec.{ltb}
 
@@ -8,6 +9,11 @@ use lib.Dec.{ltb}
 unfoldable pub sumBelow : (f : ℕ → ℕ) (d : ℕ) → ℕ
 sumBelow f zero = 0
 sumBelow f (suc d) = sumBelow f d + f d
+
+-- the sum of f over the entries of a list
+unfoldable pub sumOver : (l : List ℕ) (f : ℕ → ℕ) → ℕ
+sumOver [] f = 0
+sumOver (x ∷ l) f = f x + sumOver l f
 
 -- of two bits, each 0 or 1: 1 where they differ, 0 where they are alike
 abbrev pub unlike : (a b : ℕ) → ℕ

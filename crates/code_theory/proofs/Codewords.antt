@@ -56,7 +56,7 @@ rows-of-none row zero g h = refl
 rows-of-none row (suc k) g h =
     rw (rows-of-none row k g (λ z l. h z (omega arith)), h k (omega arith), zero-mul)
 
-rows-of-one : (row : ℕ → ℕ) (k z : ℕ) → z < k → sumOfRows row k (2 ^ z) ≡ row z
+pub rows-of-one : (row : ℕ → ℕ) (k z : ℕ) → z < k → sumOfRows row k (2 ^ z) ≡ row z
 unfolding sumOfRows
 rows-of-one row zero z l = omega arith
 rows-of-one row (suc k) z l =

@@ -1,7 +1,7 @@
 -- The definitions answer every case of document 01's table as it says: computed, all at once. Assumes nothing.
 use mathlib.Core.Path.{_≡_, refl}
 use mathlib.Core.List.{map}
-use Rattle.bits.specs.Sums.{sumBelow, distance, joinAt}
+use Rattle.bits.specs.Sums.{sumBelow, sumOver, distance, joinAt}
 use Rattle.bits.specs.Walk.{walk}
 use Rattle.bits.specs.Places.{weight, place, cut, byteOf, listOf, pack, differingBits}
 use Rattle.bits.specs.Searches.{anyBelow, firstFrom, first, leastAt, greatest}
@@ -23,7 +23,7 @@ use Rattle.model.specs.Statuses.{cardStatus, cardValues, writeStatus, wr
 use Rattle.model.specs.Cases.{Case, cardA, cardB, numbersOf, codewordPlaces, answerTo, starredCases}
 
 pub starred-cases : map (λ (c : Case). answerTo (c .question)) starredCases ≡ map (λ (c : Case). c .answer) starredCases
-unfolding sumBelow distance joinAt
+unfolding sumBelow sumOver distance joinAt
     walk
     weight place cut byteOf listOf pack differingBits
     anyBelow firstFrom first leastAt greatest

@@ -7,7 +7,7 @@ use Prim.Native.Nat.{ℕ, zero, suc, _+_, _-_, _*_, _%_, _^_}
 use lib.Bits.{bitAnd, bitOr}
 use lib.Dec.{leb, ltb, eqb}
 use lib.ListN.{length, getD}
-use Rattle.bits.specs.Sums.{sumBelow}
+use Rattle.bits.specs.Sums.{sumBelow, sumOver}
 use Rattle.bits.specs.Places.{weight}
 use Rattle.bits.specs.Searches.{first}
 use Rattle.model.specs.Card.{Code, codeWith}
@@ -85,7 +85,7 @@ coefficient m y S = cond (ltb (classes m S) (2 * votesForOne m S y)) 1 0
 
 -- step 2 (b), the round of size s: the products of s variables that were voted for are taken off y, modulo 2
 unfoldable pub round : (m s : ℕ) (y : ℕ → ℕ) (p : ℕ) → ℕ
-round m s y p = (y p + sumBelow (λ S. cond (eqb (weight m S) s) (coefficient m y S * product S p) 0) (2 ^ m)) % 2
+round m s y p = (y p + sumOver (setsOf m s) (λ S. coefficient m y S * product S p)) % 2
 
 -- what is left of y after the first j rounds; they go from size r down to size 0
 unfoldable pub afterRounds : (r m : ℕ) (y : ℕ → ℕ) (j : ℕ) → ℕ → ℕ

@@ -1,0 +1,5 @@
+pub mod LowestVariable
+pub mod Classes
+pub mod Sets
+pub mod Polynomials
+pub mod LeastDistance
