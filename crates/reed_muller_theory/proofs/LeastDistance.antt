@@ -114,7 +114,7 @@ module _ (r m : ℕ) (order : r ≤ m) where
           (eq-or-ne (product S c) 1)
 
   -- the coefficient of row z's set is the bit that names the row
-  coefficient-of-row : (g z : ℕ) → z < countOfSets r m → coefficientOf r m g (setOf r m z) ≡ bit g z
+  pub coefficient-of-row : (g z : ℕ) → z < countOfSets r m → coefficientOf r m g (setOf r m z) ≡ bit g z
   coefficient-of-row g z l = rw (le-leb (weight m (setOf r m z)) r (set-size r m z l), row-of-set r m z l)
 
   -- a number that is not zero has a bit
@@ -127,7 +127,7 @@ module _ (r m : ℕ) (order : r ≤ m) where
       (z, l, omega (arith, bit-bit g z))
 
   -- a coefficient is 0 or 1, and one that is not zero is of a set of at most r variables
-  coefficient-bit : (g T : ℕ) → coefficientOf r m g T < 2
+  pub coefficient-bit : (g T : ℕ) → coefficientOf r m g T < 2
   coefficient-bit g T = by-test (λ (x : ℕ). x < 2) (leb (weight m T) r) (λ e. bit-bit g (rowOfSet r m T)) (λ e. omega arith)
 
   size-of-some : (g T : ℕ) → T < 2 ^ m → (coefficientOf r m g T ≡ 0 → ⊥) → weight m T ≤ r
