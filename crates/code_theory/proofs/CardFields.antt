@@ -111,6 +111,11 @@ length-padded l a spare e = rw (length-append, e, length-replicate)
 padded-zero : (l : List ℕ) (a spare i : ℕ) → length l ≡ a → byte (l ++ replicate spare 0) (a + i) ≡ 0
 padded-zero l a spare i e = rw (← e) (getD-append-add l (replicate spare 0) i 0 ∙ zero-byte spare i)
 
+-- where the 100 bytes of the fields have zeros behind them, no unused byte is set
+pub unused-padded : (l : List ℕ) (spare : ℕ) → length l ≡ 100 → unusedByteSet (l ++ replicate spare 0) ≡ false
+unfolding unusedByteSet
+unused-padded l spare e = any-none _ 410 (λ i h. rw (padded-zero l 100 spare i e))
+
 -- what stands behind the 510 bytes is no part of their check
 pub check-of-front : (body after : List ℕ) → length body ≡ 510 → computedCheck (body ++ after) ≡ computedCheck body
 unfolding computedCheck
