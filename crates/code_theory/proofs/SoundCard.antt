@@ -1,19 +1,20 @@
--- A card of which no refusal holds gives a sound code: the test of each refusal is false, so what it tests for is not so.
--- Assumes nothing.
+-- A card of which no refusal holds gives a sound code: the test of each refusal is false, so what it tests for is not so. And a card
+-- is sound where the tests of its fields and its bytes are what they should be. Assumes nothing.
 use mathlib.Core.Path.{_≡_, refl, ap, _∙_}
 use mathlib.Core.Bool.{Bool, true, false, not, _&&_, _||_, false≢true}
 use mathlib.Core.List.{List}
+use mathlib.Core.Logic.{⊎-elim}
 use Prim.Native.Nat.{ℕ, _+_, _-_, _^_, _≤_, _<_}
 use native.Mathlib.Omega.{arith}
 use lib.Dec.{leb, eqb}
 use lib.ListN.{length}
-use borrow.Author.Tests.{leb-true, leb-false, le-leb, eqb-true, eqb-false, ne-eqb, not-false}
-use Rattle.bits.proofs.Numbers.{or-false-left, or-false-right}
+use borrow.Author.Tests.{leb-true, leb-false, le-leb, lt-leb, eqb-true, eqb-false, eq-eqb, ne-eqb, not-false}
+use Rattle.bits.proofs.Numbers.{lt-or-le, or-false-left, or-false-right}
 use Rattle.bits.proofs.Searches.{any-none, none-of-any}
 use Rattle.model.specs.Card.{lengthOf, rowCountOf, rowOf, storedCheck, computedCheck, sumOfRows, codeOf}
 use Rattle.model.specs.Card.{withinLimits, rowTooWide, unusedRowSet, unusedByteSet, misplaced, dependent, cardRefusal, SoundCard}
 use Rattle.code_theory.specs.Promise.{Sound}
-use Rattle.code_theory.proofs.Refusals.{NoneHolds, numbered, none-holds}
+use Rattle.code_theory.proofs.Refusals.{NoneHolds, numbered, none-holds, none-refuses}
 
 -- ---- tests taken apart
 
@@ -41,9 +42,18 @@ limits-of-test n k e =
     let all = all-of-five (leb 1 n) (leb n 64) (leb 1 k) (leb k 12) (leb k n) e in
     (leb-true 1 n (all .0), leb-true n 64 (all .1), leb-true 1 k (all .2), leb-true k 12 (all .3), leb-true k n (all .4))
 
+pub test-of-limits : (n k : ℕ) → 1 ≤ n → n ≤ 64 → 1 ≤ k → k ≤ 12 → k ≤ n → withinLimits n k ≡ true
+unfolding withinLimits
+test-of-limits n k n-low n-high k-low k-high k-n =
+    rw (le-leb 1 n n-low, le-leb n 64 n-high, le-leb 1 k k-low, le-leb k 12 k-high, le-leb k n k-n)
+
 pub narrow-of-test : (n : ℕ) (row : ℕ → ℕ) → rowTooWide n row ≡ false → (z : ℕ) → z < 12 → row z < 2 ^ n
 unfolding rowTooWide
 narrow-of-test n row e z l = leb-false (2 ^ n) (row z) (none-of-any (λ y. leb (2 ^ n) (row y)) 12 e z l)
+
+pub test-of-narrow : (n : ℕ) (row : ℕ → ℕ) → ((z : ℕ) → z < 12 → row z < 2 ^ n) → rowTooWide n row ≡ false
+unfolding rowTooWide
+test-of-narrow n row narrow = any-none (λ z. leb (2 ^ n) (row z)) 12 (λ z l. lt-leb (2 ^ n) (row z) (narrow z l))
 
 unused-of-test : (k : ℕ) (row : ℕ → ℕ) → unusedRowSet k row ≡ false → (z : ℕ) → k ≤ z → z < 12 → row z ≡ 0
 unfolding unusedRowSet
@@ -51,6 +61,12 @@ unused-of-test k row e z h l =
     let test : (leb k z && not (eqb (row z) 0)) ≡ false =
     none-of-any (λ y. leb k y && not (eqb (row y) 0)) 12 e z l in
     eqb-true (row z) 0 (not-false _ (rw (le-leb k z h) at test))
+
+pub test-of-unused : (k : ℕ) (row : ℕ → ℕ) → ((z : ℕ) → k ≤ z → z < 12 → row z ≡ 0) → unusedRowSet k row ≡ false
+unfolding unusedRowSet
+test-of-unused k row unused =
+    any-none (λ z. leb k z && not (eqb (row z) 0)) 12
+    (λ z l. ⊎-elim (λ h. rw (lt-leb k z h)) (λ h. rw (le-leb k z h, unused z h l)) (lt-or-le z k))
 
 pub independent-of-test : (k : ℕ) (row : ℕ → ℕ) → dependent k row ≡ false
     → (g : ℕ) → 0 < g → g < 2 ^ k → sumOfRows row k g ≡ 0 → ⊥
@@ -94,6 +110,15 @@ card-tests b e =
       unused-bytes-zero = or-false-right (wide || unused) (unusedByteSet b) placed;
       rows-independent = independent;
     }
+
+-- and the other way round: a card of which they are facts is sound
+pub sound-of-tests : (b : List ℕ) → CardTests b → SoundCard b
+unfolding cardRefusal misplaced NoneHolds
+sound-of-tests b tests =
+    let size : not (eqb (length b) 512) ≡ false = rw (tests .size) in
+    let check : not (eqb (storedCheck b) (computedCheck b)) ≡ false = rw (eq-eqb _ _ (tests .check)) in
+    let placed : misplaced b ≡ false = rw (tests .rows-within, tests .unused-rows-zero) (tests .unused-bytes-zero) in
+    none-refuses _ (size, (check, (rw (tests .limits), (placed, (tests .rows-independent, tt)))))
 
 pub sound-card : (b : List ℕ) → SoundCard b → Sound (codeOf b)
 unfolding codeOf
