@@ -2,16 +2,19 @@
 -- So the weight of an exclusive-or is a Hamming distance, and identities of exclusive-or are read off bit by bit.
 -- Assumes nothing.
 use mathlib.Core.Path.{_≡_, refl, sym, ap, _∙_}
-use Prim.Native.Nat.{ℕ, zero, suc, _+_, _*_, _/_, _%_, _^_, _≤_, _<_}
+use mathlib.Core.Logic.{⊎-elim}
+use Prim.Native.Nat.{ℕ, zero, suc, _+_, _*_, _/_, _%_, _^_, _≤_, _<_, min, max}
 use native.Mathlib.Nat.{lt-of-lt-of-le, zero-lt-suc, zero-add, add-zero, pow-succ', div-one, zero-div, div-eq-of-lt, div-self}
 use native.Mathlib.Nat.{div-div-eq-div-mul, mod-lt, mod-one, mod-eq-of-lt, mod-add-mod, add-mod-mod, mul-add-mod-self-right}
 use native.Mathlib.Numerals.{one-add}
 use native.Mathlib.Omega.{arith}
-use lib.Bits.{bitXor, differ, xor-step, xor-shr, xor-lt}
+use lib.Bits.{bitAnd, bitOr, bitXor, differ, and-step, or-step, xor-step, and-shr, or-shr, xor-shr, xor-lt}
+use lib.Bits.{xor-self, xor-zero-r, xor-disjoint}
 use lib.Count.{ones, ones-cat}
 use lib.Pow.{pow-pos, pow-mono, mod-pow-add}
 use Rattle.bits.specs.Sums.{sumBelow, unlike, distance}
 use Rattle.bits.specs.Places.{bit, weight}
+use Rattle.bits.proofs.Numbers.{eq-or-ne}
 use Rattle.bits.proofs.Sums.{sum-ext, sum-zero, sum-of-bits, summand-le}
 
 -- ---- the digits of a number
@@ -97,6 +100,40 @@ eq-of-xor-zero x y e =
   where
     alike : (a b : ℕ) → a < 2 → b < 2 → unlike a b ≡ 0 → a ≡ b
     alike a b ha hb e = omega arith
+
+-- ---- and, or, and a bit that is set
+
+-- a bit of an and is 1 where both bits are, of an or where one is
+pub bit-and : (x y p : ℕ) → bit (bitAnd x y) p ≡ min (bit x p) (bit y p)
+bit-and x y p = ap (λ (z : ℕ). z % 2) (and-shr x y p ∙ and-step (x / 2 ^ p) (y / 2 ^ p)) ∙ (omega arith)
+
+pub bit-or : (x y p : ℕ) → bit (bitOr x y) p ≡ max (bit x p) (bit y p)
+bit-or x y p = ap (λ (z : ℕ). z % 2) (or-shr x y p ∙ or-step (x / 2 ^ p) (y / 2 ^ p)) ∙ (omega arith)
+
+-- 2 ^ v added to a number whose bit v is 0 sets that bit, and keeps all others
+module _ (x v : ℕ) (clear : bit x v ≡ 0) where
+  sum-is-xor : x + 2 ^ v ≡ bitXor x (2 ^ v)
+  sum-is-xor =
+      sym (xor-disjoint x (2 ^ v)
+      (bit-ext (bitAnd x (2 ^ v)) 0
+      (λ p. bit-and x (2 ^ v) p
+      ∙ ⊎-elim (λ (e : p ≡ v). rw (e, clear, bit-zero v) (omega arith))
+      (λ (ne : p ≡ v → ⊥). rw (bit-pow-other v p ne, bit-zero p) (omega arith))
+      (eq-or-ne p v))))
+
+  pub bit-set-here : bit (x + 2 ^ v) v ≡ 1
+  bit-set-here = rw (sum-is-xor, bit-xor x (2 ^ v) v, clear, bit-pow-same v)
+
+  pub bit-set-other : (p : ℕ) → (p ≡ v → ⊥) → bit (x + 2 ^ v) p ≡ bit x p
+  bit-set-other p ne = rw (sum-is-xor, bit-xor x (2 ^ v) p, bit-pow-other v p ne) (omega (arith, bit-bit x p))
+
+-- a number whose bit v is 1 is one whose bit v is 0, and 2 ^ v
+pub bit-cleared : (x v : ℕ) → bit x v ≡ 1 → (y : ℕ) × (x ≡ y + 2 ^ v) × (bit y v ≡ 0)
+bit-cleared x v one =
+    let y : ℕ = bitXor x (2 ^ v) in
+    let clear : bit y v ≡ 0 = rw (bit-xor x (2 ^ v) v, one, bit-pow-same v) in
+    let back : bitXor y (2 ^ v) ≡ x = rw (xor-assoc x (2 ^ v) (2 ^ v), xor-self (2 ^ v)) (xor-zero-r x) in
+    (y, sym (sum-is-xor y v clear ∙ back), clear)
 
 -- ---- the weight of a number
 

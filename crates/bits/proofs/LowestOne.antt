@@ -5,8 +5,9 @@ use Prim.Native.Nat.{ℕ, zero, suc, _+_, _-_, _*_, _/_, _%_, _^_, _<_, min}
 use native.Mathlib.Omega.{arith}
 use lib.Bits.{bitAnd, and-step, and-self}
 use lib.Count.{ones, ones-step}
+use Rattle.bits.specs.Places.{bit}
 use Rattle.bits.proofs.Numbers.{eq-or-ne}
-use Rattle.bits.proofs.Binary.{below-pow}
+use Rattle.bits.proofs.Binary.{below-pow, bit-lowest, bit-suc}
 
 -- an odd number loses its last digit; an even one is cleared in its half
 clear-odd : (x : ℕ) → x % 2 ≡ 1 → bitAnd x (x - 1) ≡ x / 2 * 2
@@ -41,3 +42,25 @@ one-fewer-below (suc n) x h more =
 -- where x is not 0, x & (x - 1) has one one fewer
 pub one-fewer : (x : ℕ) → 0 < x → ones (bitAnd x (x - 1)) + 1 ≡ ones x
 one-fewer x more = one-fewer-below x x (below-pow x) more
+
+-- what it clears is a power of two
+pub lowest-one : (x : ℕ) → 0 < x → (v : ℕ) × (x ≡ bitAnd x (x - 1) + 2 ^ v) × (bit (bitAnd x (x - 1)) v ≡ 0)
+lowest-one x more = below x x (below-pow x) more
+  where
+    doubled : (x h v : ℕ) → h * 2 ≡ x → h ≡ bitAnd h (h - 1) + 2 ^ v → bit (bitAnd h (h - 1)) v ≡ 0
+        → (x ≡ bitAnd h (h - 1) * 2 + 2 ^ suc v) × (bit (bitAnd h (h - 1) * 2) (suc v) ≡ 0)
+    doubled x h v whole is clear =
+        let half : bitAnd h (h - 1) * 2 / 2 ≡ bitAnd h (h - 1) = omega arith in
+        (omega arith, bit-suc (bitAnd h (h - 1) * 2) v ∙ rw half clear)
+
+    below : (n x : ℕ) → x < 2 ^ n → 0 < x → (v : ℕ) × (x ≡ bitAnd x (x - 1) + 2 ^ v) × (bit (bitAnd x (x - 1)) v ≡ 0)
+    below zero x h more = absurd (omega arith)
+    below (suc n) x h more =
+        ⊎-elim
+        (λ (odd : x % 2 ≡ 1). (0, rw (clear-odd x odd) (omega arith), rw (clear-odd x odd) (bit-lowest (x / 2 * 2) ∙ (omega arith))))
+        (λ (ne : x % 2 ≡ 1 → ⊥).
+        let even : x % 2 ≡ 0 = omega arith in
+        let (v, is, clear) = below n (x / 2) (omega arith) (omega arith) in
+        let (is-double, clear-double) = doubled x (x / 2) v (omega arith) is clear in
+        (suc v, rw (clear-even x more even) is-double, rw (clear-even x more even) clear-double))
+        (eq-or-ne (x % 2) 1)

@@ -6,3 +6,5 @@ pub mod LeastDistance
 pub mod Vote
 pub mod Rounds
 pub mod VotedReading
+pub mod LeftOver
+pub mod ClassSums

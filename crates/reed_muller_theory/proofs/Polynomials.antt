@@ -60,7 +60,7 @@ bit-times zero x p h = rw (zero-mul x, zero-mul (bit x p)) (bit-zero p)
 bit-times (suc zero) x p h = rw (one-mul x) (omega arith)
 bit-times (suc (suc b)) x p h = absurd (omega arith)
 
-bit-of-rows : (row : ℕ → ℕ) (k g p : ℕ) → bit (sumOfRows row k g) p ≡ sumBelow (λ z. bit g z * bit (row z) p) k % 2
+pub bit-of-rows : (row : ℕ → ℕ) (k g p : ℕ) → bit (sumOfRows row k g) p ≡ sumBelow (λ z. bit g z * bit (row z) p) k % 2
 unfolding sumOfRows sumBelow
 bit-of-rows row zero g p = bit-zero p
 bit-of-rows row (suc k) g p =
