@@ -112,7 +112,7 @@ static void numbers(void)
         }
 }
 
-/* Makes the card of a code for track 270 in `count` lent bytes: the status is to be `expected`, and what they hold then `left`. */
+/* Makes the card of a code for track 270 in `count` lent bytes: the status is to be `expected`, and what they hold `left`. */
 static void make(uint32_t r, uint32_t m, size_t count, uint32_t expected, const uint8_t *left)
 {
     static uint8_t lent[LENT_BYTES];
