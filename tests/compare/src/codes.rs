@@ -70,8 +70,8 @@ fn chunks_of_n_bits(tally: &mut Tally, r: u32, m: u32, reed_muller: &ReedMuller)
     }
 }
 
-/// What the library reads a chunk as where it reads a word. The word has the separators of the last steps to w(p), which name rule
-/// 1: the answer is refusal 12 where chunk 1 reads as 0, and else a position in the block before that number, up to its end.
+/// What the library reads a chunk as where it reads a word. The word has the separators of the last steps to w(p), which name
+/// rule 1: the answer is refusal 12 where chunk 1 reads as 0, and else a position in the block before that number, up to its end.
 fn in_a_word(card: &[u8], track: &Track, chunk: u64, p: u32) -> Result<u32, Refusal> {
     let parity = p % 2 == 1;
     let word = track.card.code.word_of_chunks([parity, parity, !parity], [chunk; 2]);

@@ -51,9 +51,9 @@ fn shuffled(mut places: Vec<usize>, seed: u64) -> Vec<usize> {
     places
 }
 
-/// Chunks with a bit at n or above: each such bit alone, with every bit above it, and with some of these; beside n bits that would
-/// be read without it (zeros, ones, the last codeword, and that with t bits turned), and beside n bits that would not, if some are
-/// so.
+/// Chunks with a bit at n or above: each such bit alone, with every bit above it, and with some of these; beside n bits that are
+/// read without it (zeros, ones, the last codeword, and that with t bits turned), and beside n bits that are not, if the code has
+/// such.
 pub fn past_end(reed_muller: &ReedMuller) -> Vec<u64> {
     let n = reed_muller.code.n;
     let last = reed_muller.codewords[reed_muller.codewords.len() - 1];
