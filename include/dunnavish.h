@@ -1,25 +1,28 @@
 /*
  * Dunnavish: position words of trams on stabling tracks, for programs in C.
  *
- * Five calls: check a track card, write the word of a position, read a received word, the start of a block, and the distance of
- * a position in millimetres. docs/FORMAT.md says what the bytes of a card and of a word are, how a word is read, and what each
- * refusal means. The archive is target/staticlib/libdunnavish.a, for x86-64 Linux; `rt staticlib dunnavish` builds it. From the
- * repository's root, link it as   cc -Iinclude program.c -Ltarget/staticlib -ldunnavish   (it needs memcpy and nothing else). The
- * header is C99 or later, or C++.
+ * Five calls on a track's card: check it, write the word of a position, read a received word, the start of a block, and the
+ * distance of a position in millimetres. Two calls on a Reed-Muller code, which are given no card: make its card, and read a
+ * chunk of it by majority votes. docs/FORMAT.md says what the bytes of a card and of a word are, how a word is read, which card
+ * is made, and what each refusal means. The archive is target/staticlib/libdunnavish.a, for x86-64 Linux; `rt staticlib
+ * dunnavish` builds it. From the repository's root, link it as   cc -Iinclude program.c -Ltarget/staticlib -ldunnavish   (it
+ * needs memcpy and memset, and nothing else). The header is C99 or later, or C++.
  *
  * A call answers with its status: 0 (DUNNAVISH_OK), or the number of the one reason why it could not be served, below. Whenever
  * the status is not 0, no byte and no number that was lent has changed. Every call ends, whatever the bytes and numbers are.
  *
  * Arguments
  *   Every array is a pointer and the count of its elements (bytes of a card or a word; numbers, not bytes, of `values`).
- *   A card is the card's 512 bytes, checked anew by each call. A card of any other length is answered DUNNAVISH_CARD_LENGTH.
+ *   A card that a call is given is the card's 512 bytes, checked anew by each call. A card of any other length is answered
+ *   DUNNAVISH_CARD_LENGTH. The two calls that are given none check none.
  *   A word is its d bits in dunnavish_word_bytes(d) bytes: bit p of the word is bit p % 8, lowest first, of byte p / 8. The spare
  *   bits of the last byte are zero.
  *   `values` is where the call puts its answer. Its count must be exactly the call's (DUNNAVISH_CARD_VALUES and so on), or the
- *   call is answered DUNNAVISH_VALUE_COUNT before anything else is looked at.
+ *   call is answered DUNNAVISH_VALUE_COUNT before anything else is looked at. So must the bytes of a card that is to be made be
+ *   exactly DUNNAVISH_CARD_BYTES.
  *   No pointer may be NULL, not even with a count of 0: pass the address of any object then. An array that a call writes
- *   (`values`, and the word of dunnavish_write_word) may not overlap another one of the same call. Pointers to numbers are
- *   aligned as uint32_t is. These are the only things that a call cannot check.
+ *   (`values`, the word of dunnavish_write_word, the card of dunnavish_make_card) may not overlap another one of the same call.
+ *   Pointers to numbers are aligned as uint32_t is. These are the only things that a call cannot check.
  *
  * Who owns what
  *   The caller owns every array, before, during and after the call. The library keeps no pointer, allocates nothing and frees
@@ -30,8 +33,9 @@
  *   as long as none writes an array that another one uses. Calls from signal handlers are safe too.
  *
  * Stack
- *   A call takes less than 2,048 bytes of stack, the same for every card and word; tests/c/stack_use.c measures it. (If memcpy is
- *   bound lazily, the first call adds what the dynamic linker takes.) There is no recursion, no heap and no system call.
+ *   A call takes less than 2,048 bytes of stack, the same for every card, word and chunk; tests/c/stack_use.c measures it. (If
+ *   memcpy and memset are bound lazily, the first calls add what the dynamic linker takes.) There is no recursion, no heap and no
+ *   system call.
  */
 #ifndef DUNNAVISH_H
 #define DUNNAVISH_H
@@ -59,7 +63,10 @@ static inline size_t dunnavish_word_bytes(uint32_t bits)
     return bits / 8 + (bits % 8 != 0);
 }
 
-/* The status of a call. The reasons are tested in this order, the last one first of all; the first that holds is the answer. */
+/*
+ * The status of a call. The reasons are tested in the order of their numbers, except that 100 comes before all others and 13
+ * before 8 and 10; the first that holds is the answer.
+ */
 enum dunnavish_status {
     DUNNAVISH_OK = 0,
     DUNNAVISH_CARD_LENGTH = 1,      /* card: not 512 bytes */
@@ -69,12 +76,13 @@ enum dunnavish_status {
     DUNNAVISH_CARD_DEPENDENT = 5,   /* card: some nonempty set of rows sums to zero */
     DUNNAVISH_WORD_LENGTH = 6,      /* word: not exactly the bytes of this card's words */
     DUNNAVISH_OFF_THE_TRACK = 7,    /* position above the last one, or block above 2^k - 1 */
-    DUNNAVISH_SPARE_BIT = 8,        /* received word: a spare bit is set */
+    DUNNAVISH_SPARE_BIT = 8,        /* received word: a spare bit is set; chunk: a bit at n or above is set */
     DUNNAVISH_SEPARATORS = 9,       /* received word: its separators read 0 1 0 or 1 0 1 */
-    DUNNAVISH_CHUNK_UNREADABLE = 10, /* received word: a code chunk that the rule names has no codeword within the radius */
+    DUNNAVISH_CHUNK_UNREADABLE = 10, /* a chunk, or a code chunk that a word's rule names, has no codeword within the radius */
     DUNNAVISH_CHUNKS_DIFFER = 11,   /* received word: rule 3, and the two code chunks read differently */
     DUNNAVISH_NO_BLOCK = 12,        /* received word: rule 1 before the first block, or rule 2 after the last */
-    DUNNAVISH_VALUE_COUNT = 100     /* `values` has not exactly the count of the call; tested before all the others */
+    DUNNAVISH_CODE_LIMITS = 13,     /* Reed-Muller code: m outside 1 to 6, r above m, or k above 12; tested before 8 and 10 */
+    DUNNAVISH_VALUE_COUNT = 100     /* `values`, or the card to be made, has not the call's count; tested before all the others */
 };
 
 /* What a status says, in a few words: a constant string, never NULL, for any other number too. */
@@ -89,12 +97,13 @@ static inline const char *dunnavish_status_text(uint32_t status)
     case DUNNAVISH_CARD_DEPENDENT: return "some nonempty set of the card's rows sums to zero";
     case DUNNAVISH_WORD_LENGTH: return "the word has not exactly the bytes of this card's words";
     case DUNNAVISH_OFF_THE_TRACK: return "the position is above the last, or the block above 2^k - 1";
-    case DUNNAVISH_SPARE_BIT: return "a bit past the end of the received word is set";
+    case DUNNAVISH_SPARE_BIT: return "a bit past the end of the received word or chunk is set";
     case DUNNAVISH_SEPARATORS: return "the separators of the received word read 0 1 0 or 1 0 1";
-    case DUNNAVISH_CHUNK_UNREADABLE: return "a code chunk that the rule names has no codeword within the radius";
+    case DUNNAVISH_CHUNK_UNREADABLE: return "a code chunk that is to be read has no codeword within the radius";
     case DUNNAVISH_CHUNKS_DIFFER: return "the separators are alike, and the two code chunks read differently";
     case DUNNAVISH_NO_BLOCK: return "the received word points to a block before the first or after the last";
-    case DUNNAVISH_VALUE_COUNT: return "the count of values is not the call's";
+    case DUNNAVISH_CODE_LIMITS: return "the Reed-Muller code's m is outside 1 to 6, its r above m, or its k above 12";
+    case DUNNAVISH_VALUE_COUNT: return "the count of values, or of a made card's bytes, is not the call's";
     default: return "a status that this version does not have";
     }
 }
@@ -140,6 +149,26 @@ uint32_t dunnavish_block_start(const uint8_t *card, size_t card_bytes, uint32_t 
 
 /* The distance of a position from the buffer face in millimetres: 50 for each step. Answers 0 to 5, 7, or 100. */
 uint32_t dunnavish_millimetres(const uint8_t *card, size_t card_bytes, uint32_t position, uint32_t *values, size_t values_count);
+
+/*
+ * Make the card of a Reed-Muller code for a track, into `card`, which has exactly DUNNAVISH_CARD_BYTES bytes. Answers 0, 13, or
+ * 100. Only on 0 is `card` written, all of it; what it held before does not matter. The code of order r in m variables has
+ * n = 2^m, a row for each set of at most r variables, k in all, and D = 2^(m-r). m is 1 to 6, r is 0 to m, and k is at most 12:
+ * these are sixteen codes.
+ */
+uint32_t dunnavish_make_card(uint16_t track, uint32_t r, uint32_t m, uint8_t *card, size_t card_bytes);
+
+/*
+ * Read one chunk of the code of order r in m variables by majority votes; place p of the chunk is the bit worth 2^p. Answers 0,
+ * or 13, 8 and 10, tested in this order, or 100. On 0 the two values are those of the indices below. The codeword is the one
+ * within the radius t, (D - 1) / 2 rounded down, of the chunk (there is at most one): what a search of all codewords finds.
+ */
+enum dunnavish_vote_value {
+    DUNNAVISH_VOTE_NUMBER = 0, /* the codeword's number i, of c(i) on the card that dunnavish_make_card makes */
+    DUNNAVISH_VOTE_BITS = 1,   /* in how many bits the chunk differs from that codeword, at most t */
+    DUNNAVISH_VOTE_VALUES = 2  /* the count of `values` */
+};
+uint32_t dunnavish_vote_chunk(uint32_t r, uint32_t m, uint64_t chunk, uint32_t *values, size_t values_count);
 
 #ifdef __cplusplus
 }

@@ -9,6 +9,30 @@ use std::time::Instant;
 pub const CALLS: [(&str, &[&str]); 2] =
     [("read", &["library", "kept", "kept-nested", "each-call"]), ("write", &["library", "kept", "each-call"])];
 
+/// Calls of several kinds, each of which can be made in several ways.
+pub trait Calls {
+    /// How many can be made.
+    fn count(&self) -> usize;
+
+    /// The first `count` of one kind by one way; the answers mixed into one number.
+    fn all(&self, call: &str, way: &str, count: usize) -> u64;
+
+    /// Seconds a call: the best of several batches, so that what else the machine does counts little.
+    fn seconds(&self, call: &str, way: &str) -> f64 {
+        let count = self.count();
+        let mut best = f64::INFINITY;
+        let begun = Instant::now();
+        let mut batches = 0;
+        while batches < 5 || begun.elapsed().as_secs_f64() < 0.6 {
+            let start = Instant::now();
+            self.all(call, way, count);
+            best = best.min(start.elapsed().as_secs_f64() / count as f64);
+            batches += 1;
+        }
+        best
+    }
+}
+
 /// A card, positions and words, and the card as the baselines keep it.
 pub struct Work {
     card: Vec<u8>,
@@ -46,8 +70,19 @@ impl Work {
         answer.map_or_else(u64::from, |()| 0)
     }
 
-    /// The first `count` words by one way; the answers mixed into one number.
-    pub fn all(&self, call: &str, way: &str, count: usize) -> u64 {
+    /// Fails unless a way answers as the baseline that keeps its card does.
+    pub fn check(&self, call: &str, way: &str) {
+        let count = self.count();
+        assert_eq!(self.all(call, way, count), self.all(call, "kept", count), "{call} {way}");
+    }
+}
+
+impl Calls for Work {
+    fn count(&self) -> usize {
+        self.words.len()
+    }
+
+    fn all(&self, call: &str, way: &str, count: usize) -> u64 {
         let mut sum = 0u64;
         if call == "read" {
             for word in &self.words[..count] {
@@ -61,27 +96,6 @@ impl Work {
             }
         }
         black_box(sum)
-    }
-
-    /// Fails unless a way answers as the baseline that keeps its card does.
-    pub fn check(&self, call: &str, way: &str) {
-        let count = self.words.len();
-        assert_eq!(self.all(call, way, count), self.all(call, "kept", count), "{call} {way}");
-    }
-
-    /// Seconds a word: the best of several batches, so that what else the machine does counts little.
-    pub fn seconds(&self, call: &str, way: &str) -> f64 {
-        let count = self.words.len();
-        let mut best = f64::INFINITY;
-        let begun = Instant::now();
-        let mut batches = 0;
-        while batches < 5 || begun.elapsed().as_secs_f64() < 0.6 {
-            let start = Instant::now();
-            self.all(call, way, count);
-            best = best.min(start.elapsed().as_secs_f64() / count as f64);
-            batches += 1;
-        }
-        best
     }
 }
 

@@ -1,9 +1,13 @@
-//! What is measured on: five cards, positions of their tracks, and words with damage within the radius, the same in every run.
-use crate::baseline::{self, decode, Kept, Order as _};
+//! What is measured on: five cards, positions of their tracks, and words with damage within the radius; three Reed-Muller codes,
+//! and chunks of them without a codeword within the radius. They are the same in every run.
+use crate::baseline::{self, decode, Code, Kept, Order as _};
 use crate::cards::card_of;
 use crate::codes::{golay, reed_muller};
 
 pub const CARDS: [&str; 5] = ["B", "rm16", "rm64", "random64", "golay24"];
+
+/// Reed-Muller codes: a name, the order r and the number of variables m.
+pub const CODES: [(&str, u32, u32); 3] = [("rm-2-4", 2, 4), ("rm-1-5", 1, 5), ("rm-1-6", 1, 6)];
 
 struct Random(u64);
 
@@ -23,8 +27,8 @@ impl Random {
 pub fn card(name: &str) -> Vec<u8> {
     let (n, rows) = match name {
         "B" => (3, vec![7]),
-        "rm16" => (16, reed_muller(4)),
-        "rm64" => (64, reed_muller(6)),
+        "rm16" => (16, reed_muller(1, 4)),
+        "rm64" => (64, reed_muller(1, 6)),
         "random64" => {
             let mut random = Random(0x1234_5678_9abc_def1);
             (64, (0..12).map(|_| random.next()).collect())
@@ -68,4 +72,23 @@ pub fn card_and_words(name: &str, count: usize) -> Vec<u8> {
     let card = card(name);
     let (_, words) = positions_and_words(&card, count);
     [card, words.concat()].concat()
+}
+
+/// Random chunks without a codeword within the radius.
+pub fn unreadable_chunks(kept: &Kept, count: usize) -> Vec<u64> {
+    let mut random = Random(88172645463325252);
+    let chunks = std::iter::repeat_with(|| random.next() >> (64 - kept.code().n));
+    chunks.filter(|&chunk| kept.find(chunk).is_none()).take(count).collect()
+}
+
+/// The word with these separators, and with this chunk in both code chunks.
+pub fn word_of(code: &Code, separators: [bool; 3], chunk: u64) -> Vec<u8> {
+    let mut word = vec![0; code.bytes()];
+    let [s1, s2, s3] = separators.map(|one| if one { u64::MAX } else { 0 });
+    for ((from, length), bits) in code.chunks().into_iter().zip([s1, chunk, s2, chunk, s3]) {
+        for place in (0..length).filter(|place| bits >> place & 1 == 1) {
+            word[(from + place) / 8] |= 1 << ((from + place) % 8);
+        }
+    }
+    word
 }

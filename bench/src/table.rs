@@ -1,31 +1,52 @@
-//! The table: what each way takes for a word, and the library's cost divided by it. The ways of a call are first seen to answer alike.
-use crate::calls::{Work, CALLS};
-use crate::inputs::{card_and_words, is_large, CARDS};
+//! The tables: what each way takes for a word or a call, and the library's cost divided by it. The ways of a call are first seen
+//! to answer alike.
+use crate::calls::{Calls, Work, CALLS};
+use crate::inputs::{card_and_words, is_large, CARDS, CODES};
+use crate::made::Made;
 use std::env;
 use std::fs::{self, File};
 use std::path::Path;
 use std::process::{Command, Stdio};
 use std::time::Instant;
 
-/// What a way takes for a word: seconds, and instructions where there is valgrind to count them.
+/// What a way takes for a word or a call: seconds, and instructions where there is valgrind to count them.
 #[derive(Clone, Copy)]
 struct Cost {
     seconds: f64,
     instructions: Option<f64>,
 }
 
-/// Prints the table of every card: the calls, and the program tramread.
+impl Cost {
+    /// What is left of it without another.
+    fn less(self, other: Cost) -> Cost {
+        let instructions = self.instructions.zip(other.instructions).map(|(all, part)| all - part);
+        Cost { seconds: self.seconds - other.seconds, instructions }
+    }
+}
+
+/// Prints the table of every card, the calls and the program tramread, and that of the Reed-Muller codes.
 pub fn print(tramread: &str) {
-    println!(
-        "| card | call | by | instructions a word | library's instructions / this | words a second | library's time / this |"
-    );
-    println!("|---|---|---|---|---|---|---|");
     let me = env::current_exe().unwrap();
     let me = me.to_str().unwrap();
+    head("card", "word");
     for card in CARDS {
         calls(card, me);
         programs(card, tramread, me);
     }
+    println!();
+    head("code", "call");
+    for (name, _, _) in CODES {
+        made(name, me);
+    }
+}
+
+/// The first two lines of a table with these names, of which a row tells the cost of one `what`.
+fn head(names: &str, what: &str) {
+    println!(
+        "| {names} | call | by | instructions a {what} | library's instructions / this | {what}s a second | library's time \
+         / this |"
+    );
+    println!("|---|---|---|---|---|---|---|");
 }
 
 /// A row for each way of a call, as it is measured. The first is the library's.
@@ -42,20 +63,42 @@ fn rows<'a>(card: &str, call: &str, ways: impl Iterator<Item = (&'a str, Cost)>)
     }
 }
 
-/// The calls on one card; `me` is this program, which makes them once more under the instruction counter.
+/// What one way of a call takes, on a card or a code. `me` is this program, which makes `counted` calls, and twice as many, once
+/// more under the instruction counter.
+fn cost(work: &impl Calls, name: &str, call: &str, way: &str, counted: usize, me: &str) -> Cost {
+    let instructions = instructions_a_word(counted, |count| {
+        instructions(callgrind().arg(me).args(["count", name, call, way, &count.to_string()]))
+    });
+    Cost { seconds: work.seconds(call, way), instructions }
+}
+
+/// The calls on one card.
 fn calls(card: &str, me: &str) {
     let (timed, counted) = if is_large(card) { (200, 50) } else { (20_000, 500) };
     let work = Work::new(card, timed);
     for (call, ways) in CALLS {
         let measured = ways.iter().map(|&way| {
             work.check(call, way);
-            let instructions = instructions_a_word(counted, |count| {
-                instructions(callgrind().arg(me).args(["count", card, call, way, &count.to_string()]))
-            });
-            (way, Cost { seconds: work.seconds(call, way), instructions })
+            (way, cost(&work, card, call, way, counted, me))
         });
         rows(card, call, measured);
     }
+}
+
+/// The calls on one Reed-Muller code. The search of a chunk alone is no call of the library. What it takes is measured as a
+/// difference: a word whose chunk 1 is searched and refused, less a word with the same chunks whose separators are refused
+/// before. It stands first in the last two rows, so the ratios there are the search's cost divided by the votes'.
+fn made(name: &str, me: &str) {
+    let work = Made::named(name, 2000).unwrap();
+    work.check();
+    let cost = |call, way| cost(&work, name, call, way, 500, me);
+    let ways = |call, ways: [&'static str; 2]| rows(name, call, ways.into_iter().map(|way| (way, cost(call, way))));
+    ways("make_card", ["library", "plain"]);
+    ways("vote_chunk", ["library", "kept"]);
+    let search = cost("read_word", "refused-10").less(cost("read_word", "refused-9"));
+    let votes = cost("vote_chunk", "library");
+    let both = [("search: read_word refused by 10, less refused by 9", search), ("vote_chunk", votes)];
+    rows(name, "search / vote_chunk", both.into_iter());
 }
 
 /// The program tramread and its baselines on one card, each reading files of words.

@@ -1,14 +1,15 @@
 //! Position words of trams on stabling tracks.
 //!
-//! A tram reports where it stands by a coded word; a track's *card*, 512 bytes, says which code. The five calls here check a
-//! card, write the word of a position, read a received word, give the start of a block, and turn a position into millimetres.
-//! They are thin and safe wrappers of a library that is proved: each call ends, answers every input, and keeps no state, so any
-//! number of threads may use it. No call allocates or panics.
+//! A tram reports where it stands by a coded word; a track's *card*, 512 bytes, says which code. Five calls here take a card:
+//! they check it, write the word of a position, read a received word, give the start of a block, and turn a position into
+//! millimetres. Two take the order and the number of variables of a Reed-Muller code instead: they make its card, and read a
+//! chunk of it by majority votes. All are thin and safe wrappers of a library that is proved: each call ends, answers every
+//! input, and keeps no state, so any number of threads may use it. No call allocates or panics.
 //!
-//! `docs/FORMAT.md` of the repository says what a card and a word are, byte by byte, how a word is read and what each refusal
-//! means. The archive that is linked, `libdunnavish.a`, is the one that `rt staticlib dunnavish` writes to `target/staticlib`
-//! there; the environment variable `DUNNAVISH_LIB_DIR` names another folder, and a relative one is taken from where cargo is
-//! started.
+//! `docs/FORMAT.md` of the repository says what a card and a word are, byte by byte, how a word is read, which card is made, and
+//! what each refusal means. The archive that is linked, `libdunnavish.a`, is the one that `rt staticlib dunnavish` writes to
+//! `target/staticlib` there; the environment variable `DUNNAVISH_LIB_DIR` names another folder, and a relative one is taken from
+//! where cargo is started.
 //!
 //! ```
 //! // Card B, the example of docs/FORMAT.md: n 3, k 1, track 14, row 0 = 7, check 145.
@@ -29,6 +30,14 @@
 //! assert_eq!((reading.position, reading.residual), (5, 1));
 //!
 //! assert_eq!(dunnavish::write_word(&card, 16, &mut word), Err(dunnavish::Refusal::OffTheTrack));
+//!
+//! // The card of a Reed-Muller code: order 1 in 3 variables, rows FF, AA, CC and F0, for track 14.
+//! let made = dunnavish::make_card(14, 1, 3)?;
+//! assert_eq!(dunnavish::check_card(&made)?.distance, 4);
+//!
+//! // A chunk of it, one bit from codeword 3, which is AA.
+//! let vote = dunnavish::vote_chunk(1, 3, 0xab)?;
+//! assert_eq!((vote.number, vote.bits), (3, 1));
 //! # Ok::<(), dunnavish::Refusal>(())
 //! ```
 #![deny(missing_docs)]
@@ -45,7 +54,8 @@ pub const WIDEST_WORD_BYTES: usize = 40;
 /// Defines [`Refusal`] by one table: a name, the number in docs/FORMAT.md, and the reason, which is its documentation and text.
 macro_rules! refusals {
     ($($name:ident = $number:literal: $reason:literal,)+) => {
-        /// Why a call was turned down. A call reports the first that holds, in the order of their numbers.
+        /// Why a call was turned down. A call reports the first that holds, in the order of their numbers, but
+        /// [`CodeLimits`](Refusal::CodeLimits) before any other.
         ///
         /// Later versions of the library may know more reasons, so a `match` needs an arm for those.
         #[derive(Clone, Copy, Debug, PartialEq, Eq, PartialOrd, Ord, Hash)]
@@ -59,10 +69,10 @@ macro_rules! refusals {
         }
 
         impl Refusal {
-            /// Every refusal that has a number, in the order in which they are looked for.
+            /// Every refusal that has a number, in the order of their numbers.
             pub const ALL: &'static [Refusal] = &[$(Refusal::$name,)+];
 
-            /// Its number in `docs/FORMAT.md`, 1 to 12; none for an unknown status or rule.
+            /// Its number in `docs/FORMAT.md`, 1 to 13; none for an unknown status or rule.
             pub fn number(self) -> Option<u32> {
                 match self {
                     $(Refusal::$name => Some($number),)+
@@ -91,11 +101,12 @@ refusals! {
     DependentRows = 5: "some nonempty set of the card's rows sums to zero",
     WordLength = 6: "the word has not exactly the bytes of this card's words",
     OffTheTrack = 7: "the position is above the last, or the block above 2^k - 1",
-    SpareBit = 8: "a bit past the end of the received word is set",
+    SpareBit = 8: "a bit past the end of the received word or chunk is set",
     Separators = 9: "the separators of the received word read 0 1 0 or 1 0 1",
-    ChunkUnreadable = 10: "a code chunk that the rule names has no codeword within the radius",
+    ChunkUnreadable = 10: "a code chunk that is to be read has no codeword within the radius",
     ChunksDiffer = 11: "the separators are alike, and the two code chunks read differently",
     NoBlock = 12: "the received word points to a block before the first or after the last",
+    CodeLimits = 13: "the Reed-Muller code's m is outside 1 to 6, its r above m, or its k above 12",
 }
 
 impl Refusal {
@@ -173,6 +184,15 @@ pub struct Reading {
     pub rule: Rule,
 }
 
+/// What a chunk of a Reed-Muller code was read as.
+#[derive(Clone, Copy, Debug, PartialEq, Eq, Hash)]
+pub struct Vote {
+    /// The codeword's number, in the order of the codewords of the card that [`make_card`] makes.
+    pub number: u32,
+    /// In how many bits the chunk differs from that codeword, at most the card's radius.
+    pub bits: u32,
+}
+
 mod exported {
     // As include/dunnavish.h declares them: a slice crosses as a pointer and a count.
     extern "C" {
@@ -188,11 +208,13 @@ mod exported {
         ) -> u32;
         pub fn dunnavish_block_start(card: *const u8, card_bytes: usize, block: u32, values: *mut u32, count: usize) -> u32;
         pub fn dunnavish_millimetres(card: *const u8, card_bytes: usize, position: u32, values: *mut u32, count: usize) -> u32;
+        pub fn dunnavish_make_card(track: u16, r: u32, m: u32, card: *mut u8, card_bytes: usize) -> u32;
+        pub fn dunnavish_vote_chunk(r: u32, m: u32, chunk: u64, values: *mut u32, count: usize) -> u32;
     }
 }
 
-/// The status of a call as a result. A status without a name here (100 says that too few or too many numbers were lent, and the
-/// calls below lend exactly enough) is an error too.
+/// The status of a call as a result. A status without a name here (100 says that too few or too many numbers were lent, or bytes
+/// for a card, and the calls below lend exactly enough) is an error too.
 fn served(status: u32) -> Result<(), Refusal> {
     match status {
         0 => Ok(()),
@@ -259,6 +281,28 @@ pub fn millimetres(card: &[u8], position: u32) -> Result<u32, Refusal> {
     Ok(values[0])
 }
 
+/// Makes the card of a Reed-Muller code, of order `r` in `m` variables, for a track. It is sound, with n = 2^m, D = 2^(m-r), and
+/// a row for each set of at most `r` variables: the smaller sets first, and sets of one size by their numbers.
+///
+/// Refused: [`Refusal::CodeLimits`].
+pub fn make_card(track: u16, r: u32, m: u32) -> Result<[u8; CARD_BYTES], Refusal> {
+    let mut card = [0u8; CARD_BYTES];
+    served(unsafe { exported::dunnavish_make_card(track, r, m, card.as_mut_ptr(), card.len()) })?;
+    Ok(card)
+}
+
+/// Reads a chunk of the Reed-Muller code of order `r` in `m` variables by majority votes; place p of the chunk is the bit worth
+/// 2^p. The answer is the codeword within the radius, the one that a search of all codewords finds.
+///
+/// Refused, in this order: [`Refusal::CodeLimits`]; [`Refusal::SpareBit`], a bit of the chunk at n = 2^m or above is set;
+/// [`Refusal::ChunkUnreadable`].
+pub fn vote_chunk(r: u32, m: u32, chunk: u64) -> Result<Vote, Refusal> {
+    let mut values = [0u32; 2];
+    served(unsafe { exported::dunnavish_vote_chunk(r, m, chunk, values.as_mut_ptr(), values.len()) })?;
+    let [number, bits] = values;
+    Ok(Vote { number, bits })
+}
+
 #[cfg(test)]
 mod tests {
     use super::{reading, served, Reading, Refusal, Rule};
@@ -269,7 +313,7 @@ mod tests {
         for refusal in Refusal::ALL {
             assert_eq!(served(refusal.number().unwrap()), Err(*refusal));
         }
-        for status in [13, 99, 100, 101, u32::MAX] {
+        for status in [14, 99, 100, 101, u32::MAX] {
             assert_eq!(served(status), Err(Refusal::UnknownStatus(status)));
             assert_eq!(Refusal::UnknownStatus(status).number(), None);
         }

@@ -9,7 +9,7 @@ mod random;
 use baseline::{decode, Code, Kept, Order as _};
 use cards::{card_of, seal};
 use codes::{golay, reed_muller};
-use dunnavish::{block_start, check_card, millimetres, read_word, write_word, Refusal};
+use dunnavish::{block_start, check_card, make_card, millimetres, read_word, vote_chunk, write_word, Refusal};
 use random::Random;
 
 fn number<T>(answer: Result<T, Refusal>) -> Result<T, u32> {
@@ -211,7 +211,7 @@ fn codes_of_great_distance() {
         both_answer(&card_of(n, 1, 14, &[u64::MAX >> (64 - n)]), &mut random, 60);
     }
     for m in 2..=6 {
-        let rows = reed_muller(m);
+        let rows = reed_muller(1, m);
         let card = card_of(1 << m, rows.len() as u8, 7, &rows);
         assert_eq!(check_card(&card).unwrap().distance, 1 << (m - 1));
         both_answer(&card, &mut random, 40);
@@ -223,6 +223,38 @@ fn codes_of_great_distance() {
     let card = card_of(5, 4, 3, &[3, 6, 12, 24]);
     assert_eq!(check_card(&card).unwrap().word_bits, 16);
     both_answer(&card, &mut random, 40);
+}
+
+/// What votes answer is what a search through all codewords does.
+fn both_vote(r: u32, m: u32, kept: &Kept, chunk: u64) {
+    let bits = |number| (kept.codeword(number) ^ chunk).count_ones();
+    let expected = kept.find(chunk).map(|number| (number as u32, bits(number))).ok_or(10);
+    assert_eq!(number(vote_chunk(r, m, chunk)).map(|vote| (vote.number, vote.bits)), expected, "r {r} m {m} chunk {chunk:x}");
+}
+
+#[test]
+fn made_cards_and_votes() {
+    let mut random = Random(6);
+    for (r, m) in (1..=6).flat_map(|m| (0..=m).map(move |r| (r, m))) {
+        let (rows, track) = (reed_muller(r, m), random.next() as u16);
+        if rows.len() > 12 {
+            assert_eq!(make_card(track, r, m), Err(Refusal::CodeLimits));
+            continue;
+        }
+        let card = make_card(track, r, m).unwrap();
+        assert_eq!(card[..], card_of(1 << m, rows.len() as u8, track, &rows));
+        let kept = both_check(&card).unwrap();
+        let Code { n, radius, .. } = *kept.code();
+        for _ in 0..400 {
+            // a codeword with up to t + 2 bits turned, then noise
+            let codeword = kept.codeword(random.below(kept.code().last_block() + 1));
+            let turned = random.below(radius + 3);
+            let places = random.some_below(turned.min(n), n);
+            both_vote(r, m, &kept, places.into_iter().fold(codeword, |chunk, place| chunk ^ 1 << place));
+            both_vote(r, m, &kept, random.next() >> (64 - n));
+        }
+        both_answer(&card, &mut random, 10);
+    }
 }
 
 #[test]

@@ -1,13 +1,13 @@
 /*
- * What the header itself defines: the version, the text of a status, the bytes of a word. Compiled as C99, as C11 and as C++; one
- * call of the library shows that it links in each.
+ * What the header itself defines: the version, the text of a status, the bytes of a word, the indices of values. Compiled as C99,
+ * as C11 and as C++; a call on a card and the two that are given none show that it links in each.
  */
 #include <stdio.h>
 #include <string.h>
 
 #include "dunnavish.h"
 
-#define KNOWN 14
+#define KNOWN 15
 
 static int failed = 0;
 
@@ -22,7 +22,7 @@ static void expect(int holds, const char *what, unsigned long number)
 /* Every status has a text of its own, and every other number the same one, which is none of them. */
 static void status_texts(void)
 {
-    static const uint32_t known[KNOWN] = {0, 1, 2, 3, 4, 5, 6, 7, 8, 9, 10, 11, 12, 100};
+    static const uint32_t known[KNOWN] = {0, 1, 2, 3, 4, 5, 6, 7, 8, 9, 10, 11, 12, 13, 100};
     const char *unknown = dunnavish_status_text(UINT32_MAX);
     uint32_t status;
     int i, j;
@@ -34,7 +34,7 @@ static void status_texts(void)
         for (j = 0; j < i; j++)
             expect(strcmp(text, dunnavish_status_text(known[j])) != 0, "the text of another for status", known[i]);
     }
-    for (status = 13; status < 100000; status++)
+    for (status = 14; status < 100000; status++)
         if (status != 100)
             expect(strcmp(dunnavish_status_text(status), unknown) == 0, "a text for the unknown status", status);
 }
@@ -62,6 +62,26 @@ static void bytes_of_words(const char *path)
     expect(dunnavish_word_bytes(UINT32_MAX) == 536870912, "bytes of bits", UINT32_MAX);
 }
 
+/* The code of order 0 in 2 variables has one row, 15: n 4, k 1, D 4, t 1. 7 is one bit from c(1), and 3 two bits from each. */
+static void made_card(void)
+{
+    uint8_t card[DUNNAVISH_CARD_BYTES];
+    uint32_t values[DUNNAVISH_CARD_VALUES], vote[DUNNAVISH_VOTE_VALUES];
+
+    expect(dunnavish_make_card(14, 0, 2, card, sizeof card) == DUNNAVISH_OK, "no card of order", 0);
+    expect(dunnavish_check_card(card, sizeof card, values, DUNNAVISH_CARD_VALUES) == DUNNAVISH_OK, "made card refused", 0);
+    expect(values[DUNNAVISH_CARD_N] == 4 && values[DUNNAVISH_CARD_K] == 1, "made card's n and k", 4);
+    expect(values[DUNNAVISH_CARD_TRACK] == 14, "made card's track", 14);
+    expect(values[DUNNAVISH_CARD_DISTANCE] == 4 && values[DUNNAVISH_CARD_RADIUS] == 1, "made card's D and t", 4);
+    expect(dunnavish_vote_chunk(0, 2, 0x7, vote, DUNNAVISH_VOTE_VALUES) == DUNNAVISH_OK, "chunk refused", 0x7);
+    expect(vote[DUNNAVISH_VOTE_NUMBER] == 1 && vote[DUNNAVISH_VOTE_BITS] == 1, "vote on chunk", 0x7);
+    expect(dunnavish_vote_chunk(0, 2, 0x3, vote, DUNNAVISH_VOTE_VALUES) == DUNNAVISH_CHUNK_UNREADABLE, "vote on chunk", 0x3);
+    expect(dunnavish_vote_chunk(0, 2, 0x10, vote, DUNNAVISH_VOTE_VALUES) == DUNNAVISH_SPARE_BIT, "vote on chunk", 0x10);
+    expect(dunnavish_vote_chunk(3, 2, 0, vote, DUNNAVISH_VOTE_VALUES) == DUNNAVISH_CODE_LIMITS, "vote of order", 3);
+    expect(dunnavish_make_card(14, 3, 2, card, sizeof card) == DUNNAVISH_CODE_LIMITS, "card of order", 3);
+    expect(dunnavish_make_card(14, 0, 2, card, 511) == DUNNAVISH_VALUE_COUNT, "card of bytes", 511);
+}
+
 int main(int argc, char **argv)
 {
     char version[32];
@@ -70,5 +90,6 @@ int main(int argc, char **argv)
     expect(strcmp(version, DUNNAVISH_VERSION) == 0, "the version's string is not its numbers", 0);
     status_texts();
     bytes_of_words(argc > 1 ? argv[1] : "examples/cardB");
+    made_card();
     return failed;
 }

@@ -1,6 +1,7 @@
 /*
- * Lends the calls numbers of every count from 0 to 9: only the call's own count is served, any other is answered 100 before
- * anything else is looked at, and nothing is written then, nor past the values. A refused call changes no number either.
+ * Lends the calls numbers of every count from 0 to 9, and the call that makes a card bytes of many counts: only the call's own
+ * count is served, any other is answered 100 before anything else is looked at, and nothing is written then, nor past the values
+ * or the card. A refused call changes nothing either.
  */
 #include <stdio.h>
 #include <string.h>
@@ -9,32 +10,75 @@
 
 #define LENT 16
 #define MARK 0xA5A5A5A5u
+#define LENT_BYTES 1024
+#define MARKED_BYTE 0xA5
+#define COUNT_OF(list) (sizeof(list) / sizeof *(list))
 
-enum { CHECK, READ, START, MILLIMETRES, CALLS };
+enum { CHECK, READ, START, MILLIMETRES, VOTE, CALLS };
 static const size_t counts[CALLS] = {DUNNAVISH_CARD_VALUES, DUNNAVISH_READ_VALUES, DUNNAVISH_NUMBER_VALUES,
-                                     DUNNAVISH_NUMBER_VALUES};
+                                     DUNNAVISH_NUMBER_VALUES, DUNNAVISH_VOTE_VALUES};
 
 /* Card B: n 3, k 1, track 14, row 7, check 145. */
 static uint8_t card[DUNNAVISH_CARD_BYTES];
 static const uint8_t word[2] = {0x7F, 0x00};
 static uint32_t values[LENT];
+static int failed = 0;
+
+/* A call: on card B, of which `card_bytes` are lent, or of a vote on a chunk of the code of order r in m variables. */
+struct trial {
+    int which;
+    size_t card_bytes;
+    uint32_t r, m;
+    uint64_t chunk;
+    uint32_t status;                          /* what is answered where the count is the call's */
+    uint32_t expected[DUNNAVISH_CARD_VALUES]; /* and the values where that is 0 */
+};
+
+/* Order 1 in 3 variables has rows FF, AA, CC, F0, D 4 and t 1: AB is one bit from AA, number 3; 03 is two bits from 00. */
+static const struct trial trials[] = {
+    {CHECK, 512, 0, 0, 0, 0, {3, 1, 14, 3, 1, 15, 15}},
+    {CHECK, 511, 0, 0, 0, 1, {0}},
+    {READ, 512, 0, 0, 0, 0, {7, 0, 2}},
+    {READ, 511, 0, 0, 0, 1, {0}},
+    {START, 512, 0, 0, 0, 0, {15}},
+    {START, 511, 0, 0, 0, 1, {0}},
+    {MILLIMETRES, 512, 0, 0, 0, 0, {350}},
+    {MILLIMETRES, 511, 0, 0, 0, 1, {0}},
+    {VOTE, 0, 1, 3, 0xAA, 0, {3, 0}},
+    {VOTE, 0, 1, 3, 0xAB, 0, {3, 1}},
+    {VOTE, 0, 1, 3, 0x03, 10, {0}},
+    /* a bit at n or above: with a chunk that is read without it, and with one that is not */
+    {VOTE, 0, 1, 3, 0x1AA, 8, {0}},
+    {VOTE, 0, 1, 3, 0x103, 8, {0}},
+    {VOTE, 0, 1, 3, 0x80000000000000AA, 8, {0}},
+    {VOTE, 0, 0, 6, UINT64_MAX, 0, {1, 0}},
+    /* m 0 and 7, r above m, k 15, and numbers that no shift may meet; with a chunk that has every bit set, too */
+    {VOTE, 0, 0, 0, 0, 13, {0}},
+    {VOTE, 0, 1, 7, 0, 13, {0}},
+    {VOTE, 0, 4, 3, 0xAA, 13, {0}},
+    {VOTE, 0, 3, 4, UINT64_MAX, 13, {0}},
+    {VOTE, 0, 1, 64, UINT64_MAX, 13, {0}},
+    {VOTE, 0, UINT32_MAX, UINT32_MAX, UINT64_MAX, 13, {0}},
+};
 
 /* One call on marked numbers, of which `count` are lent. */
-static uint32_t call(int which, size_t card_bytes, size_t count)
+static uint32_t call(const struct trial *trial, size_t count)
 {
     size_t i;
 
     for (i = 0; i < LENT; i++)
         values[i] = MARK;
-    switch (which) {
+    switch (trial->which) {
     case CHECK:
-        return dunnavish_check_card(card, card_bytes, values, count);
+        return dunnavish_check_card(card, trial->card_bytes, values, count);
     case READ:
-        return dunnavish_read_word(card, card_bytes, word, sizeof word, values, count);
+        return dunnavish_read_word(card, trial->card_bytes, word, sizeof word, values, count);
     case START:
-        return dunnavish_block_start(card, card_bytes, 1, values, count);
+        return dunnavish_block_start(card, trial->card_bytes, 1, values, count);
+    case MILLIMETRES:
+        return dunnavish_millimetres(card, trial->card_bytes, 7, values, count);
     default:
-        return dunnavish_millimetres(card, card_bytes, 7, values, count);
+        return dunnavish_vote_chunk(trial->r, trial->m, trial->chunk, values, count);
     }
 }
 
@@ -49,33 +93,81 @@ static size_t unmarked(void)
     return changed;
 }
 
+static void numbers(void)
+{
+    size_t i, count;
+
+    for (i = 0; i < COUNT_OF(trials); i++)
+        for (count = 0; count < 10; count++) {
+            const struct trial *trial = &trials[i];
+            uint32_t expected = count == counts[trial->which] ? trial->status : 100;
+            uint32_t status = call(trial, count);
+            size_t changed = unmarked();
+
+            if (status != expected || changed != (expected == 0 ? count : 0) ||
+                (expected == 0 && memcmp(values, trial->expected, count * sizeof *values) != 0)) {
+                printf("lent_numbers: trial %zu, count %zu: status %u, %zu changed\n", i, count, (unsigned)status, changed);
+                failed = 1;
+            }
+        }
+}
+
+/* Makes the card of a code for track 270 in `count` lent bytes: the status is to be `expected`, and what they hold `left`. */
+static void make(uint32_t r, uint32_t m, size_t count, uint32_t expected, const uint8_t *left)
+{
+    static uint8_t lent[LENT_BYTES];
+    uint32_t status;
+
+    memset(lent, MARKED_BYTE, sizeof lent);
+    status = dunnavish_make_card(270, r, m, lent, count);
+    if (status != expected || memcmp(lent, left, sizeof lent) != 0) {
+        printf("lent_numbers: card of r %u, m %u in %zu bytes: status %u\n", (unsigned)r, (unsigned)m, count, (unsigned)status);
+        failed = 1;
+    }
+}
+
+/*
+ * Order 1 in 2 variables has rows 15, 10 and 12, and the check is 1 * 4 + 2 * 3 + 3 * 1 + 4 * 14 + 12 * 15 + 20 * 10 + 28 * 12 =
+ * 785 = 3 * 256 + 17.
+ */
+static void cards(void)
+{
+    static const size_t lengths[] = {0, 1, 2, 3, 511, 512, 513, LENT_BYTES};
+    /* r and m */
+    static const uint32_t refused[][2] = {{0, 0}, {1, 0}, {0, 7}, {2, 1}, {7, 6}, {3, 4}, {2, 5}, {2, 6}, {6, 6}, {1, 32},
+                                          {0, 64}, {1, 258}, {UINT32_MAX, 2}, {1, UINT32_MAX}};
+    static uint8_t unchanged[LENT_BYTES], made[LENT_BYTES];
+    size_t i, j;
+
+    memset(unchanged, MARKED_BYTE, sizeof unchanged);
+    memset(made, MARKED_BYTE, sizeof made);
+    memset(made, 0, DUNNAVISH_CARD_BYTES);
+    made[0] = 4;
+    made[1] = 3;
+    made[2] = 1;
+    made[3] = 14;
+    made[11] = 15;
+    made[19] = 10;
+    made[27] = 12;
+    made[510] = 3;
+    made[511] = 17;
+    for (i = 0; i < COUNT_OF(lengths); i++) {
+        int whole = lengths[i] == DUNNAVISH_CARD_BYTES;
+
+        make(1, 2, lengths[i], whole ? 0 : 100, whole ? made : unchanged);
+        for (j = 0; j < COUNT_OF(refused); j++)
+            make(refused[j][0], refused[j][1], lengths[i], whole ? 13 : 100, unchanged);
+    }
+}
+
 int main(void)
 {
-    static const uint32_t expected[CALLS][DUNNAVISH_CARD_VALUES] = {{3, 1, 14, 3, 1, 15, 15}, {7, 0, 2}, {15}, {350}};
-    int which, failed = 0;
-    size_t count;
-
     card[0] = 3;
     card[1] = 1;
     card[3] = 14;
     card[11] = 7;
     card[511] = 145;
-    for (which = 0; which < CALLS; which++)
-        for (count = 0; count < 10; count++) {
-            int served = count == counts[which];
-            uint32_t status = call(which, sizeof card, count);
-            size_t changed = unmarked();
-
-            if (status != (served ? 0u : 100u) || changed != (served ? count : 0) ||
-                (served && memcmp(values, expected[which], count * sizeof *values) != 0)) {
-                printf("lent_numbers: call %d, count %zu: status %u, %zu changed\n", which, count, (unsigned)status, changed);
-                failed = 1;
-            }
-            status = call(which, 511, count);
-            if (status != (served ? 1u : 100u) || unmarked() != 0) {
-                printf("lent_numbers: call %d, short card, count %zu: status %u\n", which, count, (unsigned)status);
-                failed = 1;
-            }
-        }
+    numbers();
+    cards();
     return failed;
 }

@@ -1,7 +1,8 @@
 /*
  * Measures the stack that a call takes, and fails if it is not below what include/dunnavish.h promises. Each call runs on a
  * thread whose stack is painted first; a thread that calls nothing is subtracted. Cards of every length n, and of the fewest and
- * the most rows, and positions over the whole track. Linked with -Wl,-z,now, so that memcpy is bound before the calls.
+ * the most rows, and positions over the whole track; every Reed-Muller code that has a card. Linked with -Wl,-z,now, so that
+ * memcpy and memset are bound before the calls.
  */
 #include <pthread.h>
 #include <stdio.h>
@@ -14,14 +15,20 @@
 #define STACK_BYTES ((size_t)1 << 18)
 #define PAINT 0xA5
 
-enum { NOTHING, CHECK, WRITE, READ, START, MILLIMETRES, CALLS };
-static const char *const names[CALLS] = {"nothing", "check_card", "write_word", "read_word", "block_start", "millimetres"};
+/* The calls on a card, and from MAKE on those that are given none. */
+enum { NOTHING, CHECK, WRITE, READ, START, MILLIMETRES, MAKE, VOTE, CALLS };
+static const char *const names[CALLS] = {"nothing",     "check_card",  "write_word", "read_word",
+                                         "block_start", "millimetres", "make_card",  "vote_chunk"};
+
+/* The greatest order of a Reed-Muller code with at most 12 rows, by the number of variables, 1 to 6. */
+static const uint32_t greatest_order[7] = {0, 1, 2, 3, 2, 1, 1};
 
 static uint8_t card[DUNNAVISH_CARD_BYTES];
 static uint8_t word[DUNNAVISH_WIDEST_WORD_BYTES];
 static size_t word_bytes;
 static uint32_t values[DUNNAVISH_CARD_VALUES];
-static uint32_t position, status;
+static uint32_t position, r, m, status;
+static uint64_t chunk;
 static unsigned char *stack;
 static uint64_t random_state = 88172645463325252u;
 
@@ -52,6 +59,12 @@ static void *called(void *which)
     case MILLIMETRES:
         status = dunnavish_millimetres(card, sizeof card, position, values, DUNNAVISH_NUMBER_VALUES);
         break;
+    case MAKE:
+        status = dunnavish_make_card(14, r, m, card, sizeof card);
+        break;
+    case VOTE:
+        status = dunnavish_vote_chunk(r, m, chunk, values, DUNNAVISH_VOTE_VALUES);
+        break;
     default:
         status = 0;
     }
@@ -80,6 +93,17 @@ static size_t stack_of(int which)
     return STACK_BYTES - untouched;
 }
 
+/* The most stack of each call so far. */
+static size_t most[CALLS];
+
+static void measure(int which)
+{
+    size_t used = stack_of(which);
+
+    if (used > most[which])
+        most[which] = used;
+}
+
 /* A card of independent rows: row z has bit z set, and of the bits below k no other. */
 static void make_card(int n, int k)
 {
@@ -103,24 +127,17 @@ static void make_card(int n, int k)
     card[511] = (uint8_t)(sum % 256);
 }
 
-int main(void)
+static void calls_on_cards(void)
 {
-    size_t most[CALLS] = {0};
-    int n, k, which, round, failed = 0;
+    int n, k, which, round;
 
-    stack = aligned_alloc(4096, STACK_BYTES);
-    if (stack == NULL)
-        return 2;
-    most[NOTHING] = stack_of(NOTHING);
     for (n = 1; n <= 64; n++)
         for (k = 1; k <= 12 && k <= n; k += 11) {
             uint32_t last;
 
             make_card(n, k);
-            for (which = CHECK; which < CALLS; which++)
+            for (which = CHECK; which < MAKE; which++)
                 for (round = 0; round < 4; round++) {
-                    size_t used;
-
                     position = 0;
                     stack_of(CHECK);
                     last = values[DUNNAVISH_CARD_LAST];
@@ -128,11 +145,36 @@ int main(void)
                     position = round == 0 ? 0 : round == 1 ? last : (uint32_t)(next_random() % (last + 1));
                     if (which == READ)
                         stack_of(WRITE);
-                    used = stack_of(which);
-                    if (used > most[which])
-                        most[which] = used;
+                    measure(which);
                 }
         }
+}
+
+/* Votes are on codeword 0, undamaged and with the first t places turned. */
+static void calls_on_codes(void)
+{
+    for (m = 1; m <= 6; m++)
+        for (r = 0; r <= greatest_order[m]; r++) {
+            uint32_t radius = (((uint32_t)1 << (m - r)) - 1) / 2;
+
+            measure(MAKE);
+            chunk = 0;
+            measure(VOTE);
+            chunk = ((uint64_t)1 << radius) - 1;
+            measure(VOTE);
+        }
+}
+
+int main(void)
+{
+    int which, failed = 0;
+
+    stack = aligned_alloc(4096, STACK_BYTES);
+    if (stack == NULL)
+        return 2;
+    measure(NOTHING);
+    calls_on_cards();
+    calls_on_codes();
     for (which = CHECK; which < CALLS; which++) {
         size_t used = most[which] - most[NOTHING];
 

@@ -1,7 +1,7 @@
 //! One call of the library against the same call of the second reader.
 use crate::library;
 use crate::tally::Tally;
-use second_reader::{Facts, Reading, Refusal};
+use second_reader::{Facts, Reading, Refusal, Vote};
 
 /// The lent bytes of every write, of which the word is to fill the first ones: what they hold before it, and how many they are.
 const HELD: u8 = 170;
@@ -61,5 +61,18 @@ pub fn read(tally: &mut Tally, answer: Result<Reading, Refusal>, second: Result<
     answered(tally, "words", "words read", second, answer != second);
     if let Ok(reading) = second {
         tally.add(&format!("words read by rule {}", reading.rule), true);
+    }
+}
+
+/// The card of a Reed-Muller code.
+pub fn make(tally: &mut Tally, track: u16, r: u32, m: u32, second: Result<[u8; 512], Refusal>) {
+    answered(tally, "made cards", "cards made", second, library::make_card(track, r, m) != second);
+}
+
+/// What a chunk is read as, by the library's votes and by the second reader.
+pub fn vote(tally: &mut Tally, answer: Result<Vote, Refusal>, second: Result<Vote, Refusal>) {
+    answered(tally, "chunks", "chunks read", second, answer != second);
+    if let Ok(vote) = second {
+        tally.greatest("most bits turned in a chunk that is read", vote.bits.into());
     }
 }

@@ -1,5 +1,5 @@
 //! The library's public calls, with answers in the second reader's form.
-use second_reader::{Facts, Reading, Refusal};
+use second_reader::{Facts, Reading, Refusal, Vote};
 
 /// A status or rule that the Rust crate has no number for is a refusal that the second reader never answers.
 fn number(refusal: dunnavish::Refusal) -> Refusal {
@@ -34,4 +34,13 @@ pub fn block_start(card: &[u8], block: u32) -> Result<u32, Refusal> {
 
 pub fn millimetres(card: &[u8], position: u32) -> Result<u32, Refusal> {
     dunnavish::millimetres(card, position).map_err(number)
+}
+
+pub fn make_card(track: u16, r: u32, m: u32) -> Result<[u8; 512], Refusal> {
+    dunnavish::make_card(track, r, m).map_err(number)
+}
+
+pub fn vote_chunk(r: u32, m: u32, chunk: u64) -> Result<Vote, Refusal> {
+    let vote = dunnavish::vote_chunk(r, m, chunk).map_err(number)?;
+    Ok(Vote { number: vote.number, bits: vote.bits })
 }

@@ -1,10 +1,13 @@
-//! Compares the library's public calls with the second reader, on cards of every shape and with faults and on words damaged in many
-//! ways, and prints counts. A call is compared in `calls.rs`, a count is a line of `tally.rs`, and what is tried stands in `trials`.
+//! Compares the library's public calls with the second reader, on cards of every shape and with faults, on words damaged in many
+//! ways, and on the Reed-Muller codes and their chunks, and prints counts. A call is compared in `calls.rs`, a count is a line of
+//! `tally.rs`, and what is tried stands in `trials`.
 //!
-//! How the file `expected` was made: every count but the last six follows from how the cards and words are made and from what the
-//! second reader answers, and none of them from the library. The last six are of the library, and are 0 where it is right. So the
-//! file has the former as the program printed them with a library that refused every call, and 0 for each of the latter.
+//! How the file `expected` was made: every count but the last nine follows from how the cards, words and chunks are made and from
+//! what the second reader answers, and none of them from the library. The last nine are of the library, and are 0 where it is
+//! right. So the file has the former as the program printed them with a library that refused every call, and 0 for each of the
+//! latter.
 mod calls;
+mod codes;
 mod library;
 mod positions;
 mod tally;
@@ -29,6 +32,7 @@ fn main() {
             card(&mut tally, &faults::faulty(right, a, b), shapes.len() as u64);
         }
     }
+    codes::all(&mut tally);
     tally.print();
 }
 

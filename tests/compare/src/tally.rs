@@ -1,7 +1,7 @@
 //! The counts that the program prints.
 
 /// The printed lines in their order: a name each, under which something is counted.
-const LINES: [&str; 38] = [
+const LINES: [&str; 49] = [
     // What the second reader answered, call by call.
     "cards sound",
     "cards refused 1",
@@ -29,20 +29,31 @@ const LINES: [&str; 38] = [
     "words read by rule 1",
     "words read by rule 2",
     "words read by rule 3",
+    "cards made",
+    "made cards refused 13",
+    "chunks read",
+    "chunks refused 8",
+    "chunks refused 10",
+    "chunks refused 13",
     // What was tried, and how far off the second reader was.
     "neighbours compared",
     "words damaged within the radius",
     "most bits turned in one of them",
     "greatest error in steps",
     "errors of twice the bits turned",
+    "most bits turned in a chunk that is read",
+    "chunks also read in a word",
     "answers compared",
     // What the library got wrong: 0 each where it is right.
     "mismatches of cards",
     "mismatches of writes",
     "mismatches of starts and distances",
     "mismatches of words",
+    "mismatches of made cards",
+    "mismatches of chunks",
     "neighbours not one bit apart",
     "errors above twice the bits turned or refused",
+    "votes unlike a chunk's reading in a word",
 ];
 
 /// A count for each line.

@@ -1,4 +1,4 @@
-//! The card: its 512 bytes decoded, and refusals 1 to 5.
+//! The card: its 512 bytes decoded, with refusals 1 to 5, and made.
 use crate::code::Code;
 use crate::Refusal;
 
@@ -33,6 +33,20 @@ impl Card {
         let code = Code::of_rows(n, used).ok_or(5u32)?;
         Ok(Card { track: number(&bytes[2..4]) as u32, code })
     }
+
+    /// The card's 512 bytes.
+    pub fn bytes(&self) -> [u8; 512] {
+        let mut bytes = [0; 512];
+        bytes[0] = self.code.n as u8;
+        bytes[1] = self.code.rows.len() as u8;
+        put(&mut bytes[2..4], self.track.into());
+        for (place, &row) in bytes[4..100].chunks_mut(8).zip(&self.code.rows) {
+            put(place, row);
+        }
+        let check = check_of(&bytes[..510]);
+        put(&mut bytes[510..], check);
+        bytes
+    }
 }
 
 /// Bytes as a number, high byte first.
@@ -40,12 +54,19 @@ fn number(bytes: &[u8]) -> u64 {
     bytes.iter().fold(0, |high, &byte| high * 256 + u64::from(byte))
 }
 
+/// Puts a number into bytes, high byte first.
+fn put(bytes: &mut [u8], number: u64) {
+    for (place, byte) in bytes.iter_mut().rev().enumerate() {
+        *byte = (number >> (8 * place)) as u8;
+    }
+}
+
 /// The check of a card's first 510 bytes: the sum of (place + 1) × byte, modulo 65,521.
 fn check_of(bytes: &[u8]) -> u64 {
     (1..).zip(bytes).map(|(factor, &byte)| factor * u64::from(byte)).sum::<u64>() % 65_521
 }
 
-/// Whether a row has a bit at n or above.
-fn reaches(row: u64, n: usize) -> bool {
+/// Whether a row, or a chunk, has a bit at n or above.
+pub fn reaches(row: u64, n: usize) -> bool {
     (n..64).any(|p| row >> p & 1 == 1)
 }

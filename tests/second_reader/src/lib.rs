@@ -1,12 +1,13 @@
-//! A second reader of robust Gray position words: cards, words, positions and readings, written from document 01's words by plain
-//! search, to be compared with the library.
+//! A second reader of robust Gray position words: cards, words, positions and readings, written from the words of document 01 and
+//! of request P1 by plain search, to be compared with the library.
 //!
 //! Words are single bits, made by walking from position 0 and turning one bit a step; block starts add up the places in which one
 //! whole word and the next differ; the least distance is found by summing every set of rows, a chunk's codeword by trying all, and
-//! the nearest allowed position by trying each with its full word. Where document 01 has a short way and a plain one, this is the
-//! plain one.
+//! the nearest allowed position by trying each with its full word. Where there is a short way and a plain one, this is the plain
+//! one: a chunk of a Reed-Muller code too is read by trying all codewords, not by votes.
 //!
-//! The calls below are the library's five. [`track::Track`] and [`walk::Walk`] are for a caller with many words of one card.
+//! The calls below are the library's seven. [`track::Track`] and [`walk::Walk`] are for a caller with many words of one card,
+//! [`reed_muller::ReedMuller`] for one with many chunks of one code.
 #![deny(unsafe_code)]
 #![deny(unsafe_op_in_unsafe_fn)]
 
@@ -15,16 +16,20 @@ mod c_calls;
 pub mod card;
 pub mod code;
 pub mod reading;
+pub mod reed_muller;
 pub mod track;
 pub mod walk;
 pub mod word;
 
+use card::Card;
 pub use reading::Reading;
+use reed_muller::ReedMuller;
+pub use reed_muller::Vote;
 pub use track::Facts;
 use track::Track;
 use walk::Walk;
 
-/// Why a call is turned down: the number in document 01's table.
+/// Why a call is turned down: the number in document 01's table, or request P1's 13.
 pub type Refusal = u32;
 
 /// Checks a card.
@@ -59,4 +64,14 @@ pub fn block_start(card: &[u8], block: u32) -> Result<u32, Refusal> {
 pub fn millimetres(card: &[u8], position: u32) -> Result<u32, Refusal> {
     Track::of_card(card)?.holds(position)?;
     Ok(50 * position)
+}
+
+/// The 512 bytes of the card of a Reed-Muller code.
+pub fn make_card(track: u16, r: u32, m: u32) -> Result<[u8; 512], Refusal> {
+    Ok(Card { track: track.into(), code: ReedMuller::of_order(r, m)?.code }.bytes())
+}
+
+/// What a chunk of a Reed-Muller code reads as.
+pub fn vote_chunk(r: u32, m: u32, chunk: u64) -> Result<Vote, Refusal> {
+    ReedMuller::of_order(r, m)?.read_chunk(chunk)
 }
