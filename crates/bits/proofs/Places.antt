@@ -23,7 +23,7 @@ unfolding listOf
 length-listOf zero f = refl
 length-listOf (suc m) f = rw (length-append, length-listOf m f) (omega arith)
 
-getD-listOf : (m : ℕ) (f : ℕ → ℕ) (i : ℕ) → i < m → getD (listOf m f) i 0 ≡ f i
+pub getD-listOf : (m : ℕ) (f : ℕ → ℕ) (i : ℕ) → i < m → getD (listOf m f) i 0 ≡ f i
 unfolding listOf
 getD-listOf zero f i h = absurd (omega arith)
 getD-listOf (suc m) f i h =

@@ -1,6 +1,7 @@
 pub mod LowestVariable
 pub mod Classes
 pub mod Sets
+pub mod OrderLimits
 pub mod Polynomials
 pub mod LeastDistance
 pub mod Vote

@@ -1,0 +1,3 @@
+// Reed-Muller codes: their cards made, and a chunk read by the majority voting of document 004.
+pub mod limits;
+pub mod products;
