@@ -7,6 +7,7 @@ ghost use lib.ListN.{getD};
 ghost use Rattle.bits.specs.Sums.{sumBelow, fromPlace};
 ghost use Rattle.bits.specs.Places.{bit, place};
 ghost use Rattle.model.specs.Reading.{majority};
+use linear_code::powers;
 
 // The bit at place p of any word of which `byte` is byte p / 8. It takes the byte, since its callers go from place to place of
 // the same words: a whole word, by value, was copied at each place, 14 % more instructions for a read on the benchmark's rm64.
@@ -14,17 +15,6 @@ pub fn bit_of(byte: u8, p: u32) -> u32
     ensures { λ r. ⌜ ((w : List ℕ) → getD w (p / 8) 0 ≡ byte → r ≡ place w p) × (r < 2) ⌝ }
 {
     ((byte >> (p % 8)) % 2) as u32
-}
-
-// The number whose lowest n bits are 1 and no other.
-pub fn low_bits(n: u32) -> u64
-    requires { ⌜ n ≤ 64 ⌝ }
-    ensures { λ r. ⌜ r ≡ 2 ^ n - 1 ⌝ }
-{
-    if n == 0 {
-        return 0;
-    }
-    u64::MAX >> (64 - n)
 }
 
 // The bits of a byte from bit q on, moved up to bit `to` of a number. The contract also says of the byte what its type does, for a
@@ -49,7 +39,7 @@ pub fn bits_at(w: [u8; 40], at: u32, n: u32) -> u64
         value ^= moved_to(w[j], q % 8, p);
         p += 8 - q % 8;
     }
-    value & low_bits(n)
+    value & powers::low_bits(n)
 }
 
 // How many of the `len` bits from place `at` on are 1.

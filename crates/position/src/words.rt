@@ -16,9 +16,9 @@ ghost use Rattle.position.specs.HoldsWord.{HoldsWord};
 use super::blocks;
 use super::hamming;
 use super::layout;
-use super::places;
 use super::splice;
 use linear_code::codeword;
+use linear_code::powers;
 use model::DecodedCode;
 
 // The lowest bits of a value moved up to bit q of a byte; what lies above the byte is left out.
@@ -53,7 +53,7 @@ fn separator(i: u32, distance: u32) -> u64
     if i % 2 == 0 {
         return 0;
     }
-    places::low_bits(distance)
+    powers::low_bits(distance)
 }
 
 // w(i), built chunk by chunk.

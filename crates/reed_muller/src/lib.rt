@@ -1,3 +1,4 @@
 // Reed-Muller codes: their cards made, and a chunk read by the majority voting of document 004.
 pub mod limits;
 pub mod products;
+pub mod rows;

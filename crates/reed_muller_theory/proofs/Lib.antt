@@ -9,3 +9,4 @@ pub mod Rounds
 pub mod VotedReading
 pub mod LeftOver
 pub mod ClassSums
+pub mod FewerVariables

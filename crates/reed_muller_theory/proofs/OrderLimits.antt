@@ -2,18 +2,20 @@
 -- that is. Assumes nothing.
 use mathlib.Core.Path.{_≡_, refl, sym, _∙_}
 use mathlib.Core.Bool.{Bool, true, false, not, _&&_, _||_}
-use mathlib.Core.List.{List}
+use mathlib.Core.List.{List, [], _∷_}
 use mathlib.Core.Logic.{⊎-elim}
 use Prim.Native.Nat.{ℕ, zero, suc, _+_, _-_, _≤_, _<_}
 use native.Mathlib.Nat.{add-zero, add-suc, le-dest}
 use native.Mathlib.Omega.{arith}
 use lib.Dec.{leb, ltb, eqb}
 use lib.ListN.{length, getD, length-append}
-use borrow.Author.Tests.{le-leb, lt-leb, leb-true, ltb-true, eqb-true, not-false}
+use borrow.Author.Tests.{le-leb, lt-leb, leb-true, ltb-true, ltb-false, eqb-true, not-false}
+use Rattle.bits.specs.Sums.{sumBelow}
+use Rattle.bits.specs.Places.{weight}
 use Rattle.bits.specs.Searches.{anyBelow}
 use Rattle.bits.proofs.Numbers.{lt-or-le, true-or-false, and-true-left, and-true-right}
 use Rattle.bits.proofs.Searches.{none-of-any}
-use Rattle.model.specs.ReedMuller.{setsOf, setsUpTo, countOfSets, orderWithinLimits}
+use Rattle.model.specs.ReedMuller.{those, setsOf, setsUpTo, countOfSets, orderWithinLimits}
 
 -- ---- k grows with the order
 
@@ -66,13 +68,19 @@ module _ (m o : ℕ) (low : 1 ≤ m) (high : m ≤ 6) (greatest : greatestOrder 
       ))
       (lt-or-le o r))
 
--- a table of them for 1 to 6 variables, compared by one computation
-pub limit-in-table : (table : List ℕ) → anyBelow (λ i. not (greatestOrder (suc i) (getD table (suc i) 0))) 6 ≡ false
-    → (r m : ℕ) → 1 ≤ m → m ≤ 6 → leb r (getD table m 0) ≡ orderWithinLimits r m
-limit-in-table table right r zero low high = absurd (omega arith)
-limit-in-table table right r (suc i) low high =
-    limit-is (suc i) (getD table (suc i) 0) low high
-    (not-false _ (none-of-any (λ i. not (greatestOrder (suc i) (getD table (suc i) 0))) 6 right i (omega arith))) r
+-- for 1 to 6 variables (nothing is said of none): compared by one computation
+unfoldable pub greatestOrders : List ℕ
+greatestOrders = 0 ∷ 1 ∷ 2 ∷ 3 ∷ 2 ∷ 1 ∷ 1 ∷ []
+
+all-greatest : anyBelow (λ i. not (greatestOrder (suc i) (getD greatestOrders (suc i) 0))) 6 ≡ false
+unfolding sumBelow weight anyBelow those setsOf setsUpTo countOfSets greatestOrder greatestOrders
+all-greatest = refl
+
+pub limit-in-table : (r m : ℕ) → 1 ≤ m → m ≤ 6 → leb r (getD greatestOrders m 0) ≡ orderWithinLimits r m
+limit-in-table r zero low high = absurd (omega arith)
+limit-in-table r (suc i) low high =
+    limit-is (suc i) (getD greatestOrders (suc i) 0) low high
+    (not-false _ (none-of-any (λ i. not (greatestOrder (suc i) (getD greatestOrders (suc i) 0))) 6 all-greatest i (omega arith))) r
 
 -- ---- what lies outside for want of a number of variables
 
@@ -95,3 +103,14 @@ limits-of-test r m e =
       leb-true r m (and-true-right (leb 1 m && leb m 6) _ three),
       leb-true (countOfSets r m) 12 (and-true-right (leb 1 m && leb m 6 && leb r m) _ e),
     )
+
+-- so no order within the limits is above 3
+none-above-three : anyBelow (λ i. ltb 3 (getD greatestOrders i 0)) 7 ≡ false
+unfolding anyBelow greatestOrders
+none-above-three = refl
+
+pub order-at-most-three : (r m : ℕ) → orderWithinLimits r m ≡ true → r ≤ 3
+order-at-most-three r m e =
+    let (low, high, _, _) = limits-of-test r m e in
+    let greatest : r ≤ getD greatestOrders m 0 = leb-true r (getD greatestOrders m 0) (limit-in-table r m low high ∙ e) in
+    omega (arith, ltb-false 3 (getD greatestOrders m 0) (none-of-any (λ i. ltb 3 (getD greatestOrders i 0)) 7 none-above-three m (omega arith)))
