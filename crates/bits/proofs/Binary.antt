@@ -90,6 +90,12 @@ bit-xor x y p = ap (λ (z : ℕ). z % 2) (xor-shr x y p) ∙ xor-lowest (x / 2 ^
 pub xor-assoc : (x y z : ℕ) → bitXor (bitXor x y) z ≡ bitXor x (bitXor y z)
 xor-assoc x y z = bit-ext _ _ (λ p. simp (bit-xor, mod-add-mod, add-mod-mod) (omega arith))
 
+pub xor-exchange : (a b c d : ℕ) → bitXor (bitXor a b) (bitXor c d) ≡ bitXor (bitXor a c) (bitXor b d)
+xor-exchange a b c d = bit-ext _ _ (λ p. simp (bit-xor, mod-add-mod, add-mod-mod) (omega arith))
+
+pub xor-undone : (a b : ℕ) → bitXor a (bitXor a b) ≡ b
+xor-undone a b = sym (xor-assoc a a b) ∙ ap (λ (x : ℕ). bitXor x b) (xor-self a)
+
 -- numbers whose exclusive-or is 0 are equal
 pub eq-of-xor-zero : (x y : ℕ) → bitXor x y ≡ 0 → x ≡ y
 eq-of-xor-zero x y e =

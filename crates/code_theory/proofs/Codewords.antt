@@ -4,7 +4,7 @@
 use mathlib.Core.Path.{_≡_, refl, sym, ap, ap₂, _∙_}
 use mathlib.Core.Logic.{⊎-elim}
 use Prim.Native.Nat.{ℕ, zero, suc, _+_, _*_, _^_, _≤_, _<_}
-use native.Mathlib.Nat.{lt-of-le-of-lt, mod-add-mod, add-mod-mod, zero-mul, one-mul, mul-le-mul-right}
+use native.Mathlib.Nat.{lt-of-le-of-lt, zero-mul, one-mul, mul-le-mul-right}
 use native.Mathlib.Omega.{arith}
 use lib.Bits.{bitXor, xor-lt, xor-self, xor-zero-r}
 use lib.Count.{trailingZeros}
@@ -14,20 +14,12 @@ use borrow.Author.Tests.{eq-eqb}
 use Rattle.bits.specs.Sums.{unlike}
 use Rattle.bits.specs.Places.{bit, weight}
 use Rattle.bits.proofs.Numbers.{eq-or-ne}
-use Rattle.bits.proofs.Binary.{bit-bit, bit-zero, bit-xor, bit-ext, bit-pow-same, bit-pow-other, xor-assoc, weight-xor}
+use Rattle.bits.proofs.Binary.{bit-bit, bit-zero, bit-xor, bit-pow-same, bit-pow-other, xor-exchange, xor-undone, weight-xor}
 use Rattle.bits.proofs.Searches.{first-is}
 use Rattle.model.specs.Card.{Code, sumOfRows}
 use Rattle.model.specs.Order.{gray, codeword, lastCodeword, changedRow, changedWeight}
 use Rattle.code_theory.specs.LeastDistance.{codewordDistance}
 use Rattle.code_theory.proofs.Gray.{gray-zero, gray-changed, gray-kept, gray-next, changed-below}
-
--- ---- identities of exclusive-or
-
-xor-exchange : (a b c d : ℕ) → bitXor (bitXor a b) (bitXor c d) ≡ bitXor (bitXor a c) (bitXor b d)
-xor-exchange a b c d = bit-ext _ _ (λ p. simp (bit-xor, mod-add-mod, add-mod-mod) (omega arith))
-
-xor-undone : (a b : ℕ) → bitXor a (bitXor a b) ≡ b
-xor-undone a b = sym (xor-assoc a a b) ∙ ap (λ (x : ℕ). bitXor x b) (xor-self a)
 
 -- a row is taken where two bits differ: once for either bit, modulo 2
 xor-multiples : (a b r : ℕ) → a < 2 → b < 2 → unlike a b * r ≡ bitXor (a * r) (b * r)

@@ -1,2 +1,4 @@
 pub mod Table
 pub mod FilledRows
+pub mod ShiftedSums
+pub mod Votes

@@ -1,0 +1,57 @@
+// Reading a chunk by the majority voting of document 004.
+ghost use mathlib.Core.Path.{_≡_};
+ghost use mathlib.Core.Bool.{true};
+ghost use Prim.Native.Nat.{ℕ, _^_, _≤_, _<_};
+ghost use Rattle.bits.specs.Places.{bit};
+ghost use Rattle.model.specs.Order.{gray};
+ghost use Rattle.model.specs.ReedMuller.{product, classSum, productRow, votesForOne, orderWithinLimits, votedReading};
+use super::products;
+use super::rows;
+use linear_code::powers;
+use model::Chunk;
+
+// The sums over all classes of a set at once: a position that has every bit of the set holds the sum of y over its class. For each
+// variable in the set the word is added to itself, shifted up by the variable's bit, so that such a position takes in the one
+// without that variable.
+fn class_sums(y: u64, set: u32) -> u64
+    requires { ⌜ set < 64 ⌝ }
+    ensures { λ a. ⌜ ((c : ℕ) → c < 64 → product set c ≡ 1 → bit a c ≡ classSum 6 set (bit y) c) ⌝ }
+{
+    let mut sums = y;
+    let mut rest = set;
+    while rest != 0 {
+        let others = rest & (rest - 1);
+        sums ^= sums << (rest - others);
+        rest = others;
+    }
+    sums
+}
+
+// The set whose product a row is: the first position that has every bit of a set is the set itself.
+fn set_of(row: u64) -> u32
+    ensures { λ a. ⌜ ((m S : ℕ) → m ≤ 6 → S < 2 ^ m → row ≡ productRow m S → a ≡ S) ⌝ }
+{
+    u64::trailing_zeros(row)
+}
+
+// How many classes of a set sum to 1: the ones of the set's row are the greatest positions of its classes.
+fn votes_for_one(y: u64, set: u32, row: u64) -> u32
+    requires { ⌜ set < 64 ⌝ }
+    ensures { λ a. ⌜ ((m : ℕ) → m ≤ 6 → set < 2 ^ m → row ≡ productRow m set → a ≡ votesForOne m set (bit y)) ⌝ }
+{
+    u64::count_ones(class_sums(y, set) & row)
+}
+
+// The number of the codeword that is the sum of the rows named by a number's bits: the one of which that is the Gray number. What is
+// left of the bits, halved again and again, is added up.
+fn number_of(rows: u32) -> u32
+    ensures { λ a. ⌜ (gray a ≡ rows) × ((k : ℕ) → rows < 2 ^ k → a < 2 ^ k) ⌝ }
+{
+    let mut number = rows;
+    let mut rest = rows >> 1;
+    while rest != 0 {
+        number ^= rest;
+        rest >>= 1;
+    }
+    number
+}
