@@ -57,14 +57,18 @@ filled-all r m rows twelve few filled =
     (λ (l : 12 ≤ z). List·getD-eq-default rows 0 (omega arith) ∙ rw (le-ltb z (length (setsUpTo m r)) (omega arith)))
     (lt-or-le z 12))
 
--- what is kept of the first entries of a list is no longer than what is kept of all
-pub kept-first : (b i : ℕ) (l : List ℕ) → length (kept b (take i l)) ≤ length (kept b l)
-kept-first b i l =
-    let parts : length (kept b l) ≡ length (kept b (take i l)) + length (kept b (drop i l)) =
+-- what is kept of the first or the last entries of a list is no longer than what is kept of all
+kept-parts : (b i : ℕ) (l : List ℕ) → length (kept b l) ≡ length (kept b (take i l)) + length (kept b (drop i l))
+kept-parts b i l =
     ap (λ (x : List ℕ). length (kept b x)) (sym (take-append-drop i l))
     ∙ ap length (kept-append b (take i l) (drop i l))
-    ∙ length-append (kept b (take i l)) (kept b (drop i l)) in
-    omega arith
+    ∙ length-append (kept b (take i l)) (kept b (drop i l))
+
+kept-first : (b i : ℕ) (l : List ℕ) → length (kept b (take i l)) ≤ length (kept b l)
+kept-first b i l = omega (arith, kept-parts b i l)
+
+pub kept-last : (b i : ℕ) (l : List ℕ) → length (kept b (drop i l)) ≤ length (kept b l)
+kept-last b i l = omega (arith, kept-parts b i l)
 
 -- one entry more is kept, or left out
 module _ (b i : ℕ) (l : List ℕ) (inside : i < length l) where

@@ -2,3 +2,4 @@ pub mod Table
 pub mod FilledRows
 pub mod ShiftedSums
 pub mod Votes
+pub mod RoundSteps

@@ -1,10 +1,11 @@
 // Reading a chunk by the majority voting of document 004.
 ghost use mathlib.Core.Path.{_≡_};
-ghost use mathlib.Core.Bool.{true};
-ghost use Prim.Native.Nat.{ℕ, _^_, _≤_, _<_};
+ghost use mathlib.Core.Bool.{true, false};
+ghost use Prim.Native.Nat.{ℕ, _+_, _*_, _^_, _≤_, _<_};
 ghost use Rattle.bits.specs.Places.{bit};
 ghost use Rattle.model.specs.Order.{gray};
-ghost use Rattle.model.specs.ReedMuller.{product, classSum, productRow, votesForOne, orderWithinLimits, votedReading};
+ghost use Rattle.model.specs.ReedMuller.{countOfSets, product, classSum, productRow, votesForOne, orderWithinLimits, votedReading};
+ghost use Rattle.reed_muller.specs.Rounds.{rowsAfter, Tied, LeftBy};
 use super::products;
 use super::rows;
 use linear_code::powers;
@@ -54,4 +55,52 @@ fn number_of(rows: u32) -> u32
         rest >>= 1;
     }
     number
+}
+
+// A chunk as far as it has been voted on: what is left of it, and the rows that were voted for, those of more variables above those
+// of fewer. A vote that is tied ends the voting.
+struct Voted {
+    tied: bool,
+    left: u64,
+    rows: u32,
+}
+
+// One round, step 2 of document 004: the coefficient of each product of `size` variables is what most class sums of y are, and the
+// products with coefficient 1 are taken off. The table is gone through downwards, as the rounds are.
+fn round(m: u32, size: u32, y: u64, rows: u32) -> Voted
+    requires { ⌜ (m ≤ 6) × (size ≤ m) × (size ≤ 3) × (y < 2 ^ 2 ^ m) × ((rows + 1) * 2 ^ countOfSets size m ≤ 4096) ⌝ }
+    ensures tied { λ a. ⌜ (a .tied ≡ true → Tied m size y) ⌝ }
+    ensures left { λ a. ⌜ (a .tied ≡ false → LeftBy m size y (a .left)) ⌝ }
+    ensures rows { λ a. ⌜ (a .tied ≡ false → a .rows ≡ rowsAfter m size y rows) ⌝ }
+{
+    let positions = rows::all_positions(m);
+    let classes = powers::two_to(m - size);
+    let first = products::start_of(size as usize);
+    let mut at = products::start_of(size as usize + 1);
+    let mut left = y;
+    let mut found = rows;
+    while at > first {
+        at -= 1;
+        let row = products::product_at(at) & positions;
+        if row != 0 {
+            let votes = 2 * votes_for_one(y, set_of(row), row);
+            if votes == classes {
+                return Voted {
+                    tied: true,
+                    left,
+                    rows: found,
+                };
+            }
+            found *= 2;
+            if classes < votes {
+                left ^= row;
+                found += 1;
+            }
+        }
+    }
+    Voted {
+        tied: false,
+        left,
+        rows: found,
+    }
 }

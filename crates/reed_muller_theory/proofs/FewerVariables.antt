@@ -78,7 +78,7 @@ kept-those test narrow b (suc c) same =
     none-more false l e = e
 
 -- a set of m variables is as large among more
-weight-wider : (m n S : ℕ) → m ≤ n → S < 2 ^ m → weight n S ≡ weight m S
+pub weight-wider : (m n S : ℕ) → m ≤ n → S < 2 ^ m → weight n S ≡ weight m S
 unfolding weight
 weight-wider m n S wider l =
     let (more, is) = le-dest wider in

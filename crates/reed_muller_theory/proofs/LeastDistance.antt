@@ -78,7 +78,7 @@ module _ (r m : ℕ) (order : r ≤ m) where
       (λ (enough : 2 ^ (m - r) ≤ classes m S). enough)
       (lt-or-le (classes m S) (2 ^ (m - r)))
 
-  classes-of-largest : (S : ℕ) → S < 2 ^ m → weight m S ≡ r → classes m S ≡ 2 ^ (m - r)
+  pub classes-of-largest : (S : ℕ) → S < 2 ^ m → weight m S ≡ r → classes m S ≡ 2 ^ (m - r)
   classes-of-largest S h size =
       ⊎-elim
       (λ (many : 2 ^ (m - r) < classes m S).

@@ -8,7 +8,8 @@ use Prim.Native.Nat.{ℕ, zero, suc, _+_, _*_, _^_, _≤_, _<_}
 use native.Mathlib.Nat.{le-trans}
 use native.Mathlib.Omega.{arith}
 use lib.Dec.{leb, ltb, eqb}
-use lib.ListN.{length, getD}
+use lib.ListN.{length, getD, length-append, List·getD-append}
+use lib.Seq.{getD-at}
 use lib.Pow.{pow-pos}
 use borrow.Author.Tests.{le-leb, lt-leb, leb-true, leb-false, lt-ltb, ltb-true, eq-eqb, ne-eqb, eqb-true}
 use Rattle.bits.specs.Sums.{sumBelow, sumOver}
@@ -37,6 +38,23 @@ sum-over-those test (suc b) f = by-case (test b) (sum-over-those test b f)
         → sumOver (cond t (those test b ++ (b ∷ [])) (those test b)) f ≡ sumBelow (where-true test f) b + cond t (f b) 0
     by-case true before = sum-over-append (those test b) (b ∷ []) f ∙ (omega (arith, before))
     by-case false before = omega (arith, before)
+
+-- every entry passes the test
+pub those-pass : (test : ℕ → Bool) (b i : ℕ) → i < length (those test b) → test (getD (those test b) i 0) ≡ true
+unfolding those
+those-pass test zero i h = absurd (omega arith)
+those-pass test (suc b) i h = by-case (test b) refl (those-pass test b i) h
+  where
+    by-case : (t : Bool) → test b ≡ t → (i < length (those test b) → test (getD (those test b) i 0) ≡ true)
+        → i < length (cond t (those test b ++ (b ∷ [])) (those test b))
+        → test (getD (cond t (those test b ++ (b ∷ [])) (those test b)) i 0) ≡ true
+    by-case true e before h =
+        ⊎-elim (λ (l : i < length (those test b)). rw (List·getD-append (those test b) (b ∷ []) 0 i l) (before l))
+        (λ (l : length (those test b) ≤ i).
+        let last : length (those test b) ≡ i = omega (arith, length-append (those test b) (b ∷ [])) in
+        rw (getD-at (those test b) b [] 0 i last) e)
+        (lt-or-le i (length (those test b)))
+    by-case false e before h = before h
 
 -- the sets of just s variables, and those of at most r
 pub sum-over-sets-of : (m s : ℕ) (f : ℕ → ℕ) → sumOver (setsOf m s) f ≡ sumBelow (where-true (λ S. eqb (weight m S) s) f) (2 ^ m)
