@@ -3,3 +3,4 @@ pub mod FilledRows
 pub mod ShiftedSums
 pub mod Votes
 pub mod RoundSteps
+pub mod VotedDown

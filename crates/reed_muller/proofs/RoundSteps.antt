@@ -32,7 +32,7 @@ use Rattle.reed_muller.proofs.FilledRows.{kept-last}
 -- ---- bits of the entries of a list
 
 -- with a bit for each entry, the number grows to at most so many bits more
-bits-bound : (l : List ℕ) (f : ℕ → ℕ) (above : ℕ) → ((S : ℕ) → f S < 2) → bitsThen l f above + 1 ≤ (above + 1) * 2 ^ length l
+pub bits-bound : (l : List ℕ) (f : ℕ → ℕ) (above : ℕ) → ((S : ℕ) → f S < 2) → bitsThen l f above + 1 ≤ (above + 1) * 2 ^ length l
 unfolding bitsThen
 bits-bound [] f above bits = omega arith
 bits-bound (S ∷ l) f above bits =
@@ -40,7 +40,7 @@ bits-bound (S ∷ l) f above bits =
     rw twice (omega (arith, bits-bound l f above bits, bits S))
 
 -- a coefficient is 0 or 1
-coefficient-bit : (m : ℕ) (y : ℕ → ℕ) (S : ℕ) → coefficient m y S < 2
+pub coefficient-bit : (m : ℕ) (y : ℕ → ℕ) (S : ℕ) → coefficient m y S < 2
 unfolding coefficient
 coefficient-bit m y S =
     by-test (λ (b : ℕ). b < 2) (ltb (classes m S) (2 * votesForOne m S y)) (λ e. omega arith) (λ e. omega arith)

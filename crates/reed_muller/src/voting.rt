@@ -104,3 +104,33 @@ fn round(m: u32, size: u32, y: u64, rows: u32) -> Voted
         rows: found,
     }
 }
+
+// Reads a chunk by voting: rounds from the products of r variables down to that of none, and the result is accepted only within t
+// bits. What is left after all rounds is where the chunk and the codeword that was voted for differ. Where a codeword lies within t
+// bits no vote is tied, so a tie shows at once that none does.
+pub fn vote(r: u32, m: u32, chunk: u64) -> Chunk
+    requires { ⌜ (orderWithinLimits r m ≡ true) × (chunk < 2 ^ 2 ^ m) ⌝ }
+    ensures { λ a. ⌜ a ≡ votedReading r m (bit chunk) ⌝ }
+{
+    let radius = (powers::two_to(m - r) - 1) / 2;
+    let mut left = chunk;
+    let mut rows: u32 = 0;
+    let mut size = r + 1;
+    while size > 0 {
+        size -= 1;
+        let voted = round(m, size, left, rows);
+        if voted.tied {
+            return Chunk::Unreadable;
+        }
+        left = voted.left;
+        rows = voted.rows;
+    }
+    let unlike = u64::count_ones(left);
+    if radius < unlike {
+        return Chunk::Unreadable;
+    }
+    Chunk::Codeword {
+        number: number_of(rows),
+        unlike,
+    }
+}
