@@ -2,3 +2,4 @@ pub mod Statuses
 pub mod NumberAnswers
 pub mod Writing
 pub mod Reading
+pub mod MadeCards

@@ -1,6 +1,7 @@
-// The public calls. Each takes a card's bytes, checks them itself, and answers every input: the card's bytes may be any list of
-// bytes, and a number any number of its type. What an answer means is said by the definitions that the contracts name: its status
-// is the refusal's number in document 01, or 0 where the call is served; its values are those named, or none where it is refused.
+// The public calls. Each answers every input: a card's bytes may be any list of bytes, and a number any number of its type. A call
+// that is given a card checks it itself; one that isn't, as the one that makes a card, checks none. What an answer means is said by
+// the definitions that the contracts name: its status is the refusal's number in documents 01 and 02, or 0 where the call is served;
+// its values are those named, or none where it is refused.
 ghost use mathlib.Core.Path.{_≡_};
 ghost use mathlib.Core.List.{[], _∷_};
 ghost use Rattle.model.specs.Card.{cardRefusal, codeOf};
@@ -8,13 +9,16 @@ ghost use Rattle.model.specs.Order.{start};
 ghost use Rattle.model.specs.Words.{millimetresOf};
 ghost use Rattle.model.specs.Answers.{cardAnswer, writeAnswer, lentAfterWrite, readAnswer, startAnswer, millimetresAnswer};
 ghost use Rattle.model.specs.Answers.{cardFigures, writeRefusal, readRefusal, readFigures, startRefusal, millimetresRefusal};
+ghost use Rattle.model.specs.Answers.{makeRefusal, makeAnswer};
 ghost use Rattle.model.specs.Statuses.{ifServed, cardStatus, cardValues, writeStatus, writeValues};
 ghost use Rattle.model.specs.Statuses.{readStatus, readValues, numberStatus, numberValues};
 ghost use Rattle.model.specs.declared.WriteAnswer.the-variants.{Written};
 ghost use Rattle.position_theory.specs.Demands.{WrittenIfServable, UnchangedIfRefused, NeighboursDifferInOneBit, NoOtherPositionsWord};
 ghost use Rattle.position_theory.specs.Demands.{NearestOfAllowed, OffByAtMostTwiceTurned, OffByAtMostTurnedAndResidual};
+ghost use Rattle.reed_muller_theory.specs.MadeCards.{IsReedMullerCard};
 use linear_code::decode;
 use model::CardAnswer;
+use model::MadeCard;
 use model::NumberAnswer;
 use model::ReadAnswer;
 use model::WriteAnswer;
@@ -23,6 +27,8 @@ use position::layout;
 use position::summary;
 use position::words;
 use reader::reading;
+use reed_muller::limits;
+use reed_muller::made;
 
 // Checks a card. A sound card is answered with its n, k, track, D, t, d and last position; any other with its refusal, 1 to 5.
 pub fn check_card(card: &[u8]) -> CardAnswer
@@ -115,4 +121,22 @@ pub fn millimetres(card: &[u8], position: u32) -> NumberAnswer
         return NumberAnswer::Refused(7);
     }
     NumberAnswer::Number(50 * position)
+}
+
+// Makes the card of the Reed-Muller code of order r in m variables for a track. Refused: m outside 1 to 6, r above m, or k above 12,
+// 13; the bytes are then all zero. The card that is made is sound: its n is 2^m, its k the count of sets of at most r variables, its
+// D 2^(m-r), and its track the one that was given.
+pub fn make_card(track: u16, r: u32, m: u32) -> MadeCard
+    ensures answer { λ a. ⌜ a ≡ makeAnswer track r m ⌝ }
+    ensures status { λ a. ⌜ a .refusal ≡ makeRefusal r m ⌝ }
+    ensures made { λ a. ⌜ (a .refusal ≡ 0 → IsReedMullerCard track r m (a .bytes)) ⌝ }
+{
+    if !limits::within_limits(r, m) {
+        return MadeCard {
+            refusal: 13,
+            bytes: [0u8; 512],
+        };
+    }
+    let bytes = made::made_card(track, r, m);
+    MadeCard { refusal: 0, bytes }
 }

@@ -10,3 +10,4 @@ pub mod VotedReading
 pub mod LeftOver
 pub mod ClassSums
 pub mod FewerVariables
+pub mod MadeCards
