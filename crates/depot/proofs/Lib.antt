@@ -3,3 +3,4 @@ pub mod NumberAnswers
 pub mod Writing
 pub mod Reading
 pub mod MadeCards
+pub mod Voting

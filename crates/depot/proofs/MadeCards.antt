@@ -27,4 +27,4 @@ module _ (track r m : ℕ) where
   pub card-made : track < 65536 → orderWithinLimits r m ≡ true → (bytes : List ℕ) → bytes ≡ reedMullerCard track r m
       → MakeMeets record { refusal = 0; bytes = bytes }
   unfolding makeAnswer makeRefusal unlessRefused firstRefusal
-  card-made fits within bytes is = rw (is, within) (refl, (refl, λ _. is-reed-muller-card track r m fits within))
+  card-made fits within bytes is = rw (is, within) (refl, (refl, λ _. is-reed-muller-card track r m within fits))

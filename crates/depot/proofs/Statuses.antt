@@ -6,6 +6,7 @@ use mathlib.Core.List.{List, [], _∷_}
 use mathlib.Core.Logic.{⊎-elim}
 use Prim.Native.Nat.{ℕ}
 use borrow.Author.Tests.{ne-eqb}
+use Rattle.bits.specs.Places.{bit}
 use Rattle.bits.proofs.Numbers.{eq-or-ne}
 use Rattle.model.specs.Refusals.{unlessRefused}
 use Rattle.model.specs.Card.{cardRefusal, codeOf}
@@ -13,14 +14,16 @@ use Rattle.model.specs.Order.{start}
 use Rattle.model.specs.Words.{millimetresOf}
 use Rattle.model.specs.Answers.{summaryOf, cardAnswer, cardFigures, writeRefusal, writeAnswer, readingOf}
 use Rattle.model.specs.Answers.{readRefusal, readAnswer, readFigures}
-use Rattle.model.specs.Answers.{startRefusal, startAnswer, millimetresRefusal, millimetresAnswer}
+use Rattle.model.specs.Answers.{startRefusal, startAnswer, millimetresRefusal, millimetresAnswer, voteRefusal, voteAnswer, voteFigures}
+use Rattle.model.specs.ReedMuller.{votedNumber, votedDistance}
 use Rattle.model.specs.Statuses.{ifServed, cardStatus, cardValues, writeStatus, writeValues}
-use Rattle.model.specs.Statuses.{readStatus, readValues, numberStatus, numberValues}
+use Rattle.model.specs.Statuses.{readStatus, readValues, numberStatus, numberValues, voteStatus, voteValues}
 use Rattle.model.specs.declared.CardAnswer.the-variants.{Sound, Refused as CardRefused}
 use Rattle.model.specs.declared.WriteAnswer.{WriteAnswer}
 use Rattle.model.specs.declared.WriteAnswer.the-variants.{Written, Refused as WriteRefused}
 use Rattle.model.specs.declared.ReadAnswer.the-variants.{At, Refused as ReadRefused}
 use Rattle.model.specs.declared.NumberAnswer.the-variants.{Number, Refused as NumberRefused}
+use Rattle.model.specs.declared.VoteAnswer.the-variants.{Voted, Refused as VoteRefused}
 use Rattle.code_theory.proofs.Refusals.{served-if-none, refused-if-some}
 
 -- what a contract says of an answer's status and values
@@ -70,6 +73,13 @@ pub millimetres-told : (card : List ℕ) (position : ℕ)
 unfolding millimetresAnswer numberStatus numberValues
 millimetres-told card position =
     told numberStatus numberValues (millimetresRefusal card position) _ NumberRefused (Number (millimetresOf position))
+    (λ number. refl) (λ number. refl) refl refl
+
+pub vote-told : (r m chunk : ℕ) → Told voteStatus voteValues (voteRefusal r m chunk) (voteFigures r m chunk) (voteAnswer r m chunk)
+unfolding voteAnswer voteStatus voteValues voteFigures
+vote-told r m chunk =
+    told voteStatus voteValues (voteRefusal r m chunk) (voteFigures r m chunk) VoteRefused
+    (Voted (votedNumber r m (bit chunk)) (votedDistance r m (bit chunk)))
     (λ number. refl) (λ number. refl) refl refl
 
 -- a write has no values, served or refused

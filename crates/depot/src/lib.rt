@@ -9,18 +9,21 @@ ghost use Rattle.model.specs.Order.{start};
 ghost use Rattle.model.specs.Words.{millimetresOf};
 ghost use Rattle.model.specs.Answers.{cardAnswer, writeAnswer, lentAfterWrite, readAnswer, startAnswer, millimetresAnswer};
 ghost use Rattle.model.specs.Answers.{cardFigures, writeRefusal, readRefusal, readFigures, startRefusal, millimetresRefusal};
-ghost use Rattle.model.specs.Answers.{makeRefusal, makeAnswer};
+ghost use Rattle.model.specs.Answers.{makeRefusal, makeAnswer, voteRefusal, voteAnswer, voteFigures};
 ghost use Rattle.model.specs.Statuses.{ifServed, cardStatus, cardValues, writeStatus, writeValues};
-ghost use Rattle.model.specs.Statuses.{readStatus, readValues, numberStatus, numberValues};
+ghost use Rattle.model.specs.Statuses.{readStatus, readValues, numberStatus, numberValues, voteStatus, voteValues};
 ghost use Rattle.model.specs.declared.WriteAnswer.the-variants.{Written};
 ghost use Rattle.position_theory.specs.Demands.{WrittenIfServable, UnchangedIfRefused, NeighboursDifferInOneBit, NoOtherPositionsWord};
 ghost use Rattle.position_theory.specs.Demands.{NearestOfAllowed, OffByAtMostTwiceTurned, OffByAtMostTurnedAndResidual};
 ghost use Rattle.reed_muller_theory.specs.MadeCards.{IsReedMullerCard};
+ghost use Rattle.reed_muller_theory.specs.Votes.{KeepsPromise, AnswersAsSearch};
 use linear_code::decode;
 use model::CardAnswer;
+use model::Chunk;
 use model::MadeCard;
 use model::NumberAnswer;
 use model::ReadAnswer;
+use model::VoteAnswer;
 use model::WriteAnswer;
 use position::blocks;
 use position::layout;
@@ -29,6 +32,8 @@ use position::words;
 use reader::reading;
 use reed_muller::limits;
 use reed_muller::made;
+use reed_muller::rows;
+use reed_muller::voting;
 
 // Checks a card. A sound card is answered with its n, k, track, D, t, d and last position; any other with its refusal, 1 to 5.
 pub fn check_card(card: &[u8]) -> CardAnswer
@@ -139,4 +144,28 @@ pub fn make_card(track: u16, r: u32, m: u32) -> MadeCard
     }
     let bytes = made::made_card(track, r, m);
     MadeCard { refusal: 0, bytes }
+}
+
+// Reads a chunk of the Reed-Muller code of order r in m variables by voting: the codeword's number, and in how many bits the two
+// differ. It takes no card, and checks none. Refused: m, r or k outside the limits, 13; a bit at n or above, 8; no codeword within
+// the radius, 10. It keeps the chunk promise, and on every chunk of n bits it answers as the search does on the card that
+// `make_card` makes.
+pub fn vote_chunk(r: u32, m: u32, chunk: u64) -> VoteAnswer
+    ensures answer { λ a. ⌜ a ≡ voteAnswer r m chunk ⌝ }
+    ensures status { λ a. ⌜ voteStatus a ≡ voteRefusal r m chunk ⌝ }
+    ensures values { λ a. ⌜ voteValues a ≡ ifServed (voteStatus a) (voteFigures r m chunk) ⌝ }
+    ensures promised { λ a. ⌜ KeepsPromise r m chunk a ⌝ }
+    ensures as_search { λ a. ⌜ AnswersAsSearch r m chunk a ⌝ }
+{
+    if !limits::within_limits(r, m) {
+        return VoteAnswer::Refused(13);
+    }
+    if rows::all_positions(m) < chunk {
+        return VoteAnswer::Refused(8);
+    }
+    let read = voting::vote(r, m, chunk);
+    match read {
+        Chunk::Unreadable => VoteAnswer::Refused(10),
+        Chunk::Codeword { number, unlike } => VoteAnswer::Voted { number, unlike },
+    }
 }

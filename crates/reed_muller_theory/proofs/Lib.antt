@@ -11,3 +11,4 @@ pub mod LeftOver
 pub mod ClassSums
 pub mod FewerVariables
 pub mod MadeCards
+pub mod VoteAnswers

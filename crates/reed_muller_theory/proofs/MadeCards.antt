@@ -4,28 +4,36 @@ use mathlib.Core.Path.{_≡_, ap, _∙_}
 use mathlib.Core.Bool.{true}
 use Prim.Native.Nat.{ℕ, _≤_, _<_}
 use native.Mathlib.Nat.{le-trans}
-use Rattle.model.specs.Card.{Code}
-use Rattle.model.specs.ReedMuller.{reedMuller, reedMullerCard, orderWithinLimits}
+use Rattle.model.specs.Card.{Code, codeOf}
+use Rattle.model.specs.ReedMuller.{productOf, reedMuller, reedMullerCard, orderWithinLimits}
+use Rattle.code_theory.specs.Promise.{Sound}
 use Rattle.code_theory.proofs.CardFields.{n-of-written, k-of-written, track-of-written, written-card-sound, code-of-written}
 use Rattle.reed_muller_theory.specs.MadeCards.{IsReedMullerCard}
 use Rattle.reed_muller_theory.proofs.OrderLimits.{limits-of-test}
 use Rattle.reed_muller_theory.proofs.Polynomials.{no-row}
 use Rattle.reed_muller_theory.proofs.LeastDistance.{least-distance, sound-code}
 
-pub is-reed-muller-card : (track r m : ℕ) → track < 65536 → orderWithinLimits r m ≡ true
-    → IsReedMullerCard track r m (reedMullerCard track r m)
-unfolding reedMullerCard
-is-reed-muller-card track r m fits within =
-    let (_, six, order, twelve) = limits-of-test r m within in
-    let C : Code = reedMuller r m in
-    let sound = sound-code r m six order twelve in
-    let none-past : (z : ℕ) → 12 ≤ z → C .row z ≡ 0 = λ z past. no-row r m z (le-trans twelve past) in
-    let code = code-of-written C sound track none-past in
-    record {
-      sound = written-card-sound C sound track none-past;
-      n-is = n-of-written (C .n) (C .k) track (C .row);
-      k-is = k-of-written (C .n) (C .k) track (C .row);
-      D-is = ap (λ (read : Code). read .D) code ∙ least-distance r m order;
-      track-is = track-of-written (C .n) (C .k) track (C .row) fits;
-      code-is = code;
-    }
+module _ (track r m : ℕ) (within : orderWithinLimits r m ≡ true) where
+  sound : Sound (reedMuller r m)
+  sound = let (_, six, order, twelve) = limits-of-test r m within in sound-code r m six order twelve
+
+  none-past : (z : ℕ) → 12 ≤ z → productOf r m z ≡ 0
+  none-past z past = no-row r m z (le-trans (sound .k-high) past)
+
+  pub code-of-made : codeOf (reedMullerCard track r m) ≡ reedMuller r m
+  unfolding reedMullerCard
+  code-of-made = code-of-written (reedMuller r m) sound track none-past
+
+  pub is-reed-muller-card : track < 65536 → IsReedMullerCard track r m (reedMullerCard track r m)
+  unfolding reedMullerCard
+  is-reed-muller-card fits =
+      let (_, _, order, _) = limits-of-test r m within in
+      let C : Code = reedMuller r m in
+      record {
+        sound = written-card-sound C sound track none-past;
+        n-is = n-of-written (C .n) (C .k) track (C .row);
+        k-is = k-of-written (C .n) (C .k) track (C .row);
+        D-is = ap (λ (read : Code). read .D) code-of-made ∙ least-distance r m order;
+        track-is = track-of-written (C .n) (C .k) track (C .row) fits;
+        code-is = code-of-made;
+      }

@@ -1,1 +1,2 @@
 pub mod MadeCards
+pub mod Votes
