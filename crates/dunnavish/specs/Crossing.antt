@@ -1,5 +1,6 @@
 -- How an answer of the library crosses to a caller in C: its status, and its values in numbers that the caller lends. The status
--- and the values of each answer are those of the model's Statuses.antt. Assumes nothing.
+-- and the values of each answer are those of the model's Statuses.antt; of a made card they are its refusal and its bytes.
+-- Assumes nothing.
 use Prim.Native.Nat.{ℕ}
 use mathlib.Core.Path.{_≡_}
 use mathlib.Core.Bool.{cond}
@@ -17,7 +18,11 @@ readCount = 3
 abbrev pub numberCount : ℕ
 numberCount = 1
 
--- The status of a call whose lent numbers are not exactly as many as its answer has values. It is above every refusal.
+-- how many bytes a card has: those that are lent for one to be made
+abbrev pub cardBytes : ℕ
+cardBytes = 512
+
+-- The status of a call whose lent numbers, or bytes, are not exactly as many as its answer has values. It is above every refusal.
 abbrev pub wrongCount : ℕ
 wrongCount = 100
 
@@ -25,7 +30,7 @@ wrongCount = 100
 unfoldable pub statusFor : (count : ℕ) (lent : List ℕ) (answered : ℕ) → ℕ
 statusFor count lent answered = cond (eqb (length lent) count) answered wrongCount
 
--- the lent numbers after a call with this status: the values of its answer where the status is 0, or as they were
+-- the lent numbers, or bytes, after a call with this status: the values of its answer where the status is 0, or as they were
 unfoldable pub leftBy : (status : ℕ) (values lent : List ℕ) → List ℕ
 leftBy status values lent = cond (eqb status 0) values lent
 

@@ -1,18 +1,22 @@
-// The library's five calls for programs in C, Rust and other languages: numbers and slices alone, no state, no `requires`. Each
-// returns a status, 0 or the refusal's number, and puts the values of its answer into numbers that the caller lends. Lent numbers
-// that are not exactly as many as the answer has values are answered 100, before anything else is looked at. Whenever the status
-// is not 0, nothing that was lent has changed. include/dunnavish.h says the same to a programmer in C.
+// The library's calls for programs in C, Rust and other languages: numbers and slices alone, no state, no `requires`. Each returns a
+// status, 0 or the refusal's number, and puts the values of its answer into numbers that the caller lends, or a made card's bytes
+// into lent bytes. Lent numbers that are not exactly as many as the answer has values, or a lent card that has not 512 bytes, are
+// answered 100, before anything else is looked at. Whenever the status is not 0, nothing that was lent has changed.
+// include/dunnavish.h says the same to a programmer in C.
 ghost use mathlib.Core.Path.{_≡_};
+ghost use lib.ListN.{length};
 ghost use Rattle.model.specs.Answers.{cardAnswer, writeAnswer, lentAfterWrite, readAnswer, startAnswer, millimetresAnswer};
+ghost use Rattle.model.specs.Answers.{makeRefusal, makeAnswer};
 ghost use Rattle.model.specs.Statuses.{cardStatus, cardValues, writeStatus, readStatus, readValues, numberStatus, numberValues};
-ghost use Rattle.dunnavish.specs.Crossing.{cardCount, readCount, numberCount, statusFor, leftBy, UnchangedUnlessZero};
+ghost use Rattle.reed_muller_theory.specs.MadeCards.{IsReedMullerCard};
+ghost use Rattle.dunnavish.specs.Crossing.{cardCount, readCount, numberCount, cardBytes, statusFor, leftBy, UnchangedUnlessZero};
 ghost use Rattle.dunnavish.specs.Demands.{ServedWithinTwiceTurned, ServedWithinTurnedAndResidual};
 use model::CardAnswer;
 use model::NumberAnswer;
 use model::ReadAnswer;
 use model::WriteAnswer;
 
-// The status of a call whose lent numbers are too few or too many.
+// The status of a call whose lent numbers, or bytes, are too few or too many.
 const WRONG_COUNT: u32 = 100;
 
 // Checks a card: n, k, track, D, t, d and last position into seven numbers.
@@ -119,4 +123,37 @@ pub extern "C" fn dunnavish_millimetres(card: &[u8], position: u32, values: &mut
             0
         }
     }
+}
+
+// A card's bytes into a lent card.
+fn put_card(bytes: [u8; 512], card: &mut [u8])
+    requires { ⌜ (length bytes ≡ cardBytes) × (length (now card) ≡ cardBytes) ⌝ }
+    ensures { λ _. ⌜ now (card .exit) ≡ bytes ⌝ }
+{
+    let mut i: usize = 0;
+    while i < 512 {
+        card[i] = bytes[i];
+        i += 1;
+    }
+}
+
+// Makes the card of the Reed-Muller code of order r in m variables for a track, into a lent card of 512 bytes. On status 0 they are
+// the bytes of that card.
+#[no_mangle]
+pub extern "C" fn dunnavish_make_card(track: u16, r: u32, m: u32, card: &mut [u8]) -> u32
+    ensures status { λ a. ⌜ a ≡ statusFor cardBytes (now (card .entry)) (makeRefusal r m) ⌝ }
+    ensures left { λ a. ⌜ now (card .exit) ≡ leftBy a (makeAnswer track r m .bytes) (now (card .entry)) ⌝ }
+    ensures unchanged { λ a. ⌜ UnchangedUnlessZero (now (card .entry)) a (now (card .exit)) ⌝ }
+    ensures made { λ a. ⌜ (a ≡ 0 → IsReedMullerCard track r m (now (card .exit))) ⌝ }
+{
+    if card.len() != 512 {
+        return WRONG_COUNT;
+    }
+    let made = depot::make_card(track, r, m);
+    if made.refusal != 0 {
+        return made.refusal;
+    }
+    let bytes = made.bytes;
+    put_card(bytes, card);
+    0
 }
