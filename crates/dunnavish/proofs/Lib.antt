@@ -1,3 +1,4 @@
 pub mod Lent
 pub mod ReadDemands
 pub mod MadeCards
+pub mod VotePromise

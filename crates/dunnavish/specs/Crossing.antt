@@ -8,7 +8,7 @@ use mathlib.Core.List.{List}
 use lib.Dec.{eqb}
 use lib.ListN.{length}
 
--- How many values a call answers where it is served: a check of a card, a read, and a call that asks for one number.
+-- How many values a call answers where it is served: a check of a card, a read, a call that asks for one number, and a vote.
 abbrev pub cardCount : ℕ
 cardCount = 7
 
@@ -17,6 +17,9 @@ readCount = 3
 
 abbrev pub numberCount : ℕ
 numberCount = 1
+
+abbrev pub voteCount : ℕ
+voteCount = 2
 
 -- how many bytes a card has: those that are lent for one to be made
 abbrev pub cardBytes : ℕ

@@ -1,14 +1,20 @@
 -- Demand 3 of the reading call for C, over its status and the three numbers that it leaves: position, residual and rule. The
--- premises on card, position and word are those of the library's reading call; the caller lends three numbers besides.
--- Assumes nothing.
+-- premises on card, position and word are those of the library's reading call; the caller lends three numbers besides. And what a
+-- vote for C promises. Assumes nothing.
 use mathlib.Core.Path.{_≡_}
+use mathlib.Core.Bool.{true}
 use mathlib.Core.List.{List}
-use Prim.Native.Nat.{ℕ, _+_, _*_, _≤_}
+use Prim.Native.Nat.{ℕ, _+_, _*_, _^_, _≤_, _<_}
 use lib.ListN.{length, getD}
+use Rattle.bits.specs.Places.{bit}
 use Rattle.model.specs.Card.{codeOf, SoundCard}
 use Rattle.model.specs.Order.{lastPosition}
+use Rattle.model.specs.Reading.{chunkReading}
+use Rattle.model.specs.ReedMuller.{reedMullerCard, orderWithinLimits}
+use Rattle.model.specs.Statuses.{chunkStatus, chunkValues}
+use Rattle.model.specs.declared.Chunk.{Chunk}
 use Rattle.position_theory.specs.Damage.{WithinRadius, turned}
-use Rattle.dunnavish.specs.Crossing.{readCount}
+use Rattle.dunnavish.specs.Crossing.{readCount, voteCount, leftBy}
 
 -- the position and the residual among the numbers that a read leaves
 abbrev pub positionLeft : (left : List ℕ) → ℕ
@@ -36,3 +42,11 @@ ServedWithinTurnedAndResidual card received lent status left =
     length lent ≡ readCount → (position : ℕ) → SoundCard card → position ≤ lastPosition (codeOf card)
     → WithinRadius (codeOf card) position received
     → ServedNear status left position (turned (codeOf card) position received + residualLeft left)
+
+-- Document 02, P1, where two numbers are lent: on every chunk of n bits, readable or not, the status and the numbers left by a vote are
+-- those of the chunk's reading by search, on the made card of any track
+unfoldable pub VotedAsSearch : (r m chunk : ℕ) (lent : List ℕ) (status : ℕ) (left : List ℕ) → Type 0
+VotedAsSearch r m chunk lent status left =
+    length lent ≡ voteCount → (track : ℕ) → orderWithinLimits r m ≡ true → chunk < 2 ^ 2 ^ m
+    → let read : Chunk = chunkReading (codeOf (reedMullerCard track r m)) (bit chunk) in
+    (status ≡ chunkStatus read) × (left ≡ leftBy status (chunkValues read) lent)
