@@ -43,24 +43,44 @@ one-fewer-below (suc n) x h more =
 pub one-fewer : (x : ℕ) → 0 < x → ones (bitAnd x (x - 1)) + 1 ≡ ones x
 one-fewer x more = one-fewer-below x x (below-pow x) more
 
--- what it clears is a power of two
-pub lowest-one : (x : ℕ) → 0 < x → (v : ℕ) × (x ≡ bitAnd x (x - 1) + 2 ^ v) × (bit (bitAnd x (x - 1)) v ≡ 0)
-lowest-one x more = below x x (below-pow x) more
-  where
-    doubled : (x h v : ℕ) → h * 2 ≡ x → h ≡ bitAnd h (h - 1) + 2 ^ v → bit (bitAnd h (h - 1)) v ≡ 0
-        → (x ≡ bitAnd h (h - 1) * 2 + 2 ^ suc v) × (bit (bitAnd h (h - 1) * 2) (suc v) ≡ 0)
-    doubled x h v whole is clear =
-        let half : bitAnd h (h - 1) * 2 / 2 ≡ bitAnd h (h - 1) = omega arith in
-        (omega arith, bit-suc (bitAnd h (h - 1) * 2) v ∙ rw half clear)
+-- what it clears is a power of two, below which the number has no ones
+pub record LowestOne (x : ℕ) : Type 0 where
+  pub v : ℕ
+  pub parts : x ≡ bitAnd x (x - 1) + 2 ^ v
+  pub clear : bit (bitAnd x (x - 1)) v ≡ 0
+  pub none-below : (p : ℕ) → p < v → bit x p ≡ 0
 
-    below : (n x : ℕ) → x < 2 ^ n → 0 < x → (v : ℕ) × (x ≡ bitAnd x (x - 1) + 2 ^ v) × (bit (bitAnd x (x - 1)) v ≡ 0)
-    below zero x h more = absurd (omega arith)
-    below (suc n) x h more =
-        ⊎-elim
-        (λ (odd : x % 2 ≡ 1). (0, rw (clear-odd x odd) (omega arith), rw (clear-odd x odd) (bit-lowest (x / 2 * 2) ∙ (omega arith))))
-        (λ (ne : x % 2 ≡ 1 → ⊥).
-        let even : x % 2 ≡ 0 = omega arith in
-        let (v, is, clear) = below n (x / 2) (omega arith) (omega arith) in
-        let (is-double, clear-double) = doubled x (x / 2) v (omega arith) is clear in
-        (suc v, rw (clear-even x more even) is-double, rw (clear-even x more even) clear-double))
-        (eq-or-ne (x % 2) 1)
+lowest-odd : (x : ℕ) → x % 2 ≡ 1 → LowestOne x
+lowest-odd x odd =
+    record {
+      v = 0;
+      parts = rw (clear-odd x odd) (omega arith);
+      clear = rw (clear-odd x odd) (bit-lowest (x / 2 * 2) ∙ (omega arith));
+      none-below = λ p l. absurd (omega arith);
+    }
+
+-- an even number's is that of its half, one place up
+lowest-even : (x : ℕ) → 0 < x → x % 2 ≡ 0 → LowestOne (x / 2) → LowestOne x
+lowest-even x more even half =
+    let cleared : ℕ = bitAnd (x / 2) (x / 2 - 1) in
+    let back : cleared * 2 / 2 ≡ cleared = omega arith in
+    record {
+      v = suc (half .v);
+      parts = rw (clear-even x more even) (omega (arith, half .parts));
+      clear = rw (clear-even x more even) (bit-suc (cleared * 2) (half .v) ∙ rw back (half .clear));
+      none-below = below;
+    }
+  where
+    below : (p : ℕ) → p < suc (half .v) → bit x p ≡ 0
+    below zero l = bit-lowest x ∙ even
+    below (suc p) l = bit-suc x p ∙ half .none-below p (omega arith)
+
+lowest-below : (n x : ℕ) → x < 2 ^ n → 0 < x → LowestOne x
+lowest-below zero x h more = absurd (omega arith)
+lowest-below (suc n) x h more =
+    ⊎-elim (lowest-odd x)
+    (λ (ne : x % 2 ≡ 1 → ⊥). lowest-even x more (omega arith) (lowest-below n (x / 2) (omega arith) (omega arith)))
+    (eq-or-ne (x % 2) 1)
+
+pub lowest-one : (x : ℕ) → 0 < x → LowestOne x
+lowest-one x more = lowest-below x x (below-pow x) more

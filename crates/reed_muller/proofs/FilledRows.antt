@@ -17,8 +17,6 @@ use Rattle.bits.specs.Places.{weight}
 use Rattle.bits.proofs.ByteLists.{zero-byte}
 use Rattle.model.specs.ReedMuller.{those, setsOf, setsUpTo, countOfSets, productRow, productOf}
 use Rattle.reed_muller_theory.proofs.FewerVariables.{kept, kept-append, kept-below, kept-above, kept-sets, sets-first}
-use Rattle.reed_muller_theory.proofs.FewerVariables.{product-cut, product-none, product-some}
-use Rattle.reed_muller.specs.Table.{tableSet}
 
 -- row z of the sets in a list; past them zero
 abbrev pub rowAt : (m : ℕ) (l : List ℕ) (z : ℕ) → ℕ
@@ -131,25 +129,3 @@ reached-all r m count rows six few reached =
     let all : kept (2 ^ m) (take (countOfSets r 6) (setsUpTo 6 r)) ≡ setsUpTo m r =
     ap (kept (2 ^ m)) (take-length (setsUpTo 6 r)) ∙ kept-sets m 6 r six in
     (reached .counted ∙ ap length all, filled-all r m rows (reached .twelve) few (rw all at (reached .filled)))
-
--- the table has 42 entries
-pub all-sets : countOfSets 3 6 ≡ 42
-unfolding sumBelow weight those setsOf setsUpTo countOfSets
-all-sets = refl
-
--- ---- one entry of the table, cut to the positions of m variables
-
-pub cut-row : (r m i product positions : ℕ) → m ≤ 6 → r ≤ 3 → i < countOfSets r 6 → product ≡ productRow 6 (tableSet i)
-    → positions ≡ 2 ^ 2 ^ m - 1 → bitAnd product positions ≡ productRow m (getD (setsUpTo 6 r) i 0)
-cut-row r m i product positions six three inside is all =
-    rw (is, all) (product-cut m 6 (tableSet i) six ∙ ap (productRow m) (sets-first 6 r 3 i three inside))
-
--- it is zero just where the set has another variable
-module _ (m S row : ℕ) (is : row ≡ productRow m S) where
-  pub own-set : (row ≡ 0 → ⊥) → S < 2 ^ m
-  own-set some =
-      ⊎-elim (λ (l : S < 2 ^ m). l) (λ (l : 2 ^ m ≤ S). absurd (some (is ∙ product-none m S l))) (lt-or-le S (2 ^ m))
-
-  pub other-set : row ≡ 0 → 2 ^ m ≤ S
-  other-set none =
-      ⊎-elim (λ (l : S < 2 ^ m). absurd (product-some m S l (sym is ∙ none))) (λ (l : 2 ^ m ≤ S). l) (lt-or-le S (2 ^ m))

@@ -1,6 +1,6 @@
-pub mod Table
+pub mod Tables
 pub mod FilledRows
-pub mod ShiftedSums
+pub mod ClassesTaken
 pub mod Votes
 pub mod RoundSteps
 pub mod VotedDown

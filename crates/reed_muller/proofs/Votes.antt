@@ -5,7 +5,7 @@ use Prim.Native.Nat.{ℕ, zero, suc, _+_, _*_, _%_, _^_, _≤_, _<_, min}
 use native.Mathlib.Nat.{lt-of-le-of-lt}
 use native.Mathlib.Omega.{arith}
 use lib.Bits.{bitAnd, and-le-r}
-use lib.Count.{ones, trailingZeros}
+use lib.Count.{ones}
 use lib.Pow.{pow-mono}
 use Rattle.bits.specs.Sums.{sumBelow}
 use Rattle.bits.specs.Places.{bit, weight}
@@ -13,20 +13,12 @@ use Rattle.bits.proofs.Numbers.{eq-or-ne}
 use Rattle.bits.proofs.Sums.{sum-ext}
 use Rattle.bits.proofs.Binary.{bit-and, bit-bit, weight-ones}
 use Rattle.model.specs.ReedMuller.{product, productRow, classSum, votesForOne}
-use Rattle.code_theory.proofs.TrailingZeros.{trailing-zeros-is}
 use Rattle.reed_muller_theory.proofs.Polynomials.{product-bit, product-row-bit, product-row-narrow}
-use Rattle.reed_muller_theory.proofs.ClassSums.{class-sum-wider, has-is-larger}
-use Rattle.reed_muller_theory.proofs.FewerVariables.{product-own}
+use Rattle.reed_muller_theory.proofs.ClassSums.{class-sum-wider}
 
-module _ (m S row : ℕ) (six : m ≤ 6) (below : S < 2 ^ m) (is : row ≡ productRow m S) where
+module _ (m S row : ℕ) (six : m ≤ 6) (is : row ≡ productRow m S) where
   row-bit : (p : ℕ) → p < 2 ^ m → bit row p ≡ product S p
   row-bit p l = rw is (product-row-bit m S p l)
-
-  -- the first one of a row stands at its set
-  pub first-one : trailingZeros 64 row ≡ S
-  first-one =
-      trailing-zeros-is 64 row S (omega (arith, pow-mono {i = m} {j = 6} six)) (row-bit S below ∙ product-own S)
-      (λ p l. row-bit p (omega arith) ∙ has-is-larger S p l)
 
   pub votes-counted : (y sums : ℕ) → ((c : ℕ) → c < 64 → product S c ≡ 1 → bit sums c ≡ classSum 6 S (bit y) c)
       → ones (bitAnd sums row) ≡ votesForOne m S (bit y)

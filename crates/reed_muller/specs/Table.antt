@@ -1,12 +1,14 @@
--- The order of the sets of at most three of six variables, in which the table of products stands. Assumes nothing.
-use Prim.Native.Nat.{ℕ, zero, suc}
-use Rattle.model.specs.ReedMuller.{setOf, countOfSets}
-
--- the set at place i of the table
-abbrev pub tableSet : (i : ℕ) → ℕ
-tableSet i = setOf 3 6 i
+-- The tables of sets and of variables, for six variables. Assumes nothing.
+use mathlib.Core.List.{List}
+use Prim.Native.Nat.{ℕ, zero, suc, _^_}
+use Rattle.bits.specs.Places.{listOf}
+use Rattle.model.specs.ReedMuller.{countOfSets, productRow}
 
 -- how many sets of fewer than s of six variables there are
 unfoldable pub setsBefore : (s : ℕ) → ℕ
 setsBefore zero = 0
 setsBefore (suc s) = countOfSets s 6
+
+-- each of the six variables, as the product of the set of it alone
+unfoldable pub variableRows : List ℕ
+variableRows = listOf 6 (λ v. productRow 6 (2 ^ v))

@@ -3,4 +3,5 @@ pub mod limits;
 pub mod made;
 pub mod products;
 pub mod rows;
+pub mod sets;
 pub mod voting;

@@ -3,7 +3,7 @@ ghost use mathlib.Core.Path.{_≡_};
 ghost use Rattle.model.specs.ReedMuller.{orderWithinLimits};
 
 // The greatest order within the limits, by the number of variables: up to m 3 it is m, and from there on k bounds it.
-const GREATEST_ORDER: [u32; 7] = [0, 1, 2, 3, 2, 1, 1];
+const GREATEST_ORDER: [u8; 7] = [0, 1, 2, 3, 2, 1, 1];
 
 // Are r and m within the limits? m is tested before anything is taken from the table by it.
 pub fn within_limits(r: u32, m: u32) -> bool
@@ -15,5 +15,5 @@ pub fn within_limits(r: u32, m: u32) -> bool
     if 6 < m {
         return false;
     }
-    r <= GREATEST_ORDER[m as usize]
+    r <= GREATEST_ORDER[m as usize] as u32
 }

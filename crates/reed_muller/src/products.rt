@@ -1,73 +1,50 @@
-// The products of at most three of six variables, as one table.
-// It serves every order and number of variables within the limits: of a code in m variables, a position that has every bit of a set
-// has the bits of a set of those variables only, so its product rows are these, cut to 2^m places; those that are then zero are
-// products of variables that the code hasn't.
+// Products of variables, and the classes of a set.
 ghost use mathlib.Core.Path.{_≡_};
-ghost use Prim.Native.Nat.{_≤_, _<_};
-ghost use Rattle.model.specs.ReedMuller.{productRow};
-ghost use Rattle.reed_muller.specs.Table.{tableSet, setsBefore};
+ghost use Prim.Native.Nat.{ℕ, _-_, _^_, _≤_, _<_};
+ghost use Rattle.bits.specs.Places.{bit};
+ghost use Rattle.model.specs.ReedMuller.{product, productRow, classSum};
+ghost use Rattle.reed_muller.specs.Table.{variableRows};
 
-// By size of the set and then by the set: 1 product of no variable, 6 of one, 15 of two, 20 of three.
-const PRODUCTS: [u64; 42] = [
-    0xffff_ffff_ffff_ffff,
+// The six variables at the 64 positions: place p of variable v is bit v of p.
+const VARIABLES: [u64; 6] = [
     0xaaaa_aaaa_aaaa_aaaa,
     0xcccc_cccc_cccc_cccc,
     0xf0f0_f0f0_f0f0_f0f0,
     0xff00_ff00_ff00_ff00,
     0xffff_0000_ffff_0000,
     0xffff_ffff_0000_0000,
-    0x8888_8888_8888_8888,
-    0xa0a0_a0a0_a0a0_a0a0,
-    0xc0c0_c0c0_c0c0_c0c0,
-    0xaa00_aa00_aa00_aa00,
-    0xcc00_cc00_cc00_cc00,
-    0xf000_f000_f000_f000,
-    0xaaaa_0000_aaaa_0000,
-    0xcccc_0000_cccc_0000,
-    0xf0f0_0000_f0f0_0000,
-    0xff00_0000_ff00_0000,
-    0xaaaa_aaaa_0000_0000,
-    0xcccc_cccc_0000_0000,
-    0xf0f0_f0f0_0000_0000,
-    0xff00_ff00_0000_0000,
-    0xffff_0000_0000_0000,
-    0x8080_8080_8080_8080,
-    0x8800_8800_8800_8800,
-    0xa000_a000_a000_a000,
-    0xc000_c000_c000_c000,
-    0x8888_0000_8888_0000,
-    0xa0a0_0000_a0a0_0000,
-    0xc0c0_0000_c0c0_0000,
-    0xaa00_0000_aa00_0000,
-    0xcc00_0000_cc00_0000,
-    0xf000_0000_f000_0000,
-    0x8888_8888_0000_0000,
-    0xa0a0_a0a0_0000_0000,
-    0xc0c0_c0c0_0000_0000,
-    0xaa00_aa00_0000_0000,
-    0xcc00_cc00_0000_0000,
-    0xf000_f000_0000_0000,
-    0xaaaa_0000_0000_0000,
-    0xcccc_0000_0000_0000,
-    0xf0f0_0000_0000_0000,
-    0xff00_0000_0000_0000,
 ];
 
-// Where the products of each size start in the table, and where it ends.
-const STARTS: [usize; 5] = [0, 1, 7, 22, 42];
-
-// Entry i of the table.
-pub fn product_at(i: usize) -> u64
-    requires { ⌜ i < 42 ⌝ }
-    ensures { λ r. ⌜ r ≡ productRow 6 (tableSet i) ⌝ }
-{
-    PRODUCTS[i]
+// The classes of a set: the positions that name them are the ones of `row`, the set's product, and at each of these `sums` holds the
+// sum of y over the class.
+pub struct Classes {
+    pub sums: u64,
+    pub row: u64,
 }
 
-// How many products of fewer than `size` variables there are: where those of that size start.
-pub fn start_of(size: usize) -> usize
-    requires { ⌜ size ≤ 4 ⌝ }
-    ensures { λ r. ⌜ r ≡ setsBefore size ⌝ }
+// The table of variables.
+pub fn all_variables() -> [u64; 6]
+    ensures { λ a. ⌜ a ≡ variableRows ⌝ }
 {
-    STARTS[size]
+    VARIABLES
+}
+
+// The classes of a set, among the code's positions, and all sums of y over them at once. For each variable in the set the word is
+// added to itself, shifted up by the variable's bit: a position with the variable takes in the one without it.
+pub fn classes_of(y: u64, set: u32, positions: u64, variables: &[u64; 6]) -> Classes
+    requires { ⌜ (set < 64) × (now variables ≡ variableRows) ⌝ }
+    ensures sums { λ a. ⌜ ((c : ℕ) → c < 64 → product set c ≡ 1 → bit (a .sums) c ≡ classSum 6 set (bit y) c) ⌝ }
+    ensures row { λ a. ⌜ ((m : ℕ) → m ≤ 6 → positions ≡ 2 ^ 2 ^ m - 1 → a .row ≡ productRow m set) ⌝ }
+{
+    let mut sums = y;
+    let mut row = positions;
+    let mut rest = set;
+    while rest != 0 {
+        let others = rest & (rest - 1);
+        let v = u32::trailing_zeros(rest) as usize;
+        row &= variables[v];
+        sums ^= sums << (rest - others);
+        rest = others;
+    }
+    Classes { sums, row }
 }

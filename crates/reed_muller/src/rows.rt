@@ -5,6 +5,7 @@ ghost use Prim.Native.Nat.{_-_, _^_, _≤_};
 ghost use lib.ListN.{getD};
 ghost use Rattle.model.specs.ReedMuller.{countOfSets, productOf, orderWithinLimits};
 use super::products;
+use super::sets;
 use linear_code::powers;
 
 // How many rows there are, and the rows. Those past them are zero.
@@ -21,20 +22,25 @@ pub fn all_positions(m: u32) -> u64
     powers::low_bits(powers::two_to(m))
 }
 
-// The rows, from the table of products: cut to the code's positions, a product of other variables is zero, and is left out.
+// The rows, by the table of sets: those that are not sets of the m variables are left out. A row is the product of its set, whatever
+// word is summed over the classes.
 pub fn rows_of(r: u32, m: u32) -> Rows
     requires { ⌜ orderWithinLimits r m ≡ true ⌝ }
     ensures { λ a. ⌜ (a .count ≡ countOfSets r m) × ((λ z. getD (a .rows) z 0) ≡ productOf r m) ⌝ }
 {
+    let n = powers::two_to(m);
     let positions = all_positions(m);
-    let end = products::start_of(r as usize + 1);
+    let sets = sets::all_sets();
+    let variables = products::all_variables();
+    let end = sets::start_of(r as usize + 1);
     let mut rows = [0u64; 12];
     let mut count: usize = 0;
     let mut i: usize = 0;
     while i < end {
-        let row = products::product_at(i) & positions;
-        if row != 0 {
-            rows[count] = row;
+        let set = sets[i] as u32;
+        if set < n {
+            let classes = products::classes_of(0, set, positions, &variables);
+            rows[count] = classes.row;
             count += 1;
         }
         i += 1;

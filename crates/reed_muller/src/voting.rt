@@ -4,44 +4,13 @@ ghost use mathlib.Core.Bool.{true, false};
 ghost use Prim.Native.Nat.{ℕ, _+_, _*_, _^_, _≤_, _<_};
 ghost use Rattle.bits.specs.Places.{bit};
 ghost use Rattle.model.specs.Order.{gray};
-ghost use Rattle.model.specs.ReedMuller.{countOfSets, product, classSum, productRow, votesForOne, orderWithinLimits, votedReading};
+ghost use Rattle.model.specs.ReedMuller.{countOfSets, orderWithinLimits, votedReading};
 ghost use Rattle.reed_muller.specs.Rounds.{rowsAfter, Tied, LeftBy};
 use super::products;
 use super::rows;
+use super::sets;
 use linear_code::powers;
 use model::Chunk;
-
-// The sums over all classes of a set at once: a position that has every bit of the set holds the sum of y over its class. For each
-// variable in the set the word is added to itself, shifted up by the variable's bit, so that such a position takes in the one
-// without that variable.
-fn class_sums(y: u64, set: u32) -> u64
-    requires { ⌜ set < 64 ⌝ }
-    ensures { λ a. ⌜ ((c : ℕ) → c < 64 → product set c ≡ 1 → bit a c ≡ classSum 6 set (bit y) c) ⌝ }
-{
-    let mut sums = y;
-    let mut rest = set;
-    while rest != 0 {
-        let others = rest & (rest - 1);
-        sums ^= sums << (rest - others);
-        rest = others;
-    }
-    sums
-}
-
-// The set whose product a row is: the first position that has every bit of a set is the set itself.
-fn set_of(row: u64) -> u32
-    ensures { λ a. ⌜ ((m S : ℕ) → m ≤ 6 → S < 2 ^ m → row ≡ productRow m S → a ≡ S) ⌝ }
-{
-    u64::trailing_zeros(row)
-}
-
-// How many classes of a set sum to 1: the ones of the set's row are the greatest positions of its classes.
-fn votes_for_one(y: u64, set: u32, row: u64) -> u32
-    requires { ⌜ set < 64 ⌝ }
-    ensures { λ a. ⌜ ((m : ℕ) → m ≤ 6 → set < 2 ^ m → row ≡ productRow m set → a ≡ votesForOne m set (bit y)) ⌝ }
-{
-    u64::count_ones(class_sums(y, set) & row)
-}
 
 // The number of the codeword that is the sum of the rows named by a number's bits: the one of which that is the Gray number. What is
 // left of the bits, halved again and again, is added up.
@@ -65,6 +34,17 @@ struct Voted {
     rows: u32,
 }
 
+// The end of a voting by a tie.
+fn tie() -> Voted
+    ensures { λ a. ⌜ a .tied ≡ true ⌝ }
+{
+    Voted {
+        tied: true,
+        left: 0,
+        rows: 0,
+    }
+}
+
 // One round, step 2 of document 004: the coefficient of each product of `size` variables is what most class sums of y are, and the
 // products with coefficient 1 are taken off. The table is gone through downwards, as the rounds are.
 fn round(m: u32, size: u32, y: u64, rows: u32) -> Voted
@@ -73,27 +53,27 @@ fn round(m: u32, size: u32, y: u64, rows: u32) -> Voted
     ensures left { λ a. ⌜ (a .tied ≡ false → LeftBy m size y (a .left)) ⌝ }
     ensures rows { λ a. ⌜ (a .tied ≡ false → a .rows ≡ rowsAfter m size y rows) ⌝ }
 {
+    let n = powers::two_to(m);
     let positions = rows::all_positions(m);
-    let classes = powers::two_to(m - size);
-    let first = products::start_of(size as usize);
-    let mut at = products::start_of(size as usize + 1);
+    let sets = sets::all_sets();
+    let variables = products::all_variables();
+    let count = powers::two_to(m - size);
+    let first = sets::start_of(size as usize);
+    let mut at = sets::start_of(size as usize + 1);
     let mut left = y;
     let mut found = rows;
     while at > first {
         at -= 1;
-        let row = products::product_at(at) & positions;
-        if row != 0 {
-            let votes = 2 * votes_for_one(y, set_of(row), row);
-            if votes == classes {
-                return Voted {
-                    tied: true,
-                    left,
-                    rows: found,
-                };
+        let set = sets[at] as u32;
+        if set < n {
+            let classes = products::classes_of(y, set, positions, &variables);
+            let votes = 2 * u64::count_ones(classes.sums & classes.row);
+            if votes == count {
+                return tie();
             }
             found *= 2;
-            if classes < votes {
-                left ^= row;
+            if count < votes {
+                left ^= classes.row;
                 found += 1;
             }
         }

@@ -15,9 +15,10 @@ use Rattle.bits.specs.Sums.{sumBelow, unlike}
 use Rattle.bits.specs.Places.{bit, weight}
 use Rattle.bits.proofs.Numbers.{eq-or-ne}
 use Rattle.bits.proofs.Sums.{sum-ext, sum-add, sum-zero, sum-split, sum-one-odd}
-use Rattle.bits.proofs.Binary.{bit-bit, bit-ext, bit-and, bit-or, bit-set-here, bit-set-other}
+use Rattle.bits.proofs.Binary.{bit-bit, bit-ext, bit-and, bit-or, bit-pow-same, bit-pow-other, bit-set-here, bit-set-other}
 use Rattle.model.specs.ReedMuller.{product, classSum}
 use Rattle.reed_muller_theory.proofs.LowestVariable.{same, same-yes, same-no, member}
+use Rattle.reed_muller_theory.proofs.Polynomials.{product-bit}
 
 -- ---- having every bit of a set
 
@@ -37,6 +38,41 @@ has-if-every S p every = same-yes (bitAnd p S) S (bit-ext (bitAnd p S) S (λ v. 
 pub has-is-larger : (S p : ℕ) → p < S → product S p ≡ 0
 unfolding product
 has-is-larger S p less = same-no (bitAnd p S) S (λ e. omega (arith, and-le-l p S))
+
+-- the product with one variable more
+pub product-more : (A v p : ℕ) → bit A v ≡ 0 → product (A + 2 ^ v) p ≡ min (product A p) (product (2 ^ v) p)
+product-more A v p new =
+    ⊎-elim
+    (λ (all : product (A + 2 ^ v) p ≡ 1).
+    let every = has-every-bit (A + 2 ^ v) p all in
+    rw (
+      all,
+      has-if-every A p (λ w. omega (arith, every w, of-old w)),
+      has-if-every (2 ^ v) p (λ w. omega (arith, every w, of-new w)),
+    ))
+    (λ (ne : product (A + 2 ^ v) p ≡ 1 → ⊥).
+    ⊎-elim
+    (λ (old : product A p ≡ 1).
+    ⊎-elim (λ (one : product (2 ^ v) p ≡ 1). absurd (ne (has-if-every (A + 2 ^ v) p (λ w. both w old one))))
+    (λ (none : product (2 ^ v) p ≡ 1 → ⊥). omega (arith, product-bit (A + 2 ^ v) p, product-bit (2 ^ v) p))
+    (eq-or-ne (product (2 ^ v) p) 1))
+    (λ (none : product A p ≡ 1 → ⊥). omega (arith, product-bit (A + 2 ^ v) p, product-bit A p))
+    (eq-or-ne (product A p) 1))
+    (eq-or-ne (product (A + 2 ^ v) p) 1)
+  where
+    of-old : (w : ℕ) → bit A w ≤ bit (A + 2 ^ v) w
+    of-old w = ⊎-elim (λ (e : w ≡ v). rw (e, new) (omega arith)) (λ (ne : w ≡ v → ⊥). omega (arith, bit-set-other A v new w ne)) (eq-or-ne w v)
+
+    of-new : (w : ℕ) → bit (2 ^ v) w ≤ bit (A + 2 ^ v) w
+    of-new w =
+        ⊎-elim (λ (e : w ≡ v). rw e (omega (arith, bit-pow-same v, bit-set-here A v new))) (λ (ne : w ≡ v → ⊥). omega (arith, bit-pow-other v w ne))
+        (eq-or-ne w v)
+
+    both : (w : ℕ) → product A p ≡ 1 → product (2 ^ v) p ≡ 1 → bit (A + 2 ^ v) w ≤ bit p w
+    both w old one =
+        ⊎-elim (λ (e : w ≡ v). rw e (omega (arith, has-every-bit (2 ^ v) p one v, bit-pow-same v, bit-set-here A v new)))
+        (λ (ne : w ≡ v → ⊥). omega (arith, has-every-bit A p old w, bit-set-other A v new w ne))
+        (eq-or-ne w v)
 
 -- ---- one variable more
 

@@ -109,8 +109,12 @@ none-above-three : anyBelow (λ i. ltb 3 (getD greatestOrders i 0)) 7 ≡ false
 unfolding anyBelow greatestOrders
 none-above-three = refl
 
+pub greatest-at-most-three : (m : ℕ) → m ≤ 6 → getD greatestOrders m 0 ≤ 3
+greatest-at-most-three m six =
+    ltb-false 3 (getD greatestOrders m 0) (none-of-any (λ i. ltb 3 (getD greatestOrders i 0)) 7 none-above-three m (omega arith))
+
 pub order-at-most-three : (r m : ℕ) → orderWithinLimits r m ≡ true → r ≤ 3
 order-at-most-three r m e =
     let (low, high, _, _) = limits-of-test r m e in
     let greatest : r ≤ getD greatestOrders m 0 = leb-true r (getD greatestOrders m 0) (limit-in-table r m low high ∙ e) in
-    omega (arith, ltb-false 3 (getD greatestOrders m 0) (none-of-any (λ i. ltb 3 (getD greatestOrders i 0)) 7 none-above-three m (omega arith)))
+    omega (arith, greatest-at-most-three m high)

@@ -1,45 +1,50 @@
 -- `round` meets its contract. The loop's invariant is `RoundAt`: the sets met so far are those from the table's place `at` on. Each turn
 -- passes over a set that has another variable, or votes on one of the code's. Assumes nothing.
-use mathlib.Core.Path.{_≡_, refl, sym, ap, _∙_}
-use mathlib.Core.Bool.{true, false, true≢false, false≢true}
+use mathlib.Core.Path.{_≡_, sym, ap, _∙_}
+use mathlib.Core.Bool.{true≢false, false≢true}
 use Prim.Native.Nat.{ℕ, _+_, _-_, _*_, _^_, _≤_, _<_}
 use native.Mathlib.Numerals.{add-one}
 use native.Mathlib.Omega.{arith}
 use borrow.Author.Needs.{needs}
 use lib.Bits.{bitAnd}
+use lib.Count.{ones}
 use lib.ListN.{getD}
 use lib.Pow.{pow-mono}
 use Rattle.bits.specs.Places.{bit}
-use Rattle.model.specs.ReedMuller.{setsUpTo, countOfSets, productRow, votesForOne, classes}
+use Rattle.model.specs.ReedMuller.{setsUpTo, countOfSets, product, productRow, classSum, votesForOne, classes}
 use Rattle.reed_muller_theory.proofs.OrderLimits.{count-grows}
 use Rattle.reed_muller.specs.Table.{setsBefore}
-use Rattle.reed_muller.proofs.FilledRows.{cut-row, own-set, other-set, all-sets}
+use Rattle.reed_muller.proofs.Tables.{all-sets, set-at}
+use Rattle.reed_muller.proofs.Votes.{votes-counted}
 use Rattle.reed_muller.proofs.RoundSteps.{RoundAt, round-starts, round-ends, before-all, entry-size, entry-classes, set-passed}
 use Rattle.reed_muller.proofs.RoundSteps.{votes-bound, most-for-one, not-most-for-one, found-bound, not-voted, voted-for}
 use Rattle.reed_muller.proofs.voting.round.Statement.{statement}
 use Rattle.reed_muller.proofs.voting.round.Tie as tie
 
 abbrev Inv-loop : tie.InvT-loop
-Inv-loop m size y rows positions classes first at₀ left₀ found₀ at left found = RoundAt m size y rows at left found
+Inv-loop m size y rows n positions sets variables count first at₀ left₀ found₀ at left found = RoundAt m size y rows at left found
 
 abbrev μ-loop : tie.MeasureT-loop
-μ-loop m size y rows positions classes first at₀ left₀ found₀ at left found = at
+μ-loop m size y rows n positions sets variables count first at₀ left₀ found₀ at left found = at
 
--- the start and the end of the sets of this size in the table
-end : (c : tie.After-start-of2 Inv-loop μ-loop) → c .start-of2 .result ≡ countOfSets (c .before .before .before .before .args .size) 6
+-- the end of the sets of this size in the table
+end : (c : tie.After-start-of2 Inv-loop μ-loop) → c .start-of2 .result ≡ countOfSets (c .before .before .before .before .before .before .before .args .size) 6
 unfolding setsBefore
-end c = c .start-of2 .ensures ∙ rw (add-one (c .before .before .before .before .args .size))
+end c = c .start-of2 .ensures ∙ rw (add-one (c .before .before .before .before .before .before .before .args .size))
 
 loop-holds : tie.Need-loop-holds Inv-loop μ-loop
 loop-holds c =
-    let first = c .before .before .before .before in
+    let first = c .before .before .before .before .before .before .before in
     rw (end c) (round-starts (first .args .m) (first .args .size) (first .args .y) (first .args .rows) (first .pre .3) (before-all (first .args .size)))
 
 -- ---- the set that is looked at
 
 module _ (c : tie.In-loop Inv-loop μ-loop) where
+  abbrev made : tie.After-all-variables Inv-loop μ-loop
+  made = c .before .before .before .before .before
+
   abbrev start : tie.Start Inv-loop μ-loop
-  start = c .before .before .before .before .before .before
+  start = made .before .before .before .before
 
   abbrev at : ℕ
   at = c .before .loop .at - 1
@@ -56,56 +61,59 @@ module _ (c : tie.In-loop Inv-loop μ-loop) where
   abbrev S : ℕ
   S = getD (setsUpTo 6 (start .args .size)) at 0
 
-product-at-requires : tie.Need-product-at-requires Inv-loop μ-loop
-product-at-requires c κs = omega (arith, high c, count-grows (start c .args .size) 3 6 (start c .pre .2), all-sets)
+  set : (getD (made .before .all-sets .result) at 0 ≡ S) × (getD (made .before .all-sets .result) at 0 < 64)
+  set = set-at (made .before .all-sets .result) (made .before .all-sets .ensures) (start .args .size) at (start .pre .2) high
 
-row : (c : tie.After-product-at Inv-loop μ-loop)
-    → bitAnd (c .product-at .result) (c .before .before .before .before .before .before .all-positions .result) ≡ productRow (start (c .before) .args .m) (S (c .before))
-row c =
-    let first = start (c .before) in
-    cut-row (first .args .size) (first .args .m) (at (c .before)) _ _ (first .pre .0) (first .pre .2) (high (c .before)) (c .product-at .ensures)
-    (c .before .before .before .before .before .before .all-positions .ensures)
+  n-is : made .before .before .before .two-to .result ≡ 2 ^ start .args .m
+  n-is = made .before .before .before .two-to .ensures
 
--- where its row is not zero it is one of the code's
-own : (c : tie.Then1 Inv-loop μ-loop) → S (c .before .before) < 2 ^ start (c .before .before) .args .m
-own c = own-set _ _ _ (row (c .before)) (c .if1 .taken)
+array-read-set : tie.Need-array-read-set Inv-loop μ-loop
+array-read-set c = omega (arith, high c, count-grows (start c .args .size) 3 6 (start c .pre .2), all-sets)
 
-set-is : (c : tie.After-set-of Inv-loop μ-loop) → c .set-of .result ≡ S (c .before .before .before)
-set-is c = c .set-of .ensures _ _ (start (c .before .before .before) .pre .0) (own (c .before)) (row (c .before .before))
+cast-set : tie.Need-cast-set Inv-loop μ-loop
+cast-set c = record { fits = omega (arith, set c .1) }
 
-votes-for-one-requires : tie.Need-votes-for-one-requires Inv-loop μ-loop
-votes-for-one-requires c κs =
-    let first = start (c .before .before .before) in
-    omega (arith, set-is c, own (c .before), pow-mono {i = first .args .m} {j = 6} (first .pre .0))
+classes-of-requires : tie.Need-classes-of-requires Inv-loop μ-loop
+classes-of-requires c κs = (set (c .before .before) .1, made (c .before .before) .all-variables .ensures)
 
--- the votes are counted, and the classes are as many as they should be
-module _ (c : tie.After-votes-for-one Inv-loop μ-loop) where
+-- one of the code's sets
+own : (c : tie.Then1 Inv-loop μ-loop) → S (c .before) < 2 ^ start (c .before) .args .m
+own c = omega (arith, c .if1 .taken, set (c .before) .0, n-is (c .before))
+
+-- ---- its classes and its votes
+
+module _ (c : tie.After-classes-of Inv-loop μ-loop) where
   abbrev inside : tie.In-loop Inv-loop μ-loop
-  inside = c .before .before .before .before
+  inside = c .before .before .before
 
-  votes : c .votes-for-one .result ≡ votesForOne (start inside .args .m) (S inside) (bit (start inside .args .y))
-  votes =
-      let is = set-is (c .before) in
-      c .votes-for-one .ensures (start inside .args .m) (start inside .pre .0) (omega (arith, is, own (c .before .before)))
-      (row (c .before .before .before) ∙ ap (productRow _) (sym is))
-      ∙ ap (λ (T : ℕ). votesForOne (start inside .args .m) T (bit (start inside .args .y))) is
+  row : c .classes-of .result .row ≡ productRow (start inside .args .m) (S inside)
+  row =
+      c .classes-of .ensures .1 (start inside .args .m) (start inside .pre .0) (made inside .before .before .all-positions .ensures)
+      ∙ ap (productRow (start inside .args .m)) (set inside .0)
 
-  all-classes : inside .before .before .before .before .two-to .result ≡ classes (start inside .args .m) (S inside)
+  sums : (p : ℕ) → p < 64 → product (S inside) p ≡ 1 → bit (c .classes-of .result .sums) p ≡ classSum 6 (S inside) (bit (start inside .args .y)) p
+  sums = rw (set inside .0) at (c .classes-of .ensures .0)
+
+  votes : ones (bitAnd (c .classes-of .result .sums) (c .classes-of .result .row)) ≡ votesForOne (start inside .args .m) (S inside) (bit (start inside .args .y))
+  votes = votes-counted (start inside .args .m) (S inside) _ (start inside .pre .0) row (start inside .args .y) _ sums
+
+  all-classes : inside .before .before .before .before .two-to2 .result ≡ classes (start inside .args .m) (S inside)
   all-classes =
-      inside .before .before .before .before .two-to .ensures
+      inside .before .before .before .before .two-to2 .ensures
       ∙ sym (entry-classes _ _ (at inside) (start inside .pre .0) (start inside .pre .1) (low inside) (high inside) (own (c .before .before)))
 
 mul-votes : tie.Need-mul-votes Inv-loop μ-loop
 mul-votes c =
-    let first = start (inside c) in
+    let voted = c .before in
+    let first = start (inside voted) in
     record {
       fits =
           omega (
             arith,
-            votes c,
-            all-classes c,
-            votes-bound (first .args .m) (S (inside c)) (bit (first .args .y)),
-            inside c .before .before .before .before .two-to .ensures,
+            votes voted,
+            all-classes voted,
+            votes-bound (first .args .m) (S (inside voted)) (bit (first .args .y)),
+            inside voted .before .before .before .before .two-to2 .ensures,
             pow-mono {i = first .args .m - first .args .size} {j = 6} (omega (arith, first .pre .0)),
           );
     }
@@ -113,53 +121,57 @@ mul-votes c =
 -- a tie
 returns : tie.Need-returns Inv-loop μ-loop
 returns c =
-    let at-set = inside (c .before) in
-    let is-own = own (c .before .before .before) in
-    let first = start at-set in (
+    let voted = c .before .before .before in
+    let set = inside voted in
+    let first = start set in
+    let is-own = own (voted .before .before) in (
       λ e. (
-        S at-set,
+        S set,
         is-own,
-        entry-size _ _ (at at-set) (first .pre .0) (first .pre .1) (low at-set) (high at-set) is-own,
-        omega (arith, votes (c .before), all-classes (c .before), c .if2 .taken),
+        entry-size _ _ (at set) (first .pre .0) (first .pre .1) (low set) (high set) is-own,
+        omega (arith, votes voted, all-classes voted, c .before .if2 .taken),
       ),
-      (λ e. absurd (true≢false e), λ e. absurd (true≢false e)),
+      (λ e. absurd (true≢false (sym (c .tie .ensures) ∙ e)), λ e. absurd (true≢false (sym (c .tie .ensures) ∙ e))),
     )
 
 -- there is room for one more bit
-room : (c : tie.Else2 Inv-loop μ-loop) → 2 * inside (c .before) .before .loop .found + 2 ≤ 4096
+room : (c : tie.Else2 Inv-loop μ-loop) → 2 * inside (c .before .before) .before .loop .found + 2 ≤ 4096
 room c =
-    let at-set = inside (c .before) in
-    found-bound _ _ _ _ (at at-set) _ _ (here at-set) (low at-set) (own (c .before .before .before)) (start at-set .pre .0) (start at-set .pre .4)
+    let voted = c .before .before in
+    let set = inside voted in
+    found-bound _ _ _ _ (at set) _ _ (here set) (low set) (own (voted .before .before)) (start set .pre .0) (start set .pre .4)
 
 mul-found : tie.Need-mul-found Inv-loop μ-loop
 mul-found c = record { fits = omega (arith, room c) }
 
 add-found : tie.Need-add-found Inv-loop μ-loop
-add-found c = record { fits = omega (arith, room (c .before)) }
+add-found c = record { fits = omega (arith, room (c .before .before)) }
 
 loop-again : tie.Need-loop-again Inv-loop μ-loop
 loop-again c =
-    let voted = c .before .before in
-    let at-set = inside voted in
-    voted-for _ _ _ _ (at at-set) _ _ (here at-set) (low at-set) (own (voted .before .before))
-    (most-for-one _ _ _ _ _ (ap (λ (x : ℕ). 2 * x) (votes voted)) (all-classes voted) (c .if3 .taken)) _ (row (voted .before .before .before))
+    let voted = c .before .before .before .before in
+    let set = inside voted in
+    let most = most-for-one _ _ _ _ _ (ap (λ (x : ℕ). 2 * x) (votes voted)) (all-classes voted) (c .before .if3 .taken) in
+    voted-for _ _ _ _ (at set) _ _ (here set) (low set) (own (voted .before .before)) most _ (row voted)
 
 loop-again-2 : tie.Need-loop-again-2 Inv-loop μ-loop
 loop-again-2 c =
-    let voted = c .before .before in
-    let at-set = inside voted in
-    not-voted _ _ _ _ (at at-set) _ _ (here at-set) (low at-set) (own (voted .before .before))
-    (not-most-for-one _ _ _ _ _ (ap (λ (x : ℕ). 2 * x) (votes voted)) (all-classes voted) (c .if3 .left))
+    let voted = c .before .before .before in
+    let set = inside voted in
+    let not-most = not-most-for-one _ _ _ _ _ (ap (λ (x : ℕ). 2 * x) (votes voted)) (all-classes voted) (c .if3 .left) in
+    not-voted _ _ _ _ (at set) _ _ (here set) (low set) (own (voted .before .before)) not-most
 
 loop-again-3 : tie.Need-loop-again-3 Inv-loop μ-loop
 loop-again-3 c =
-    let at-set = c .before .before in
-    set-passed _ _ _ _ (at at-set) _ _ (here at-set) (low at-set) (other-set _ _ _ (row (c .before)) (c .if1 .left))
+    let before = c .before in
+    set-passed _ _ _ _ (at before) _ _ (here before) (low before) (omega (arith, c .if1 .left, set before .0, n-is before))
 
 returns-2 : tie.Need-returns-2 Inv-loop μ-loop
 returns-2 c =
-    let first = c .before .before .before .before .before .before in
-    let done = round-ends _ _ _ _ _ _ _ (first .pre .0) (c .before .loop .inv) (omega (arith, c .loop-test .left, c .before .before .before .start-of .ensures, c .before .loop .inv .low)) in
+    let first = c .before .before .before .before .before .before .before .before .before in
+    let starts : c .before .loop .at ≡ setsBefore (first .args .size) =
+    omega (arith, c .loop-test .left, c .before .before .before .start-of .ensures, c .before .loop .inv .low) in
+    let done = round-ends _ _ _ _ _ _ _ (first .pre .0) (c .before .loop .inv) starts in
     (λ e. absurd (false≢true e), (λ e. done .0, λ e. done .1))
 
 pub round-spec : {M : Type 1} → statement M
@@ -169,6 +181,9 @@ round-spec =
     Inv-loop
     μ-loop
     (λ c κs. search needs)
+    (λ c κs. search needs)
+    (λ c κs. search needs)
+    (λ c κs. search needs)
     (λ c. search needs)
     (λ c κs. search needs)
     (λ c κs. search needs)
@@ -176,10 +191,11 @@ round-spec =
     (λ c κs. search needs)
     loop-holds
     (λ c. search needs)
-    product-at-requires
-    (λ c κs. search needs)
-    votes-for-one-requires
+    array-read-set
+    cast-set
+    classes-of-requires
     mul-votes
+    (λ c κs. search needs)
     returns
     mul-found
     add-found
