@@ -28,7 +28,7 @@ unfoldable pub numberAfter : (before : ℕ) → List ℕ → ℕ
 numberAfter before [] = before
 numberAfter before (b ∷ text) = numberAfter (10 * before + (b - 48)) text
 
--- the number that a text makes
+-- the number that a text makes (proofs/Decimal.antt: of a number in decimal that number)
 abbrev pub numberIn : List ℕ → ℕ
 numberIn text = numberAfter 0 text
 
