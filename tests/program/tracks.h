@@ -17,6 +17,7 @@ uint32_t second_check_card(const uint8_t *card, size_t card_bytes, uint32_t *val
 uint32_t second_write_word(const uint8_t *card, size_t card_bytes, uint32_t position, uint8_t *word, size_t word_bytes);
 uint32_t second_read_word(const uint8_t *card, size_t card_bytes, const uint8_t *word, size_t word_bytes, uint32_t *values,
                           size_t values_count);
+uint32_t second_make_card(uint16_t track, uint32_t r, uint32_t m, uint8_t *card, size_t card_bytes);
 
 /* What second_check_card puts into its seven values. */
 enum { N, K, TRACK, DISTANCE, RADIUS, BITS, LAST, CARD_VALUES };

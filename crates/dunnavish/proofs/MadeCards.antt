@@ -1,6 +1,6 @@
 -- What the call that makes a card leaves in the lent bytes, one law for each way out: bytes of the wrong count, a refusal, or the card's
 -- bytes put there, of which the library's own contract says that they are the card that was asked for. Assumes nothing.
-use mathlib.Core.Path.{_≡_, refl, sym, _∙_}
+use mathlib.Core.Path.{_≡_, sym, _∙_}
 use mathlib.Core.List.{List}
 use Prim.Native.Nat.{ℕ}
 use native.Mathlib.Omega.{arith}

@@ -1,7 +1,8 @@
-//! The second reader's answers for a program in C: tests/program takes from here what the program tramread should print.
+//! The second reader's answers for a program in C: tests/program takes from here what tramread should print and tramcard write.
 //!
 //! Each call returns a status, 0 or the refusal's number, and puts the values of the answer into numbers or bytes that the caller
-//! lends. Lent numbers that are not exactly as many as the answer has values are answered 100, before anything else is looked at.
+//! lends. Lent numbers that are not exactly as many as the answer has values, or a lent card that has not 512 bytes, are answered
+//! 100, before anything else is looked at.
 //! Whenever the status is not 0, nothing that was lent has changed.
 //!
 //! SAFETY, of every call: each pointer is that of its count of elements, which nothing else writes, and of a `*mut` one nothing else
@@ -9,7 +10,7 @@
 use crate::{Facts, Reading, Refusal};
 use std::slice;
 
-/// The status of a call whose lent numbers are too few or too many.
+/// The status of a call whose lent numbers, or bytes of a card, are too few or too many.
 const WRONG_COUNT: u32 = 100;
 
 /// Checks a card: n, k, track, D, t, d and last position into seven numbers.
@@ -61,8 +62,18 @@ pub unsafe extern "C" fn second_read_word(
     })
 }
 
-/// The status of a call, whose values go into the lent numbers.
-fn put<const COUNT: usize>(lent: &mut [u32], answer: impl FnOnce() -> Result<[u32; COUNT], Refusal>) -> u32 {
+/// Makes the card of a Reed-Muller code for a track, into the lent card.
+///
+/// # Safety
+/// As above.
+#[no_mangle]
+pub unsafe extern "C" fn second_make_card(track: u16, r: u32, m: u32, card: *mut u8, card_bytes: usize) -> u32 {
+    let card = unsafe { lent_mut(card, card_bytes) };
+    put(card, || crate::make_card(track, r, m))
+}
+
+/// The status of a call, whose values go into the lent numbers or bytes.
+fn put<T: Copy, const COUNT: usize>(lent: &mut [T], answer: impl FnOnce() -> Result<[T; COUNT], Refusal>) -> u32 {
     if lent.len() != COUNT {
         return WRONG_COUNT;
     }

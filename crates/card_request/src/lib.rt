@@ -1,0 +1,97 @@
+// A request for a card, as radio staff type it: the track number, the order r and the number of variables m, three texts in decimal.
+// It is answered with the card, or with the first thing that is wrong with it; specs/Request.antt says which.
+ghost use mathlib.Core.Path.{_≡_};
+ghost use Rattle.reed_muller_theory.specs.MadeCards.{IsReedMullerCard};
+ghost use Rattle.card_request.specs.Request.{numberIn, numberText, noCard, answerTo};
+ghost use Rattle.card_request.specs.declared.Told.the-variants.{Made};
+
+// The greatest track number, and the greatest r and m that a call of the library can be given.
+const GREATEST_TRACK: u32 = 65535;
+
+const GREATEST_NUMBER: u32 = 4294967295;
+
+// What a text reads as: a number in decimal, or none.
+pub enum NumberText {
+    Number(u32),
+    NoNumber,
+}
+
+// What is told of a request: that the card is made; that the code is outside the limits, refusal 13; or which text is no number that fits.
+pub enum Told {
+    Made,
+    OutsideLimits,
+    NoTrack,
+    NoOrder,
+    NoVariables,
+}
+
+// The answer to a request: what is told of it, and the card's bytes, all zero where none is made.
+pub struct Answer {
+    pub told: Told,
+    pub card: [u8; 512],
+}
+
+// The number in a text, at most `most`. Once it is above that, no further digit brings it back.
+pub fn number_in(text: &[u8], most: u32) -> NumberText
+    ensures { λ a. ⌜ a ≡ numberText most (now (text .entry)) ⌝ }
+{
+    if text.len() == 0 {
+        return NumberText::NoNumber;
+    }
+    let mut number: u64 = 0;
+    let mut i: usize = 0;
+    while i < text.len() {
+        let byte = text[i];
+        if byte < b'0' {
+            return NumberText::NoNumber;
+        }
+        if b'9' < byte {
+            return NumberText::NoNumber;
+        }
+        number = 10 * number + (byte - b'0') as u64;
+        if (most as u64) < number {
+            return NumberText::NoNumber;
+        }
+        i += 1;
+    }
+    NumberText::Number(number as u32)
+}
+
+// No card, and what is told.
+fn no_card(told: Told) -> Answer
+    ensures { λ a. ⌜ a ≡ noCard told ⌝ }
+{
+    Answer {
+        told,
+        card: [0u8; 512],
+    }
+}
+
+// The answer to a request: the card for the track number, the order r and the number of variables m that the texts give.
+pub fn card_for(track: &[u8], r: &[u8], m: &[u8]) -> Answer
+    ensures answer { λ a. ⌜ a ≡ answerTo (now (track .entry)) (now (r .entry)) (now (m .entry)) ⌝ }
+    ensures made { λ a. ⌜ (a .told ≡ Made
+        → IsReedMullerCard (numberIn (now (track .entry))) (numberIn (now (r .entry))) (numberIn (now (m .entry))) (a .card)) ⌝ }
+{
+    let track_number = number_in(track, GREATEST_TRACK);
+    let NumberText::Number(track) = track_number else {
+        return no_card(Told::NoTrack);
+    };
+    let order = number_in(r, GREATEST_NUMBER);
+    let NumberText::Number(r) = order else {
+        return no_card(Told::NoOrder);
+    };
+    let variables = number_in(m, GREATEST_NUMBER);
+    let NumberText::Number(m) = variables else {
+        return no_card(Told::NoVariables);
+    };
+    let made = depot::make_card(track as u16, r, m);
+    if made.refusal != 0 {
+        return no_card(Told::OutsideLimits);
+    }
+    let card = made.bytes;
+    Answer {
+        told: Told::Made,
+        card,
+    }
+}

@@ -1,0 +1,56 @@
+// tramcard: makes the card of a Reed-Muller code. Its arguments are the track number, the order r and the number of variables m, in
+// decimal; standard output gets the card's 512 bytes. Where no card is made, standard error gets a line that says why, and standard
+// output nothing. What the arguments are answered is `answerTo`, a definition of crate card_request.
+// The stored args are track 14, r 1 and m 4, and stdout is that card: n is 16, k is 5 and D is 8.
+ghost use mathlib.Core.Path.{_≡_};
+ghost use lib.ListN.{length};
+ghost use Rattle.model.specs.Card.{SoundCard};
+use card_request::Told;
+use libc::STDERR_FILENO;
+
+// A buffer for an argument: the system hands a program none of more bytes.
+fn argument_buffer() -> [u8; 131072]
+    ensures { λ r. ⌜ 131072 ≡ length r ⌝ }
+{
+    [0; 131072]
+}
+
+// Tells a line on standard error.
+fn tell(line: &[u8]) {
+    io::write_all(STDERR_FILENO, line);
+}
+
+// Puts a card out. Nothing else goes to standard output.
+fn put_out(card: &[u8])
+    requires { ⌜ SoundCard (now card) ⌝ }
+{
+    standard_io::put_all(card, 512, b"tramcard: writing standard output");
+}
+
+// An argument that is missing, or has no room in its buffer, counts as an empty one, which is no number.
+fn main() {
+    if os::arg_count() != 4 {
+        tell(
+            b"usage: tramcard TRACK R M > CARD   (three numbers in decimal; a card of 512 bytes)\n",
+        );
+        return;
+    }
+    let mut track = argument_buffer();
+    let mut r = argument_buffer();
+    let mut m = argument_buffer();
+    let track_end = os::arg(1, &mut track);
+    let r_end = os::arg(2, &mut r);
+    let m_end = os::arg(3, &mut m);
+    let answer = card_request::card_for(&track[..track_end], &r[..r_end], &m[..m_end]);
+    let told = answer.told;
+    let card = answer.card;
+    match told {
+        Told::Made => put_out(&card),
+        Told::OutsideLimits => tell(
+            b"tramcard: refused 13: M is not 1 to 6, R is above M, or k is above 12\n",
+        ),
+        Told::NoTrack => tell(b"tramcard: TRACK is not a number from 0 to 65535\n"),
+        Told::NoOrder => tell(b"tramcard: R is not a number from 0 to 4294967295\n"),
+        Told::NoVariables => tell(b"tramcard: M is not a number from 0 to 4294967295\n"),
+    }
+}
