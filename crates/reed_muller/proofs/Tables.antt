@@ -1,11 +1,18 @@
 -- Entries of the constant tables, each of which is compared as a whole by one computation. Assumes nothing.
 use mathlib.Core.Path.{_≡_, refl}
 use mathlib.Core.List.{List}
-use Prim.Native.Nat.{ℕ, zero, suc, _^_, _≤_, _<_}
+use mathlib.Core.Logic.{⊎-elim}
+use Prim.Native.Nat.{ℕ, zero, suc, _-_, _^_, _≤_, _<_}
 use native.Mathlib.Omega.{arith}
+use lib.Dec.{ltb, eqb}
 use lib.ListN.{getD}
+use lib.Pow.{pow-pos}
+use borrow.Author.Tests.{lt-ltb, le-ltb}
 use Rattle.bits.specs.Sums.{sumBelow}
-use Rattle.bits.specs.Places.{weight, listOf}
+use Rattle.bits.specs.Places.{bit, weight, listOf}
+use Rattle.bits.proofs.Numbers.{lt-or-le}
+use Rattle.bits.proofs.Binary.{bit-high}
+use Rattle.bits.proofs.Shifts.{bit-all-ones}
 use Rattle.bits.proofs.Places.{getD-listOf}
 use Rattle.model.specs.ReedMuller.{those, setsOf, setsUpTo, countOfSets, productRow}
 use Rattle.reed_muller_theory.proofs.Sets.{set-below}
@@ -36,3 +43,13 @@ pub set-at : (sets : List ℕ) → sets ≡ setsUpTo 6 3 → (s i : ℕ) → s �
     → (getD sets i 0 ≡ getD (setsUpTo 6 s) i 0) × (getD sets i 0 < 64)
 set-at sets are s i three inside =
     rw are (sets-first 6 s 3 i three inside, set-below 3 6 i (omega (arith, count-grows s 3 6 three)))
+
+-- a set of the m variables is one of the 2^m positions
+pub own-by-place : (m S positions : ℕ) → positions ≡ 2 ^ 2 ^ m - 1 → eqb (bit positions S) 1 ≡ ltb S (2 ^ m)
+own-by-place m S positions are =
+    ⊎-elim
+    (λ (l : S < 2 ^ m). rw (are, bit-all-ones (2 ^ m) S l, lt-ltb S (2 ^ m) l))
+    (λ (l : 2 ^ m ≤ S).
+    let none : bit (2 ^ 2 ^ m - 1) S ≡ 0 = bit-high (2 ^ 2 ^ m - 1) (2 ^ m) S (omega (arith, pow-pos (2 ^ m))) l in
+    rw (are, none, le-ltb S (2 ^ m) l))
+    (lt-or-le S (2 ^ m))

@@ -28,7 +28,6 @@ pub fn rows_of(r: u32, m: u32) -> Rows
     requires { ⌜ orderWithinLimits r m ≡ true ⌝ }
     ensures { λ a. ⌜ (a .count ≡ countOfSets r m) × ((λ z. getD (a .rows) z 0) ≡ productOf r m) ⌝ }
 {
-    let n = powers::two_to(m);
     let positions = all_positions(m);
     let sets = sets::all_sets();
     let variables = products::all_variables();
@@ -38,7 +37,7 @@ pub fn rows_of(r: u32, m: u32) -> Rows
     let mut i: usize = 0;
     while i < end {
         let set = sets[i] as u32;
-        if set < n {
+        if sets::is_own(set, positions) {
             let classes = products::classes_of(0, set, positions, &variables);
             rows[count] = classes.row;
             count += 1;

@@ -1,7 +1,8 @@
 // The sets of at most three of six variables, as one table. It serves every code within the limits: the order is at most 3, and the
 // sets of its m variables are those of the table that are below 2^m, in the same order.
 ghost use mathlib.Core.Path.{_≡_};
-ghost use Prim.Native.Nat.{_≤_};
+ghost use Prim.Native.Nat.{ℕ, _-_, _^_, _≤_, _<_};
+ghost use lib.Dec.{ltb};
 ghost use Rattle.model.specs.ReedMuller.{setsUpTo};
 ghost use Rattle.reed_muller.specs.Table.{setsBefore};
 
@@ -68,4 +69,12 @@ pub fn start_of(size: usize) -> usize
     ensures { λ a. ⌜ a ≡ setsBefore size ⌝ }
 {
     STARTS[size] as usize
+}
+
+// Is a set one of a code's variables alone? As a number it is then one of the code's positions, of which each is a one of `positions`.
+pub fn is_own(set: u32, positions: u64) -> bool
+    requires { ⌜ set < 64 ⌝ }
+    ensures { λ a. ⌜ ((m : ℕ) → positions ≡ 2 ^ 2 ^ m - 1 → a ≡ ltb set (2 ^ m)) ⌝ }
+{
+    (positions >> set) % 2 == 1
 }

@@ -4,7 +4,8 @@ ghost use mathlib.Core.Bool.{true, false};
 ghost use Prim.Native.Nat.{ℕ, _+_, _*_, _^_, _≤_, _<_};
 ghost use Rattle.bits.specs.Places.{bit};
 ghost use Rattle.model.specs.Order.{gray};
-ghost use Rattle.model.specs.ReedMuller.{countOfSets, orderWithinLimits, votedReading};
+ghost use Rattle.model.specs.ReedMuller.{setsUpTo, countOfSets, orderWithinLimits, votedReading};
+ghost use Rattle.reed_muller.specs.Table.{variableRows};
 ghost use Rattle.reed_muller.specs.Rounds.{rowsAfter, Tied, LeftBy};
 use super::products;
 use super::rows;
@@ -47,16 +48,14 @@ fn tie() -> Voted
 
 // One round, step 2 of document 004: the coefficient of each product of `size` variables is what most class sums of y are, and the
 // products with coefficient 1 are taken off. The table is gone through downwards, as the rounds are.
-fn round(m: u32, size: u32, y: u64, rows: u32) -> Voted
+fn round(m: u32, size: u32, y: u64, rows: u32, sets: &[u8; 42], variables: &[u64; 6]) -> Voted
     requires { ⌜ (m ≤ 6) × (size ≤ m) × (size ≤ 3) × (y < 2 ^ 2 ^ m) × ((rows + 1) * 2 ^ countOfSets size m ≤ 4096) ⌝ }
+    requires { ⌜ (now sets ≡ setsUpTo 6 3) × (now variables ≡ variableRows) ⌝ }
     ensures tied { λ a. ⌜ (a .tied ≡ true → Tied m size y) ⌝ }
     ensures left { λ a. ⌜ (a .tied ≡ false → LeftBy m size y (a .left)) ⌝ }
     ensures rows { λ a. ⌜ (a .tied ≡ false → a .rows ≡ rowsAfter m size y rows) ⌝ }
 {
-    let n = powers::two_to(m);
     let positions = rows::all_positions(m);
-    let sets = sets::all_sets();
-    let variables = products::all_variables();
     let count = powers::two_to(m - size);
     let first = sets::start_of(size as usize);
     let mut at = sets::start_of(size as usize + 1);
@@ -65,8 +64,8 @@ fn round(m: u32, size: u32, y: u64, rows: u32) -> Voted
     while at > first {
         at -= 1;
         let set = sets[at] as u32;
-        if set < n {
-            let classes = products::classes_of(y, set, positions, &variables);
+        if sets::is_own(set, positions) {
+            let classes = products::classes_of(y, set, positions, variables);
             let votes = 2 * u64::count_ones(classes.sums & classes.row);
             if votes == count {
                 return tie();
@@ -92,13 +91,14 @@ pub fn vote(r: u32, m: u32, chunk: u64) -> Chunk
     requires { ⌜ (orderWithinLimits r m ≡ true) × (chunk < 2 ^ 2 ^ m) ⌝ }
     ensures { λ a. ⌜ a ≡ votedReading r m (bit chunk) ⌝ }
 {
-    let radius = (powers::two_to(m - r) - 1) / 2;
+    let sets = sets::all_sets();
+    let variables = products::all_variables();
     let mut left = chunk;
     let mut rows: u32 = 0;
     let mut size = r + 1;
     while size > 0 {
         size -= 1;
-        let voted = round(m, size, left, rows);
+        let voted = round(m, size, left, rows, &sets, &variables);
         if voted.tied {
             return Chunk::Unreadable;
         }
@@ -106,6 +106,7 @@ pub fn vote(r: u32, m: u32, chunk: u64) -> Chunk
         rows = voted.rows;
     }
     let unlike = u64::count_ones(left);
+    let radius = (powers::two_to(m - r) - 1) / 2;
     if radius < unlike {
         return Chunk::Unreadable;
     }

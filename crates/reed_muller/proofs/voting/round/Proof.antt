@@ -8,7 +8,9 @@ use native.Mathlib.Omega.{arith}
 use borrow.Author.Needs.{needs}
 use lib.Bits.{bitAnd}
 use lib.Count.{ones}
+use lib.Dec.{ltb}
 use lib.ListN.{getD}
+use borrow.Author.Tests.{ltb-true, ltb-false}
 use lib.Pow.{pow-mono}
 use Rattle.bits.specs.Places.{bit}
 use Rattle.model.specs.ReedMuller.{setsUpTo, countOfSets, product, productRow, classSum, votesForOne, classes}
@@ -22,29 +24,29 @@ use Rattle.reed_muller.proofs.voting.round.Statement.{statement}
 use Rattle.reed_muller.proofs.voting.round.Tie as tie
 
 abbrev Inv-loop : tie.InvT-loop
-Inv-loop m size y rows n positions sets variables count first at₀ left₀ found₀ at left found = RoundAt m size y rows at left found
+Inv-loop m size y rows sets variables positions count first at₀ left₀ found₀ at left found = RoundAt m size y rows at left found
 
 abbrev μ-loop : tie.MeasureT-loop
-μ-loop m size y rows n positions sets variables count first at₀ left₀ found₀ at left found = at
+μ-loop m size y rows sets variables positions count first at₀ left₀ found₀ at left found = at
 
 -- the end of the sets of this size in the table
-end : (c : tie.After-start-of2 Inv-loop μ-loop) → c .start-of2 .result ≡ countOfSets (c .before .before .before .before .before .before .before .args .size) 6
+end : (c : tie.After-start-of2 Inv-loop μ-loop) → c .start-of2 .result ≡ countOfSets (c .before .before .before .before .args .size) 6
 unfolding setsBefore
-end c = c .start-of2 .ensures ∙ rw (add-one (c .before .before .before .before .before .before .before .args .size))
+end c = c .start-of2 .ensures ∙ rw (add-one (c .before .before .before .before .args .size))
 
 loop-holds : tie.Need-loop-holds Inv-loop μ-loop
 loop-holds c =
-    let first = c .before .before .before .before .before .before .before in
-    rw (end c) (round-starts (first .args .m) (first .args .size) (first .args .y) (first .args .rows) (first .pre .3) (before-all (first .args .size)))
+    let first = c .before .before .before .before in
+    rw (end c) (round-starts (first .args .m) (first .args .size) (first .args .y) (first .args .rows) (first .pre .0 .3) (before-all (first .args .size)))
 
 -- ---- the set that is looked at
 
 module _ (c : tie.In-loop Inv-loop μ-loop) where
-  abbrev made : tie.After-all-variables Inv-loop μ-loop
-  made = c .before .before .before .before .before
+  abbrev made : tie.After-two-to Inv-loop μ-loop
+  made = c .before .before .before .before
 
   abbrev start : tie.Start Inv-loop μ-loop
-  start = made .before .before .before .before
+  start = made .before .before
 
   abbrev at : ℕ
   at = c .before .loop .at - 1
@@ -61,46 +63,52 @@ module _ (c : tie.In-loop Inv-loop μ-loop) where
   abbrev S : ℕ
   S = getD (setsUpTo 6 (start .args .size)) at 0
 
-  set : (getD (made .before .all-sets .result) at 0 ≡ S) × (getD (made .before .all-sets .result) at 0 < 64)
-  set = set-at (made .before .all-sets .result) (made .before .all-sets .ensures) (start .args .size) at (start .pre .2) high
+  set : (getD (start .args .sets .now) at 0 ≡ S) × (getD (start .args .sets .now) at 0 < 64)
+  set = set-at (start .args .sets .now) (start .pre .1 .0) (start .args .size) at (start .pre .0 .2) high
 
-  n-is : made .before .before .before .two-to .result ≡ 2 ^ start .args .m
-  n-is = made .before .before .before .two-to .ensures
-
-array-read-set : tie.Need-array-read-set Inv-loop μ-loop
-array-read-set c = omega (arith, high c, count-grows (start c .args .size) 3 6 (start c .pre .2), all-sets)
+element-copy-out-set : tie.Need-element-copy-out-set Inv-loop μ-loop
+element-copy-out-set c = omega (arith, high c, count-grows (start c .args .size) 3 6 (start c .pre .0 .2), all-sets)
 
 cast-set : tie.Need-cast-set Inv-loop μ-loop
-cast-set c = record { fits = omega (arith, set c .1) }
+cast-set c = record { fits = omega (arith, set (c .before) .1) }
+
+is-own-requires : tie.Need-is-own-requires Inv-loop μ-loop
+is-own-requires c κs = set (c .before) .1
 
 classes-of-requires : tie.Need-classes-of-requires Inv-loop μ-loop
-classes-of-requires c κs = (set (c .before .before) .1, made (c .before .before) .all-variables .ensures)
+classes-of-requires c κs = let at-set = c .before .before .before in (set at-set .1, start at-set .pre .1 .1)
 
--- one of the code's sets
-own : (c : tie.Then1 Inv-loop μ-loop) → S (c .before) < 2 ^ start (c .before) .args .m
-own c = omega (arith, c .if1 .taken, set (c .before) .0, n-is (c .before))
+-- whether it is one of the code's
+is-own : (c : tie.After-is-own Inv-loop μ-loop) → c .is-own .result ≡ ltb (S (c .before .before)) (2 ^ start (c .before .before) .args .m)
+is-own c =
+    let at-set = c .before .before in
+    c .is-own .ensures (start at-set .args .m) (made at-set .before .all-positions .ensures)
+    ∙ ap (λ (x : ℕ). ltb x (2 ^ start at-set .args .m)) (set at-set .0)
+
+own : (c : tie.Then1 Inv-loop μ-loop) → S (c .before .before .before) < 2 ^ start (c .before .before .before) .args .m
+own c = ltb-true _ _ (sym (is-own (c .before)) ∙ c .if1 .taken)
 
 -- ---- its classes and its votes
 
 module _ (c : tie.After-classes-of Inv-loop μ-loop) where
   abbrev inside : tie.In-loop Inv-loop μ-loop
-  inside = c .before .before .before
+  inside = c .before .before .before .before
 
   row : c .classes-of .result .row ≡ productRow (start inside .args .m) (S inside)
   row =
-      c .classes-of .ensures .1 (start inside .args .m) (start inside .pre .0) (made inside .before .before .all-positions .ensures)
+      c .classes-of .ensures .1 (start inside .args .m) (start inside .pre .0 .0) (made inside .before .all-positions .ensures)
       ∙ ap (productRow (start inside .args .m)) (set inside .0)
 
   sums : (p : ℕ) → p < 64 → product (S inside) p ≡ 1 → bit (c .classes-of .result .sums) p ≡ classSum 6 (S inside) (bit (start inside .args .y)) p
   sums = rw (set inside .0) at (c .classes-of .ensures .0)
 
   votes : ones (bitAnd (c .classes-of .result .sums) (c .classes-of .result .row)) ≡ votesForOne (start inside .args .m) (S inside) (bit (start inside .args .y))
-  votes = votes-counted (start inside .args .m) (S inside) _ (start inside .pre .0) row (start inside .args .y) _ sums
+  votes = votes-counted (start inside .args .m) (S inside) _ (start inside .pre .0 .0) row (start inside .args .y) _ sums
 
-  all-classes : inside .before .before .before .before .two-to2 .result ≡ classes (start inside .args .m) (S inside)
+  all-classes : made inside .two-to .result ≡ classes (start inside .args .m) (S inside)
   all-classes =
-      inside .before .before .before .before .two-to2 .ensures
-      ∙ sym (entry-classes _ _ (at inside) (start inside .pre .0) (start inside .pre .1) (low inside) (high inside) (own (c .before .before)))
+      made inside .two-to .ensures
+      ∙ sym (entry-classes _ _ (at inside) (start inside .pre .0 .0) (start inside .pre .0 .1) (low inside) (high inside) (own (c .before)))
 
 mul-votes : tie.Need-mul-votes Inv-loop μ-loop
 mul-votes c =
@@ -113,8 +121,8 @@ mul-votes c =
             votes voted,
             all-classes voted,
             votes-bound (first .args .m) (S (inside voted)) (bit (first .args .y)),
-            inside voted .before .before .before .before .two-to2 .ensures,
-            pow-mono {i = first .args .m - first .args .size} {j = 6} (omega (arith, first .pre .0)),
+            made (inside voted) .two-to .ensures,
+            pow-mono {i = first .args .m - first .args .size} {j = 6} (omega (arith, first .pre .0 .0)),
           );
     }
 
@@ -124,11 +132,11 @@ returns c =
     let voted = c .before .before .before in
     let set = inside voted in
     let first = start set in
-    let is-own = own (voted .before .before) in (
+    let is-own = own (voted .before) in (
       λ e. (
         S set,
         is-own,
-        entry-size _ _ (at set) (first .pre .0) (first .pre .1) (low set) (high set) is-own,
+        entry-size _ _ (at set) (first .pre .0 .0) (first .pre .0 .1) (low set) (high set) is-own,
         omega (arith, votes voted, all-classes voted, c .before .if2 .taken),
       ),
       (λ e. absurd (true≢false (sym (c .tie .ensures) ∙ e)), λ e. absurd (true≢false (sym (c .tie .ensures) ∙ e))),
@@ -139,7 +147,7 @@ room : (c : tie.Else2 Inv-loop μ-loop) → 2 * inside (c .before .before) .befo
 room c =
     let voted = c .before .before in
     let set = inside voted in
-    found-bound _ _ _ _ (at set) _ _ (here set) (low set) (own (voted .before .before)) (start set .pre .0) (start set .pre .4)
+    found-bound _ _ _ _ (at set) _ _ (here set) (low set) (own (voted .before)) (start set .pre .0 .0) (start set .pre .0 .4)
 
 mul-found : tie.Need-mul-found Inv-loop μ-loop
 mul-found c = record { fits = omega (arith, room c) }
@@ -152,26 +160,26 @@ loop-again c =
     let voted = c .before .before .before .before in
     let set = inside voted in
     let most = most-for-one _ _ _ _ _ (ap (λ (x : ℕ). 2 * x) (votes voted)) (all-classes voted) (c .before .if3 .taken) in
-    voted-for _ _ _ _ (at set) _ _ (here set) (low set) (own (voted .before .before)) most _ (row voted)
+    voted-for _ _ _ _ (at set) _ _ (here set) (low set) (own (voted .before)) most _ (row voted)
 
 loop-again-2 : tie.Need-loop-again-2 Inv-loop μ-loop
 loop-again-2 c =
     let voted = c .before .before .before in
     let set = inside voted in
     let not-most = not-most-for-one _ _ _ _ _ (ap (λ (x : ℕ). 2 * x) (votes voted)) (all-classes voted) (c .if3 .left) in
-    not-voted _ _ _ _ (at set) _ _ (here set) (low set) (own (voted .before .before)) not-most
+    not-voted _ _ _ _ (at set) _ _ (here set) (low set) (own (voted .before)) not-most
 
 loop-again-3 : tie.Need-loop-again-3 Inv-loop μ-loop
 loop-again-3 c =
-    let before = c .before in
-    set-passed _ _ _ _ (at before) _ _ (here before) (low before) (omega (arith, c .if1 .left, set before .0, n-is before))
+    let before = c .before .before .before in
+    set-passed _ _ _ _ (at before) _ _ (here before) (low before) (ltb-false _ _ (sym (is-own (c .before)) ∙ c .if1 .left))
 
 returns-2 : tie.Need-returns-2 Inv-loop μ-loop
 returns-2 c =
-    let first = c .before .before .before .before .before .before .before .before .before in
+    let first = c .before .before .before .before .before .before in
     let starts : c .before .loop .at ≡ setsBefore (first .args .size) =
     omega (arith, c .loop-test .left, c .before .before .before .start-of .ensures, c .before .loop .inv .low) in
-    let done = round-ends _ _ _ _ _ _ _ (first .pre .0) (c .before .loop .inv) starts in
+    let done = round-ends _ _ _ _ _ _ _ (first .pre .0 .0) (c .before .loop .inv) starts in
     (λ e. absurd (false≢true e), (λ e. done .0, λ e. done .1))
 
 pub round-spec : {M : Type 1} → statement M
@@ -181,9 +189,6 @@ round-spec =
     Inv-loop
     μ-loop
     (λ c κs. search needs)
-    (λ c κs. search needs)
-    (λ c κs. search needs)
-    (λ c κs. search needs)
     (λ c. search needs)
     (λ c κs. search needs)
     (λ c κs. search needs)
@@ -191,8 +196,9 @@ round-spec =
     (λ c κs. search needs)
     loop-holds
     (λ c. search needs)
-    array-read-set
+    element-copy-out-set
     cast-set
+    is-own-requires
     classes-of-requires
     mul-votes
     (λ c κs. search needs)

@@ -13,10 +13,10 @@ use Rattle.reed_muller.proofs.voting.vote.Statement.{statement}
 use Rattle.reed_muller.proofs.voting.vote.Tie as tie
 
 abbrev Inv-loop : tie.InvT-loop
-Inv-loop r m chunk radius left₀ rows₀ size₀ left rows size = VotedDown r m chunk size left rows
+Inv-loop r m chunk sets variables left₀ rows₀ size₀ left rows size = VotedDown r m chunk size left rows
 
 abbrev μ-loop : tie.MeasureT-loop
-μ-loop r m chunk radius left₀ rows₀ size₀ left rows size = size
+μ-loop r m chunk sets variables left₀ rows₀ size₀ left rows size = size
 
 -- what the limits say of r and m
 record Limits (r m : ℕ) : Type 0 where
@@ -30,27 +30,18 @@ limits c =
     let (_, six, order, twelve) = limits-of-test (c .args .r) (c .args .m) (c .pre .0) in
     record { six = six; order = order; three = order-at-most-three (c .args .r) (c .args .m) (c .pre .0); twelve = twelve }
 
-sub-two-to : tie.Need-sub-two-to Inv-loop μ-loop
-sub-two-to c = limits c .order
-
-two-to-requires : tie.Need-two-to-requires Inv-loop μ-loop
-two-to-requires c κs = omega (arith, limits c .six)
-
-sub-radius : tie.Need-sub-radius Inv-loop μ-loop
-sub-radius c = omega (arith, c .two-to .ensures, pow-pos (c .before .args .m - c .before .args .r))
-
 add-size : tie.Need-add-size Inv-loop μ-loop
-add-size c = record { fits = omega (arith, limits (c .before) .three) }
+add-size c = record { fits = omega (arith, limits (c .before .before) .three) }
 
 loop-holds : tie.Need-loop-holds Inv-loop μ-loop
 loop-holds c =
-    let first = c .before in
+    let first = c .before .before in
     rw (add-one (first .args .r)) (voting-starts (first .args .r) (first .args .m) (first .args .chunk) (first .pre .1) (limits first .twelve))
 
 -- before a round
 module _ (c : tie.In-loop Inv-loop μ-loop) where
   abbrev start : tie.Start Inv-loop μ-loop
-  start = c .before .before .before
+  start = c .before .before .before .before
 
   abbrev size : ℕ
   size = c .before .loop .size - 1
@@ -61,41 +52,60 @@ module _ (c : tie.In-loop Inv-loop μ-loop) where
 round-requires : tie.Need-round-requires Inv-loop μ-loop
 unfolding setsBelow countOfSets
 round-requires c κs =
-    let within = limits (start c) in
-    (within .six, omega (arith, here c .started, within .order), omega (arith, here c .started, within .three), here c .narrow, here c .room)
+    let before = c .before .before in
+    let within = limits (start before) in
+    let made = before .before .before in (
+      (
+        within .six,
+        omega (arith, here before .started, within .order),
+        omega (arith, here before .started, within .three),
+        here before .narrow,
+        here before .room,
+      ),
+      (made .before .all-sets .ensures, made .all-variables .ensures),
+    )
 
 returns : tie.Need-returns Inv-loop μ-loop
 returns c =
-    let before = c .before .before in
+    let before = c .before .before .before .before in
     voting-tied _ _ _ (size before) _ _ (here before) (limits (start before) .order) (c .before .round .ensures .0 (c .if1 .taken))
 
 loop-again : tie.Need-loop-again Inv-loop μ-loop
 loop-again c =
-    let before = c .before .before in
+    let before = c .before .before .before .before in
     let round = c .before .round .ensures .1 in
     voting-goes-on _ _ _ (size before) _ _ (here before) _ _ (round .0 (c .if1 .left)) (round .1 (c .if1 .left))
 
 -- after all rounds
 module _ (c : tie.After-loop Inv-loop μ-loop) where
   abbrev begun : tie.Start Inv-loop μ-loop
-  begun = c .before .before .before
+  begun = c .before .before .before .before
 
   all-done : VotedDown (begun .args .r) (begun .args .m) (begun .args .chunk) 0 (c .before .loop .left) (c .before .loop .rows)
   all-done = let none : c .before .loop .size ≡ 0 = omega (arith, c .loop-test .left) in rw none at (c .before .loop .inv)
 
-  t-is : (c .before .before .two-to .result - 1) / 2 ≡ (2 ^ (begun .args .m - begun .args .r) - 1) / 2
-  t-is = ap (λ (d : ℕ). (d - 1) / 2) (c .before .before .two-to .ensures)
+sub-two-to : tie.Need-sub-two-to Inv-loop μ-loop
+sub-two-to c = limits (begun c) .order
+
+two-to-requires : tie.Need-two-to-requires Inv-loop μ-loop
+two-to-requires c κs = omega (arith, limits (begun c) .six)
+
+sub-radius : tie.Need-sub-radius Inv-loop μ-loop
+sub-radius c = omega (arith, c .two-to .ensures, pow-pos (begun (c .before) .args .m - begun (c .before) .args .r))
+
+t-is : (c : tie.After-two-to Inv-loop μ-loop) → (c .two-to .result - 1) / 2 ≡ (2 ^ (begun (c .before) .args .m - begun (c .before) .args .r) - 1) / 2
+t-is c = ap (λ (d : ℕ). (d - 1) / 2) (c .two-to .ensures)
 
 returns-2 : tie.Need-returns-2 Inv-loop μ-loop
 returns-2 c =
-    let end = c .before in
-    not-accepted _ _ _ _ _ (limits (begun end) .order) (all-done end) _ _ (t-is end) refl (c .if2 .taken)
+    let end = c .before .before in
+    not-accepted _ _ _ _ _ (limits (begun end) .order) (all-done end) _ _ (t-is (c .before)) refl (c .if2 .taken)
 
 returns-3 : tie.Need-returns-3 Inv-loop μ-loop
 returns-3 c =
-    let end = c .before .before in
-    accepted _ _ _ _ _ (limits (begun end) .order) (all-done end) _ _ _ (t-is end) refl (c .before .if2 .left) (c .number-of .ensures .0)
-    (c .number-of .ensures .1)
+    let end = c .before .before .before in
+    accepted _ _ _ _ _ (limits (begun end) .order) (all-done end) _ _ _ (t-is (c .before .before)) refl (c .before .if2 .left)
+    (c .number-of .ensures .0) (c .number-of .ensures .1)
 
 pub vote-spec : {M : Type 1} → statement M
 vote-spec =
@@ -103,9 +113,8 @@ vote-spec =
     (tie.spec
     Inv-loop
     μ-loop
-    sub-two-to
-    two-to-requires
-    sub-radius
+    (λ c κs. search needs)
+    (λ c κs. search needs)
     add-size
     loop-holds
     (λ c. search needs)
@@ -113,6 +122,9 @@ vote-spec =
     returns
     (λ c. search needs)
     loop-again
+    sub-two-to
+    two-to-requires
+    sub-radius
     returns-2
     (λ c κs. search needs)
     returns-3)
