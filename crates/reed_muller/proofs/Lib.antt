@@ -4,3 +4,4 @@ pub mod ClassesTaken
 pub mod Votes
 pub mod RoundSteps
 pub mod VotedDown
+pub mod LastRound

@@ -4,13 +4,13 @@ use mathlib.Core.Path.{_≡_, refl, sym, ap, ap₂, _∙_, fun-ext}
 use mathlib.Core.Bool.{Bool, true, false, cond}
 use mathlib.Core.List.{List, [], _∷_, _++_}
 use Prim.Native.Nat.{ℕ, zero, suc, _+_, _-_, _*_, _/_, _%_, _^_, _≤_, _<_}
-use native.Mathlib.Nat.{mul-le-mul-right, le-trans, sub-self, sub-zero}
+use native.Mathlib.Nat.{mul-le-mul-left, mul-le-mul-right, le-trans, sub-self, sub-zero}
 use native.Mathlib.Omega.{arith}
 use lib.Bits.{bitOr}
 use lib.Count.{ones}
 use lib.Dec.{leb, ltb, eqb}
 use lib.ListN.{length, getD, length-append}
-use lib.Pow.{pow-mono, pow-add}
+use lib.Pow.{pow-mono, pow-pos, pow-add}
 use borrow.Author.Tests.{eqb-true, lt-leb, le-leb}
 use Rattle.bits.specs.Sums.{sumBelow, sumOver}
 use Rattle.bits.specs.Places.{bit, weight}
@@ -92,6 +92,12 @@ pub record VotedDown (r m chunk size left rows : ℕ) : Type 0 where
   pub bits : (p : ℕ) → p < 2 ^ m → bit left p ≡ afterRounds r m (bit chunk) (suc r - size) p
   pub counted : bitsThen (setsBelow m size) (voted r m (bit chunk)) rows ≡ votedRows r m (bit chunk)
   pub room : (rows + 1) * 2 ^ length (setsBelow m size) ≤ 4096
+
+-- so the rows fit twelve bits
+pub few-rows : {r m chunk size left rows : ℕ} → VotedDown r m chunk size left rows → rows < 4096
+few-rows {m = m} {size = size} {rows = rows} here =
+    let once : (rows + 1) * 1 ≤ (rows + 1) * 2 ^ length (setsBelow m size) = mul-le-mul-left (rows + 1) (pow-pos (length (setsBelow m size))) in
+    omega (arith, once, here .room)
 
 pub voting-starts : (r m chunk : ℕ) → chunk < 2 ^ 2 ^ m → countOfSets r m ≤ 12 → VotedDown r m chunk (suc r) chunk 0
 unfolding setsBelow afterRounds votedRows countOfSets

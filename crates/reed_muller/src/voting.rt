@@ -85,8 +85,9 @@ fn round(m: u32, size: u32, y: u64, rows: u32, sets: &[u8; 42], variables: &[u64
 }
 
 // Reads a chunk by voting: rounds from the products of r variables down to that of none, and the result is accepted only within t
-// bits. What is left after all rounds is where the chunk and the codeword that was voted for differ. Where a codeword lies within t
-// bits no vote is tied, so a tie shows at once that none does.
+// bits. Where a codeword lies within t bits no vote is tied, so a tie shows at once that none does.
+// Each class of the empty set is one position. So the last round needs no table: its votes for 1 are the ones that are left, and what
+// then is left, where the chunk and the codeword that was voted for differ, are those or all the others.
 pub fn vote(r: u32, m: u32, chunk: u64) -> Chunk
     requires { ⌜ (orderWithinLimits r m ≡ true) × (chunk < 2 ^ 2 ^ m) ⌝ }
     ensures { λ a. ⌜ a ≡ votedReading r m (bit chunk) ⌝ }
@@ -95,19 +96,24 @@ pub fn vote(r: u32, m: u32, chunk: u64) -> Chunk
     let variables = products::all_variables();
     let mut left = chunk;
     let mut rows: u32 = 0;
-    let mut size = r + 1;
+    let mut size = r;
     while size > 0 {
-        size -= 1;
         let voted = round(m, size, left, rows, &sets, &variables);
         if voted.tied {
             return Chunk::Unreadable;
         }
         left = voted.left;
         rows = voted.rows;
+        size -= 1;
     }
-    let unlike = u64::count_ones(left);
-    let radius = (powers::two_to(m - r) - 1) / 2;
-    if radius < unlike {
+    let n = powers::two_to(m);
+    let mut unlike = u64::count_ones(left);
+    rows *= 2;
+    if n < 2 * unlike {
+        unlike = n - unlike;
+        rows += 1;
+    }
+    if (powers::two_to(m - r) - 1) / 2 < unlike {
         return Chunk::Unreadable;
     }
     Chunk::Codeword {

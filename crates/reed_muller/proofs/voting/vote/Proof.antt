@@ -1,19 +1,22 @@
 -- `vote` meets its contract. The loop's invariant is `VotedDown`: what is left of the chunk and the rows found are those after the rounds
 -- done; the measure is the sizes still to come. Assumes nothing.
-use mathlib.Core.Path.{_≡_, refl, ap}
-use Prim.Native.Nat.{ℕ, suc, _-_, _/_, _^_, _≤_}
-use native.Mathlib.Numerals.{add-one}
+use mathlib.Core.Path.{_≡_, sym, ap, _∙_}
+use mathlib.Core.Logic.{⊎-elim}
+use Prim.Native.Nat.{ℕ, suc, _-_, _/_, _^_, _≤_, _<_}
 use native.Mathlib.Omega.{arith}
 use borrow.Author.Needs.{needs}
-use lib.Pow.{pow-pos}
+use lib.Bits.{bitXor}
+use lib.Count.{ones, ones-le}
+use lib.Pow.{pow-mono, pow-pos}
 use Rattle.model.specs.ReedMuller.{countOfSets}
 use Rattle.reed_muller_theory.proofs.OrderLimits.{limits-of-test, order-at-most-three}
-use Rattle.reed_muller.proofs.VotedDown.{VotedDown, voting-starts, voting-goes-on, voting-tied, setsBelow, not-accepted, accepted}
+use Rattle.reed_muller.proofs.VotedDown.{VotedDown, few-rows, voting-starts, voting-goes-on, voting-tied, setsBelow, not-accepted, accepted}
+use Rattle.reed_muller.proofs.LastRound.{taken-off, not-taken-off, ones-turned}
 use Rattle.reed_muller.proofs.voting.vote.Statement.{statement}
 use Rattle.reed_muller.proofs.voting.vote.Tie as tie
 
 abbrev Inv-loop : tie.InvT-loop
-Inv-loop r m chunk sets variables left₀ rows₀ size₀ left rows size = VotedDown r m chunk size left rows
+Inv-loop r m chunk sets variables left₀ rows₀ size₀ left rows size = VotedDown r m chunk (suc size) left rows
 
 abbrev μ-loop : tie.MeasureT-loop
 μ-loop r m chunk sets variables left₀ rows₀ size₀ left rows size = size
@@ -30,37 +33,29 @@ limits c =
     let (_, six, order, twelve) = limits-of-test (c .args .r) (c .args .m) (c .pre .0) in
     record { six = six; order = order; three = order-at-most-three (c .args .r) (c .args .m) (c .pre .0); twelve = twelve }
 
-add-size : tie.Need-add-size Inv-loop μ-loop
-add-size c = record { fits = omega (arith, limits (c .before .before) .three) }
-
 loop-holds : tie.Need-loop-holds Inv-loop μ-loop
 loop-holds c =
     let first = c .before .before in
-    rw (add-one (first .args .r)) (voting-starts (first .args .r) (first .args .m) (first .args .chunk) (first .pre .1) (limits first .twelve))
+    voting-starts (first .args .r) (first .args .m) (first .args .chunk) (first .pre .1) (limits first .twelve)
 
--- before a round
-module _ (c : tie.In-loop Inv-loop μ-loop) where
-  abbrev start : tie.Start Inv-loop μ-loop
-  start = c .before .before .before .before
+-- ---- a round
 
-  abbrev size : ℕ
-  size = c .before .loop .size - 1
-
-  here : VotedDown (start .args .r) (start .args .m) (start .args .chunk) (suc size) (c .before .loop .left) (c .before .loop .rows)
-  here = let back : suc size ≡ c .before .loop .size = omega (arith, c .loop-test .taken) in rw back (c .before .loop .inv)
+abbrev start : tie.In-loop Inv-loop μ-loop → tie.Start Inv-loop μ-loop
+start c = c .before .before .before .before
 
 round-requires : tie.Need-round-requires Inv-loop μ-loop
 unfolding setsBelow countOfSets
 round-requires c κs =
     let before = c .before .before in
     let within = limits (start before) in
-    let made = before .before .before in (
+    let made = before .before .before in
+    let here = before .before .loop .inv in (
       (
         within .six,
-        omega (arith, here before .started, within .order),
-        omega (arith, here before .started, within .three),
-        here before .narrow,
-        here before .room,
+        omega (arith, here .started, within .order),
+        omega (arith, here .started, within .three),
+        here .narrow,
+        here .room,
       ),
       (made .before .all-sets .ensures, made .all-variables .ensures),
     )
@@ -68,44 +63,98 @@ round-requires c κs =
 returns : tie.Need-returns Inv-loop μ-loop
 returns c =
     let before = c .before .before .before .before in
-    voting-tied _ _ _ (size before) _ _ (here before) (limits (start before) .order) (c .before .round .ensures .0 (c .if1 .taken))
+    voting-tied _ _ _ (before .before .loop .size) _ _ (before .before .loop .inv) (limits (start before) .order) (c .before .round .ensures .0 (c .if1 .taken))
 
 loop-again : tie.Need-loop-again Inv-loop μ-loop
 loop-again c =
     let before = c .before .before .before .before in
     let round = c .before .round .ensures .1 in
-    voting-goes-on _ _ _ (size before) _ _ (here before) _ _ (round .0 (c .if1 .left)) (round .1 (c .if1 .left))
+    let next : suc (before .before .loop .size - 1) ≡ before .before .loop .size = omega (arith, before .loop-test .taken) in
+    rw next (voting-goes-on _ _ _ (before .before .loop .size) _ _ (before .before .loop .inv) _ _ (round .0 (c .if1 .left)) (round .1 (c .if1 .left)))
 
--- after all rounds
-module _ (c : tie.After-loop Inv-loop μ-loop) where
+-- ---- the last round
+
+module _ (c : tie.After-two-to Inv-loop μ-loop) where
   abbrev begun : tie.Start Inv-loop μ-loop
-  begun = c .before .before .before .before
+  begun = c .before .before .before .before .before
 
-  all-done : VotedDown (begun .args .r) (begun .args .m) (begun .args .chunk) 0 (c .before .loop .left) (c .before .loop .rows)
-  all-done = let none : c .before .loop .size ≡ 0 = omega (arith, c .loop-test .left) in rw none at (c .before .loop .inv)
+  abbrev left : ℕ
+  left = c .before .before .loop .left
 
-sub-two-to : tie.Need-sub-two-to Inv-loop μ-loop
-sub-two-to c = limits (begun c) .order
+  here : VotedDown (begun .args .r) (begun .args .m) (begun .args .chunk) 1 left (c .before .before .loop .rows)
+  here = let none : c .before .before .loop .size ≡ 0 = omega (arith, c .before .loop-test .left) in rw none at (c .before .before .loop .inv)
+
+  n-is : c .two-to .result ≡ 2 ^ begun .args .m
+  n-is = c .two-to .ensures
+
+  few-ones : ones left ≤ 2 ^ begun .args .m
+  few-ones = ones-le (2 ^ begun .args .m) left (here .narrow)
 
 two-to-requires : tie.Need-two-to-requires Inv-loop μ-loop
-two-to-requires c κs = omega (arith, limits (begun c) .six)
+two-to-requires c κs = omega (arith, limits (c .before .before .before .before) .six)
 
-sub-radius : tie.Need-sub-radius Inv-loop μ-loop
-sub-radius c = omega (arith, c .two-to .ensures, pow-pos (begun (c .before) .args .m - begun (c .before) .args .r))
+mul-rows : tie.Need-mul-rows Inv-loop μ-loop
+mul-rows c = record { fits = omega (arith, few-rows (here c)) }
 
-t-is : (c : tie.After-two-to Inv-loop μ-loop) → (c .two-to .result - 1) / 2 ≡ (2 ^ (begun (c .before) .args .m - begun (c .before) .args .r) - 1) / 2
-t-is c = ap (λ (d : ℕ). (d - 1) / 2) (c .two-to .ensures)
+mul-if2 : tie.Need-mul-if2 Inv-loop μ-loop
+mul-if2 c = record { fits = omega (arith, few-ones c, pow-mono {i = begun c .args .m} {j = 6} (limits (begun c) .six)) }
+
+sub-unlike : tie.Need-sub-unlike Inv-loop μ-loop
+sub-unlike c = omega (arith, few-ones (c .before), n-is (c .before))
+
+add-rows : tie.Need-add-rows Inv-loop μ-loop
+add-rows c = record { fits = omega (arith, few-rows (here (c .before))) }
+
+-- what it leaves, whether or not the product of no variable is taken off
+record Ended (r m chunk unlike rows : ℕ) : Type 0 where
+  left-over : ℕ
+  voted : VotedDown r m chunk 0 left-over rows
+  count : unlike ≡ ones left-over
+
+ended : (c : tie.Joined2 Inv-loop μ-loop)
+    → Ended (begun (c .before) .args .r) (begun (c .before) .args .m) (begun (c .before) .args .chunk) (c .if2 .unlike) (c .if2 .rows)
+ended c =
+    let last = c .before in
+    let first = begun last in
+    let six = limits first .six in
+    ⊎-elim
+    (λ w.
+    record {
+      left-over = bitXor (left last) (2 ^ 2 ^ first .args .m - 1);
+      voted = rw (w .1) (taken-off _ _ _ _ _ six (here last) (omega (arith, w .0 .taken, n-is last)));
+      count = w .2 ∙ ap (λ (n : ℕ). n - ones (left last)) (n-is last) ∙ sym (ones-turned (first .args .m) (left last) six (here last .narrow));
+    })
+    (λ w.
+    record {
+      left-over = left last;
+      voted = rw (w .1) (not-taken-off _ _ _ _ _ six (here last) (omega (arith, w .0 .left, n-is last)));
+      count = w .2;
+    })
+    (c .if2 .came)
+
+sub-two-to : tie.Need-sub-two-to Inv-loop μ-loop
+sub-two-to c = limits (begun (c .before)) .order
+
+two-to-requires-2 : tie.Need-two-to-requires-2 Inv-loop μ-loop
+two-to-requires-2 c κs = omega (arith, limits (begun (c .before)) .six)
+
+sub-if3 : tie.Need-sub-if3 Inv-loop μ-loop
+sub-if3 c = let first = begun (c .before .before) in omega (arith, c .two-to2 .ensures, pow-pos (first .args .m - first .args .r))
+
+t-is : (c : tie.After-two-to2 Inv-loop μ-loop)
+    → (c .two-to2 .result - 1) / 2 ≡ (2 ^ (begun (c .before .before) .args .m - begun (c .before .before) .args .r) - 1) / 2
+t-is c = ap (λ (d : ℕ). (d - 1) / 2) (c .two-to2 .ensures)
 
 returns-2 : tie.Need-returns-2 Inv-loop μ-loop
 returns-2 c =
-    let end = c .before .before in
-    not-accepted _ _ _ _ _ (limits (begun end) .order) (all-done end) _ _ (t-is (c .before)) refl (c .if2 .taken)
+    let end = ended (c .before .before) in
+    not-accepted _ _ _ _ _ (limits (begun (c .before .before .before)) .order) (end .voted) _ _ (t-is (c .before)) (end .count) (c .if3 .taken)
 
 returns-3 : tie.Need-returns-3 Inv-loop μ-loop
 returns-3 c =
-    let end = c .before .before .before in
-    accepted _ _ _ _ _ (limits (begun end) .order) (all-done end) _ _ _ (t-is (c .before .before)) refl (c .before .if2 .left)
-    (c .number-of .ensures .0) (c .number-of .ensures .1)
+    let end = ended (c .before .before .before) in
+    accepted _ _ _ _ _ (limits (begun (c .before .before .before .before)) .order) (end .voted) _ _ _ (t-is (c .before .before)) (end .count)
+    (c .before .if3 .left) (c .number-of .ensures .0) (c .number-of .ensures .1)
 
 pub vote-spec : {M : Type 1} → statement M
 vote-spec =
@@ -115,16 +164,20 @@ vote-spec =
     μ-loop
     (λ c κs. search needs)
     (λ c κs. search needs)
-    add-size
     loop-holds
-    (λ c. search needs)
     round-requires
     returns
     (λ c. search needs)
+    (λ c. search needs)
     loop-again
-    sub-two-to
     two-to-requires
-    sub-radius
+    mul-rows
+    mul-if2
+    sub-unlike
+    add-rows
+    sub-two-to
+    two-to-requires-2
+    sub-if3
     returns-2
     (λ c κs. search needs)
     returns-3)
