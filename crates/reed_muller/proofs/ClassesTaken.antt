@@ -1,9 +1,9 @@
 -- The classes of a set, and all sums over them by shifts: what holds as the variables of the set are taken one by one, lowest first.
 -- Assumes nothing.
-use mathlib.Core.Path.{_≡_, refl, sym, ap, ap₂, _∙_}
+use mathlib.Core.Path.{_≡_, sym, ap, ap₂, _∙_}
 use mathlib.Core.List.{List}
 use mathlib.Core.Logic.{_⊎_, inl, inr, ⊎-elim}
-use Prim.Native.Nat.{ℕ, zero, suc, _+_, _-_, _*_, _%_, _^_, _≤_, _<_, min}
+use Prim.Native.Nat.{ℕ, _+_, _-_, _*_, _%_, _^_, _≤_, _<_, min}
 use native.Mathlib.Nat.{add-comm, le-trans, mod-eq-of-lt}
 use native.Mathlib.Omega.{arith}
 use lib.Bits.{bitAnd, bitXor, and-le-l}
@@ -149,8 +149,8 @@ module _ (y set positions sums row rest : ℕ) (taken : Taken y set positions su
   pub all-summed : (c : ℕ) → c < 64 → product set c ≡ 1 → bit sums c ≡ classSum 6 set (bit y) c
   all-summed c l has = rw all (taken .summed c l (rw all at has))
 
-  pub row-is-product : (m : ℕ) → m ≤ 6 → positions ≡ 2 ^ 2 ^ m - 1 → row ≡ productRow m set
-  row-is-product m six are =
+  pub product-taken : (m : ℕ) → m ≤ 6 → positions ≡ 2 ^ 2 ^ m - 1 → row ≡ productRow m set
+  product-taken m six are =
       bit-ext-below (2 ^ m) row (productRow m set) (omega (arith, taken .inside, pow-pos (2 ^ m))) (product-row-narrow m set)
       (λ p l.
       let one : bit positions p ≡ 1 = rw are (bit-all-ones (2 ^ m) p l) in

@@ -3,20 +3,17 @@ use mathlib.Core.Path.{_≡_, refl, sym, ap, _∙_, fun-ext}
 use mathlib.Core.Bool.{cond}
 use mathlib.Core.List.{List, [], _∷_, _++_, append-nil}
 use mathlib.Core.Logic.{⊎-elim}
-use Prim.Native.Nat.{ℕ, zero, suc, _+_, _-_, _^_, _≤_, _<_}
+use Prim.Native.Nat.{ℕ, _+_, _-_, _^_, _≤_, _<_}
 use native.Mathlib.Numerals.{add-one}
 use native.Mathlib.Omega.{arith}
 use lib.Dec.{ltb}
-use lib.Bits.{bitAnd}
 use lib.ListN.{length, getD, set, take, drop, replicate, length-set, length-append, take-append-drop, List·getD-append, List·getD-eq-default}
 use lib.Seq.{take-suc, take-length, getD-at, getD-set-same, getD-set-other}
 use borrow.Author.Tests.{lt-ltb, le-ltb}
 use Rattle.bits.proofs.Numbers.{lt-or-le, eq-or-ne}
-use Rattle.bits.specs.Sums.{sumBelow}
-use Rattle.bits.specs.Places.{weight}
 use Rattle.bits.proofs.ByteLists.{zero-byte}
-use Rattle.model.specs.ReedMuller.{those, setsOf, setsUpTo, countOfSets, productRow, productOf}
-use Rattle.reed_muller_theory.proofs.FewerVariables.{kept, kept-append, kept-below, kept-above, kept-sets, sets-first}
+use Rattle.model.specs.ReedMuller.{setsUpTo, countOfSets, productRow, productOf}
+use Rattle.reed_muller_theory.proofs.FewerVariables.{kept, kept-append, kept-below, kept-above, kept-sets}
 
 -- row z of the sets in a list; past them zero
 abbrev pub rowAt : (m : ℕ) (l : List ℕ) (z : ℕ) → ℕ

@@ -13,7 +13,7 @@ use Rattle.bits.specs.Places.{bit, weight}
 use Rattle.bits.proofs.Sums.{sum-ext, sum-add, sum-of-ones}
 use Rattle.bits.proofs.Binary.{bit-bit, bit-zero, bit-ext-below, weight-zero, weight-ones, ones-xor}
 use Rattle.bits.proofs.Shifts.{bit-all-ones}
-use Rattle.model.specs.ReedMuller.{product, those, setsOf, setsUpTo, countOfSets, productRow, classes, votesForOne}
+use Rattle.model.specs.ReedMuller.{those, setsOf, setsUpTo, countOfSets, productRow, classes, votesForOne}
 use Rattle.reed_muller_theory.proofs.Classes.{count-of-classes}
 use Rattle.reed_muller_theory.proofs.Polynomials.{product-row-bit, product-row-narrow}
 use Rattle.reed_muller_theory.proofs.ClassSums.{has-if-every, class-sum-alone}

@@ -1,30 +1,28 @@
 -- One round of votes, set by set from the table's end of that size down to its start: what is left of y and what was found stand for
 -- the sets met so far. Assumes nothing.
 use mathlib.Core.Path.{_≡_, refl, sym, ap, _∙_}
-use mathlib.Core.Bool.{cond}
-use mathlib.Core.List.{List, [], _∷_, _++_}
-use mathlib.Core.Logic.{⊎-elim}
+use mathlib.Core.List.{List, [], _∷_}
 use Prim.Native.Nat.{ℕ, zero, suc, _+_, _-_, _*_, _%_, _^_, _≤_, _<_}
-use native.Mathlib.Nat.{le-dest, add-zero, mul-le-mul-left, mul-le-mul-right, le-trans, mod-eq-of-lt}
+use native.Mathlib.Nat.{le-dest, mul-le-mul-left}
 use native.Mathlib.Numerals.{add-one}
 use native.Mathlib.Omega.{arith}
 use lib.Bits.{bitXor, xor-lt}
-use lib.Dec.{ltb, eqb}
-use lib.ListN.{length, getD, take, drop, length-append, take-append-drop}
-use lib.Pow.{pow-mono, pow-pos, pow-add}
+use lib.Dec.{eqb}
+use lib.ListN.{length, getD, drop, length-append}
+use lib.Pow.{pow-mono}
 use lib.Seq.{drop-cons, drop-length, drop-append-seam, getD-append-add}
 use borrow.Author.Tests.{lt-ltb, le-ltb, eqb-true}
-use Rattle.bits.specs.Sums.{sumBelow, sumOver, unlike}
+use Rattle.bits.specs.Sums.{sumOver, unlike}
 use Rattle.bits.specs.Places.{bit, weight}
-use Rattle.bits.proofs.Numbers.{by-test}
 use Rattle.bits.proofs.Sums.{sum-mono}
 use Rattle.bits.proofs.Binary.{bit-bit, bit-xor}
 use Rattle.model.specs.ReedMuller.{product, setsOf, setsUpTo, countOfSets, productRow, classSum, classes, votesForOne, coefficient, round}
-use Rattle.reed_muller_theory.proofs.Sets.{those-pass}
+use Rattle.reed_muller_theory.proofs.Sets.{those-pass, weight-wider}
 use Rattle.reed_muller_theory.proofs.OrderLimits.{count-grows}
+use Rattle.reed_muller_theory.proofs.Vote.{vote-bit}
 use Rattle.reed_muller_theory.proofs.LeastDistance.{classes-of-largest}
 use Rattle.reed_muller_theory.proofs.Polynomials.{product-row-bit, product-row-narrow}
-use Rattle.reed_muller_theory.proofs.FewerVariables.{kept, kept-append, kept-below, kept-above, kept-sets-of, kept-sets, weight-wider}
+use Rattle.reed_muller_theory.proofs.FewerVariables.{kept, kept-below, kept-above, kept-sets-of, kept-sets}
 use Rattle.reed_muller.specs.Table.{setsBefore}
 use Rattle.reed_muller.specs.Rounds.{bitsThen, rowsAfter, LeftBy}
 use Rattle.reed_muller.proofs.FilledRows.{kept-last}
@@ -38,12 +36,6 @@ bits-bound [] f above bits = omega arith
 bits-bound (S ∷ l) f above bits =
     let twice : 2 ^ suc (length l) ≡ 2 * 2 ^ length l = omega arith in
     rw twice (omega (arith, bits-bound l f above bits, bits S))
-
--- a coefficient is 0 or 1
-pub coefficient-bit : (m : ℕ) (y : ℕ → ℕ) (S : ℕ) → coefficient m y S < 2
-unfolding coefficient
-coefficient-bit m y S =
-    by-test (λ (b : ℕ). b < 2) (ltb (classes m S) (2 * votesForOne m S y)) (λ e. omega arith) (λ e. omega arith)
 
 -- as the votes are compared with the classes
 pub most-for-one : (m S : ℕ) (y : ℕ → ℕ) (twice classes′ : ℕ) → twice ≡ 2 * votesForOne m S y → classes′ ≡ classes m S → classes′ < twice
@@ -163,7 +155,7 @@ module _ (m s y rows : ℕ) where
       unfolding countOfSets
       found-bound six room =
           let bound : found + 1 ≤ (rows + 1) * 2 ^ length (met m s (at + 1)) =
-          rw (here .counted) (bits-bound (met m s (at + 1)) (coefficient m (bit y)) rows (coefficient-bit m (bit y))) in
+          rw (here .counted) (bits-bound (met m s (at + 1)) (coefficient m (bit y)) rows (vote-bit m (bit y))) in
           let longer : suc (length (met m s (at + 1))) ≤ countOfSets s m =
           omega (arith, ap length grown, kept-last (2 ^ m) at (setsUpTo 6 s), ap length (kept-sets m 6 s six)) in
           let more : (rows + 1) * 2 ^ suc (length (met m s (at + 1))) ≤ (rows + 1) * 2 ^ countOfSets s m = mul-le-mul-left (rows + 1) (pow-mono longer) in

@@ -1,7 +1,7 @@
 -- All rounds of votes, from the sets of r variables down: what is left and the rows found stand for the rounds done. A round goes by the
 -- 2^m positions alone, so it may be said of the number that holds them. Assumes nothing.
 use mathlib.Core.Path.{_≡_, refl, sym, ap, ap₂, _∙_, fun-ext}
-use mathlib.Core.Bool.{Bool, true, false, cond}
+use mathlib.Core.Bool.{true, cond}
 use mathlib.Core.List.{List, [], _∷_, _++_}
 use Prim.Native.Nat.{ℕ, zero, suc, _+_, _-_, _*_, _/_, _%_, _^_, _≤_, _<_}
 use native.Mathlib.Nat.{mul-le-mul-left, mul-le-mul-right, le-trans, sub-self, sub-zero}
@@ -23,11 +23,12 @@ use Rattle.model.specs.ReedMuller.{setsOf, setsUpTo, countOfSets, reedMuller, c
 use Rattle.model.specs.ReedMuller.{product, votedRows, votedNumber, votedDistance, votedWithin, votedReading}
 use Rattle.model.specs.declared.Chunk.the-variants.{Codeword, Unreadable}
 use Rattle.reed_muller_theory.proofs.Sets.{those-pass}
+use Rattle.reed_muller_theory.proofs.Vote.{vote-bit}
 use Rattle.reed_muller_theory.proofs.LeastDistance.{least-distance}
 use Rattle.reed_muller_theory.proofs.VotedReading.{rows-below, number-is, tied-is-unreadable}
 use Rattle.reed_muller_theory.proofs.LeftOver.{left-count}
 use Rattle.reed_muller.specs.Rounds.{bitsThen, rowsAfter, Tied, LeftBy}
-use Rattle.reed_muller.proofs.RoundSteps.{bits-bound, coefficient-bit}
+use Rattle.reed_muller.proofs.RoundSteps.{bits-bound}
 
 -- ---- a round goes by the positions
 
@@ -151,7 +152,7 @@ module _ (r m chunk s left rows : ℕ) (here : VotedDown r m chunk (suc s) left 
       ∙ ap (λ (e : ℕ). 2 ^ e) (length-append (setsBelow m s) (setsOf m s))
       ∙ pow-add 2 (length (setsBelow m s)) (length (setsOf m s)) in
       let bound : (rowsAfter m s left rows + 1) * before ≤ (rows + 1) * own * before =
-      mul-le-mul-right before (bits-bound (setsOf m s) (coefficient m (bit left)) rows (coefficient-bit m (bit left))) in
+      mul-le-mul-right before (bits-bound (setsOf m s) (coefficient m (bit left)) rows (vote-bit m (bit left))) in
       le-trans bound (rw (exchange (rows + 1) own before, ← whole) (here .room))
     where
       exchange : (a b c : ℕ) → a * b * c ≡ a * (c * b)

@@ -1,13 +1,12 @@
 -- The votes of a set are the ones of its class sums at the positions that name its classes, the ones of its row. Assumes nothing.
-use mathlib.Core.Path.{_≡_, refl, sym, ap, _∙_}
+use mathlib.Core.Path.{_≡_, sym, ap, _∙_}
 use mathlib.Core.Logic.{⊎-elim}
-use Prim.Native.Nat.{ℕ, zero, suc, _+_, _*_, _%_, _^_, _≤_, _<_, min}
+use Prim.Native.Nat.{ℕ, _*_, _^_, _≤_, _<_, min}
 use native.Mathlib.Nat.{lt-of-le-of-lt}
 use native.Mathlib.Omega.{arith}
 use lib.Bits.{bitAnd, and-le-r}
 use lib.Count.{ones}
 use lib.Pow.{pow-mono}
-use Rattle.bits.specs.Sums.{sumBelow}
 use Rattle.bits.specs.Places.{bit, weight}
 use Rattle.bits.proofs.Numbers.{eq-or-ne}
 use Rattle.bits.proofs.Sums.{sum-ext}

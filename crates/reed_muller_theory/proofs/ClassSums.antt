@@ -1,18 +1,18 @@
 -- All class sums of a set at once. The sum over a class of A and one more variable v is that over the class of A at the same position
 -- and that at the position without v: so a word added to itself, shifted by 2^v, takes the class sums of A to those of A and v.
 -- Assumes nothing.
-use mathlib.Core.Path.{_≡_, refl, sym, ap, ap₂, _∙_}
+use mathlib.Core.Path.{_≡_, sym, ap, ap₂, _∙_}
 use mathlib.Core.Bool.{Bool, true, false, cond}
 use mathlib.Core.Logic.{⊎-elim}
-use Prim.Native.Nat.{ℕ, zero, suc, _+_, _-_, _*_, _%_, _^_, _≤_, _<_, min, max}
+use Prim.Native.Nat.{ℕ, _+_, _-_, _*_, _%_, _^_, _≤_, _<_, min}
 use native.Mathlib.Nat.{add-zero, le-dest}
 use native.Mathlib.Omega.{arith}
-use lib.Bits.{bitAnd, bitOr, bitXor, or-zero-r, or-add-and, and-le-l, and-le-r}
+use lib.Bits.{bitAnd, bitOr, or-zero-r, or-add-and, and-le-r}
 use lib.Dec.{eqb}
 use lib.Pow.{pow-mono}
-use borrow.Author.Tests.{eq-eqb, ne-eqb, eqb-true}
+use borrow.Author.Tests.{eq-eqb, ne-eqb}
 use Rattle.bits.specs.Sums.{sumBelow, unlike}
-use Rattle.bits.specs.Places.{bit, weight}
+use Rattle.bits.specs.Places.{bit}
 use Rattle.bits.proofs.Numbers.{eq-or-ne}
 use Rattle.bits.proofs.Sums.{sum-ext, sum-add, sum-zero, sum-split, sum-one-odd}
 use Rattle.bits.proofs.Binary.{bit-bit, bit-ext, bit-and, bit-or, bit-pow-same, bit-pow-other, bit-set-here, bit-set-other}
@@ -33,11 +33,6 @@ has-every-bit S p one v =
 pub has-if-every : (S p : ℕ) → ((v : ℕ) → bit S v ≤ bit p v) → product S p ≡ 1
 unfolding product
 has-if-every S p every = same-yes (bitAnd p S) S (bit-ext (bitAnd p S) S (λ v. bit-and p S v ∙ omega (arith, every v)))
-
--- a position that has every bit of S is S at least
-pub has-is-larger : (S p : ℕ) → p < S → product S p ≡ 0
-unfolding product
-has-is-larger S p less = same-no (bitAnd p S) S (λ e. omega (arith, and-le-l p S))
 
 -- the product with one variable more
 pub product-more : (A v p : ℕ) → bit A v ≡ 0 → product (A + 2 ^ v) p ≡ min (product A p) (product (2 ^ v) p)

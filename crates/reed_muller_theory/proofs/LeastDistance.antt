@@ -2,23 +2,22 @@
 -- variables; each of its classes, of which there are 2^(m-r) at least, sums to 1 and so holds a one, and classes share no position.
 -- The product of r variables weighs 2^(m-r). So the rows are independent too, and the code is sound. Assumes nothing.
 use mathlib.Core.Path.{_≡_, refl, sym, ap, _∙_}
-use mathlib.Core.Bool.{Bool, true, false, cond}
+use mathlib.Core.Bool.{cond}
 use mathlib.Core.Logic.{_⊎_, inl, inr, ⊎-elim}
 use Prim.Native.Nat.{ℕ, zero, suc, _+_, _-_, _*_, _/_, _%_, _^_, _≤_, _<_}
 use native.Mathlib.Nat.{mul-le-mul-left, mul-le-mul-right, le-trans, le-antisymm, eq-zero-or-pos}
 use native.Mathlib.Omega.{arith}
-use lib.Dec.{leb, ltb, eqb}
+use lib.Dec.{leb, eqb}
 use lib.Pow.{pow-add, pow-lt, pow-mono, pow-pos}
-use borrow.Author.Tests.{le-leb, eq-eqb, ne-eqb, le-ltb}
+use borrow.Author.Tests.{le-leb, eq-eqb, ne-eqb}
 use Rattle.bits.specs.Sums.{sumBelow}
 use Rattle.bits.specs.Places.{bit, weight}
 use Rattle.bits.specs.Searches.{leastAt}
 use Rattle.bits.proofs.Numbers.{lt-or-le, eq-or-ne, by-test}
 use Rattle.bits.proofs.Sums.{sum-ext, sum-mono, some-summand, sum-parity, times-parity}
 use Rattle.bits.proofs.Searches.{leastAt-high, leastAt-least}
-use Rattle.bits.proofs.Binary.{bit-bit, bit-zero, bit-ext-below, bit-pow-same, weight-le, weight-zero, zero-of-weight}
-use Rattle.bits.proofs.Places.{number-below}
-use Rattle.model.specs.Card.{Code, sumOfRows, leastWeight}
+use Rattle.bits.proofs.Binary.{bit-bit, bit-zero, weight-le, weight-zero, zero-of-weight}
+use Rattle.model.specs.Card.{sumOfRows, leastWeight}
 use Rattle.model.specs.ReedMuller.{product, setOf, countOfSets, productRow, productOf, reedMuller, classes}
 use Rattle.code_theory.specs.Promise.{Sound}
 use Rattle.code_theory.proofs.Codewords.{rows-of-none, rows-of-one}

@@ -1,6 +1,6 @@
 -- What is left after all rounds is where the chunk and the codeword that was voted for differ: each product that was voted for has been
 -- taken off once, in the round of its size. Assumes nothing.
-use mathlib.Core.Path.{_≡_, refl, sym, ap, _∙_}
+use mathlib.Core.Path.{_≡_, sym, ap, _∙_}
 use mathlib.Core.Logic.{_⊎_, inl, inr}
 use Prim.Native.Nat.{ℕ, zero, suc, _+_, _-_, _*_, _%_, _^_, _≤_, _<_}
 use native.Mathlib.Nat.{sub-zero, sub-self}
@@ -11,7 +11,7 @@ use Rattle.bits.specs.Sums.{sumBelow, sumOver, distance, unlike}
 use Rattle.bits.specs.Places.{bit, weight}
 use Rattle.bits.proofs.Numbers.{eq-or-ne}
 use Rattle.bits.proofs.Sums.{sum-ext, sum-over-append, sum-over-entries}
-use Rattle.model.specs.Order.{gray, codeword}
+use Rattle.model.specs.Order.{codeword}
 use Rattle.model.specs.Reading.{chunkDistance}
 use Rattle.model.specs.ReedMuller.{product, setsOf, setsUpTo, setOf, countOfSets, productOf, reedMuller, coefficient, round, afterRounds, voted}
 use Rattle.model.specs.ReedMuller.{votedRows, votedNumber, votedDistance}

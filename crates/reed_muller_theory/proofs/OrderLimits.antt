@@ -1,21 +1,26 @@
--- The greatest order within the limits: k grows with the order, so an order is within the limits where it is at most the greatest one
--- that is. Assumes nothing.
-use mathlib.Core.Path.{_≡_, refl, sym, _∙_}
-use mathlib.Core.Bool.{Bool, true, false, not, _&&_, _||_}
+-- The limits of order and variables. k grows with the order, so an order is within the limits where it is at most the greatest one that
+-- is; that the greatest ones for 1 to 6 variables are those of a table is computed, and serves refusal 13 alone. That no order within
+-- the limits is above 3 holds because k is at least 2^r. Assumes nothing.
+use mathlib.Core.Path.{_≡_, refl, sym, ap, _∙_}
+use mathlib.Core.Bool.{Bool, true, false, cond, not, _&&_, _||_}
 use mathlib.Core.List.{List, [], _∷_}
 use mathlib.Core.Logic.{⊎-elim}
-use Prim.Native.Nat.{ℕ, zero, suc, _+_, _-_, _≤_, _<_}
+use Prim.Native.Nat.{ℕ, zero, suc, _+_, _^_, _≤_, _<_}
 use native.Mathlib.Nat.{add-zero, add-suc, le-dest}
 use native.Mathlib.Omega.{arith}
 use lib.Dec.{leb, ltb, eqb}
 use lib.ListN.{length, getD, length-append}
-use borrow.Author.Tests.{le-leb, lt-leb, leb-true, ltb-true, ltb-false, eqb-true, not-false}
+use lib.Pow.{pow-mono}
+use borrow.Author.Tests.{le-leb, lt-leb, leb-true, ltb-true, eqb-true, not-false}
 use Rattle.bits.specs.Sums.{sumBelow}
 use Rattle.bits.specs.Places.{weight}
 use Rattle.bits.specs.Searches.{anyBelow}
-use Rattle.bits.proofs.Numbers.{lt-or-le, true-or-false, and-true-left, and-true-right}
+use Rattle.bits.proofs.Numbers.{lt-or-le, and-true-left, and-true-right}
+use Rattle.bits.proofs.Sums.{sum-ext, sum-of-ones, sum-longer}
+use Rattle.bits.proofs.Binary.{weight-le}
 use Rattle.bits.proofs.Searches.{none-of-any}
 use Rattle.model.specs.ReedMuller.{those, setsOf, setsUpTo, countOfSets, orderWithinLimits}
+use Rattle.reed_muller_theory.proofs.Sets.{where-true, sum-over-rows, weight-wider}
 
 -- ---- k grows with the order
 
@@ -104,17 +109,32 @@ limits-of-test r m e =
       leb-true (countOfSets r m) 12 (and-true-right (leb 1 m && leb m 6 && leb r m) _ e),
     )
 
--- so no order within the limits is above 3
-none-above-three : anyBelow (λ i. ltb 3 (getD greatestOrders i 0)) 7 ≡ false
-unfolding anyBelow greatestOrders
-none-above-three = refl
+-- ---- k is at least 2^r, so with at most 12 rows the order is at most 3
 
-pub greatest-at-most-three : (m : ℕ) → m ≤ 6 → getD greatestOrders m 0 ≤ 3
-greatest-at-most-three m six =
-    ltb-false 3 (getD greatestOrders m 0) (none-of-any (λ i. ltb 3 (getD greatestOrders i 0)) 7 none-above-three m (omega arith))
+-- every set of the first r variables is one of at most r variables
+pub count-at-least : (r m : ℕ) → r ≤ m → 2 ^ r ≤ countOfSets r m
+count-at-least r m order =
+    let first : sumBelow (λ S. 1) (2 ^ r) ≡ sumBelow (where-true (λ S. leb (weight m S) r) (λ S. 1)) (2 ^ r) =
+    sum-ext (2 ^ r) (λ S l. sym (ap (λ (t : Bool). cond t 1 0) (le-leb (weight m S) r (few S l)))) in
+    omega (
+      arith,
+      first,
+      sum-of-ones (2 ^ r),
+      sum-longer (where-true (λ S. leb (weight m S) r) (λ S. 1)) (pow-mono {i = r} {j = m} order),
+      sum-over-rows r m (λ S. 1),
+      sum-of-ones (countOfSets r m),
+    )
+  where
+    few : (S : ℕ) → S < 2 ^ r → weight m S ≤ r
+    few S l = omega (arith, weight-wider r m S order l, weight-le r S)
 
 pub order-at-most-three : (r m : ℕ) → orderWithinLimits r m ≡ true → r ≤ 3
 order-at-most-three r m e =
-    let (low, high, _, _) = limits-of-test r m e in
-    let greatest : r ≤ getD greatestOrders m 0 = leb-true r (getD greatestOrders m 0) (limit-in-table r m low high ∙ e) in
-    omega (arith, greatest-at-most-three m high)
+    let (_, _, order, twelve) = limits-of-test r m e in
+    ⊎-elim (λ (more : 3 < r). omega (arith, count-at-least r m order, pow-mono {i = 4} {j = r} more)) (λ (l : r ≤ 3). l) (lt-or-le 3 r)
+
+-- an entry of the table is such an order too
+pub greatest-at-most-three : (m : ℕ) → 1 ≤ m → m ≤ 6 → getD greatestOrders m 0 ≤ 3
+greatest-at-most-three m low high =
+    let o : ℕ = getD greatestOrders m 0 in
+    order-at-most-three o m (sym (limit-in-table o m low high) ∙ le-leb o o (omega arith))

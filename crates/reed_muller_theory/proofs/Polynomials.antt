@@ -4,24 +4,24 @@
 use mathlib.Core.Path.{_≡_, refl, sym, ap, _∙_}
 use mathlib.Core.Bool.{Bool, true, false, cond}
 use mathlib.Core.Logic.{⊎-elim}
-use Prim.Native.Nat.{ℕ, zero, suc, _+_, _-_, _*_, _%_, _^_, _≤_, _<_}
+use Prim.Native.Nat.{ℕ, zero, suc, _-_, _*_, _%_, _^_, _≤_, _<_}
 use native.Mathlib.Nat.{zero-mul, one-mul, mod-add-mod}
 use native.Mathlib.Omega.{arith}
 use lib.Bits.{bitAnd}
 use lib.Dec.{leb, ltb, eqb}
 use lib.Pow.{pow-pos}
 use borrow.Author.Tests.{lt-leb, lt-ltb, le-ltb}
-use Rattle.bits.specs.Sums.{sumBelow, unlike}
+use Rattle.bits.specs.Sums.{sumBelow}
 use Rattle.bits.specs.Places.{bit, weight}
 use Rattle.bits.proofs.Numbers.{lt-or-le, by-test}
-use Rattle.bits.proofs.Sums.{sum-ext, times-parity, sum-parity, sum-one-odd}
+use Rattle.bits.proofs.Sums.{sum-ext, sum-one-odd}
 use Rattle.bits.proofs.Binary.{bit-bit, bit-zero, bit-xor}
 use Rattle.bits.proofs.Places.{number-below, bit-of-number}
 use Rattle.model.specs.Card.{sumOfRows}
 use Rattle.model.specs.ReedMuller.{product, setOf, countOfSets, productRow, productOf}
 use Rattle.reed_muller_theory.proofs.LowestVariable.{member, sum-scaled}
 use Rattle.reed_muller_theory.proofs.Classes.{onesIn, own-product, other-product, even-right, sum-exchange}
-use Rattle.reed_muller_theory.proofs.Sets.{where-true, sum-over-rows, rowOfSet, row-of-set}
+use Rattle.reed_muller_theory.proofs.Sets.{sum-over-rows, rowOfSet, row-of-set}
 
 -- ---- polynomials
 

@@ -1,17 +1,17 @@
 -- The rounds of document 004, from the products of r variables down. Before the round of size s, what is left of a damaged codeword
 -- is its products of at most s variables, with the same positions turned; so every vote of the round is right, and taking the
 -- products off that were voted for leaves those of fewer variables. Assumes nothing.
-use mathlib.Core.Path.{_≡_, refl, sym, ap, _∙_}
-use mathlib.Core.Bool.{Bool, true, false, cond}
+use mathlib.Core.Path.{_≡_, sym, ap, _∙_}
+use mathlib.Core.Bool.{cond}
 use mathlib.Core.Logic.{_⊎_, inl, inr, ⊎-elim}
 use Prim.Native.Nat.{ℕ, zero, suc, _+_, _-_, _*_, _%_, _^_, _≤_, _<_}
 use native.Mathlib.Nat.{sub-zero}
 use native.Mathlib.Omega.{arith}
 use lib.Dec.{ltb, eqb}
-use borrow.Author.Tests.{lt-ltb, le-ltb, eq-eqb, ne-eqb, eqb-true}
+use borrow.Author.Tests.{lt-ltb, le-ltb, eq-eqb, ne-eqb}
 use Rattle.bits.specs.Sums.{sumBelow, sumOver}
 use Rattle.bits.specs.Places.{weight}
-use Rattle.bits.proofs.Numbers.{lt-or-le, eq-or-ne, by-test}
+use Rattle.bits.proofs.Numbers.{lt-or-le, eq-or-ne}
 use Rattle.bits.proofs.Sums.{sum-ext, sum-add}
 use Rattle.model.specs.ReedMuller.{product, setsOf, classes, votesForOne, coefficient, round, afterRounds, voted}
 use Rattle.reed_muller_theory.proofs.Sets.{where-true, sum-over-sets-of}

@@ -4,21 +4,21 @@ use mathlib.Core.Path.{_≡_, refl, sym, ap, _∙_}
 use mathlib.Core.Bool.{Bool, true, false, cond, _&&_}
 use mathlib.Core.List.{List, [], _∷_, _++_}
 use mathlib.Core.Logic.{⊎-elim}
-use Prim.Native.Nat.{ℕ, zero, suc, _+_, _*_, _^_, _≤_, _<_}
-use native.Mathlib.Nat.{le-trans}
+use Prim.Native.Nat.{ℕ, zero, suc, _+_, _^_, _≤_, _<_}
+use native.Mathlib.Nat.{le-dest, le-trans}
 use native.Mathlib.Omega.{arith}
 use lib.Dec.{leb, ltb, eqb}
 use lib.ListN.{length, getD, length-append, List·getD-append}
 use lib.Seq.{getD-at}
 use lib.Pow.{pow-pos}
-use borrow.Author.Tests.{le-leb, lt-leb, leb-true, leb-false, lt-ltb, ltb-true, eq-eqb, ne-eqb, eqb-true}
+use borrow.Author.Tests.{le-leb, lt-leb, leb-true, lt-ltb, ltb-true, eq-eqb, ne-eqb}
 use Rattle.bits.specs.Sums.{sumBelow, sumOver}
-use Rattle.bits.specs.Places.{weight}
+use Rattle.bits.specs.Places.{bit, weight}
 use Rattle.bits.specs.Searches.{first}
 use Rattle.bits.proofs.Numbers.{lt-or-le, eq-or-ne, and-true-left, and-true-right}
-use Rattle.bits.proofs.Sums.{sum-ext, sum-mono, sum-add, sum-zero, sum-of-ones, sum-of-bits, sum-over-append, sum-over-entries}
+use Rattle.bits.proofs.Sums.{sum-ext, sum-mono, sum-add, sum-zero, sum-split, sum-of-ones, sum-of-bits, sum-over-append, sum-over-entries}
 use Rattle.bits.proofs.Sums.{summand-le, two-summands-le, some-summand}
-use Rattle.bits.proofs.Binary.{weight-zero}
+use Rattle.bits.proofs.Binary.{weight-zero, bit-high}
 use Rattle.bits.proofs.Searches.{first-is}
 use Rattle.model.specs.ReedMuller.{those, setsOf, setsUpTo, setOf, countOfSets}
 use Rattle.reed_muller_theory.proofs.LowestVariable.{same, same-yes, same-no, same-once}
@@ -173,3 +173,12 @@ module _ (r m : ℕ) where
       bit-or-none : (t : Bool) → cond t 1 0 < 2
       bit-or-none true = omega arith
       bit-or-none false = omega arith
+
+-- a set of m variables is as large among more
+pub weight-wider : (m n S : ℕ) → m ≤ n → S < 2 ^ m → weight n S ≡ weight m S
+unfolding weight
+weight-wider m n S wider l =
+    let (more, is) = le-dest wider in
+    ap (sumBelow (bit S)) (sym is)
+    ∙ sum-split (bit S) m more
+    ∙ omega (arith, sum-zero {f = λ q. bit S (m + q)} more (λ q h. bit-high S m (m + q) l (omega arith)))

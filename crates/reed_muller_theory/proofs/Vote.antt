@@ -1,23 +1,28 @@
 -- One vote. Where y is a polynomial of no more variables than S with some positions turned, each class of S sums to the coefficient
 -- of S and to what is turned in the class. A turned position lies in one class, so at most as many classes sum wrong as positions
 -- are turned: fewer than half of them where twice as many are fewer than the classes. Assumes nothing.
-use mathlib.Core.Path.{_≡_, refl, sym, ap, _∙_}
+use mathlib.Core.Path.{_≡_, sym, ap, _∙_}
 use mathlib.Core.Bool.{Bool, true, false, cond}
 use mathlib.Core.Logic.{⊎-elim}
-use Prim.Native.Nat.{ℕ, zero, suc, _+_, _*_, _%_, _^_, _≤_, _<_}
-use native.Mathlib.Nat.{zero-mul, one-mul, mod-add-mod, le-trans}
+use Prim.Native.Nat.{ℕ, zero, _+_, _*_, _%_, _^_, _≤_, _<_}
+use native.Mathlib.Nat.{le-trans}
 use native.Mathlib.Omega.{arith}
 use lib.Bits.{bitOr}
-use lib.Dec.{eqb}
+use lib.Dec.{ltb, eqb}
 use borrow.Author.Tests.{lt-ltb, le-ltb}
 use Rattle.bits.specs.Sums.{sumBelow}
 use Rattle.bits.specs.Places.{weight}
-use Rattle.bits.proofs.Numbers.{eq-or-ne}
+use Rattle.bits.proofs.Numbers.{eq-or-ne, by-test}
 use Rattle.bits.proofs.Sums.{sum-ext, sum-mono, sum-add, sum-parity, times-parity}
 use Rattle.model.specs.ReedMuller.{product, classSum, classes, votesForOne, coefficient}
 use Rattle.reed_muller_theory.proofs.LowestVariable.{member}
 use Rattle.reed_muller_theory.proofs.Classes.{classes-apart}
 use Rattle.reed_muller_theory.proofs.Polynomials.{valueAt, DegreeAtMost, class-of-polynomial, product-bit}
+
+-- what a vote finds is 0 or 1
+pub vote-bit : (m : ℕ) (y : ℕ → ℕ) (S : ℕ) → coefficient m y S < 2
+unfolding coefficient
+vote-bit m y S = by-test (λ (b : ℕ). b < 2) (ltb (classes m S) (2 * votesForOne m S y)) (λ e. omega arith) (λ e. omega arith)
 
 -- y is the polynomial with coefficients H, turned where e is 1
 abbrev pub Turned : (m : ℕ) (H e y : ℕ → ℕ) → Type 0

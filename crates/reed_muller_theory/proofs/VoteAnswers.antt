@@ -3,14 +3,14 @@
 use mathlib.Core.Path.{_≡_, refl, sym, ap, _∙_}
 use mathlib.Core.Bool.{Bool, true, false, cond, not}
 use mathlib.Core.List.{[], _∷_}
-use Prim.Native.Nat.{ℕ, _^_, _≤_, _<_}
+use Prim.Native.Nat.{ℕ, _^_, _<_}
 use native.Mathlib.Omega.{arith}
 use borrow.Author.Tests.{lt-leb}
 use Rattle.bits.specs.Places.{bit}
 use Rattle.model.specs.Refusals.{refuses, firstRefusal, unlessRefused}
 use Rattle.model.specs.Card.{Code, codeOf}
 use Rattle.model.specs.Reading.{chunkReading}
-use Rattle.model.specs.ReedMuller.{reedMuller, reedMullerCard, orderWithinLimits, votedNumber, votedDistance, votedWithin, votedReading}
+use Rattle.model.specs.ReedMuller.{reedMullerCard, orderWithinLimits, votedNumber, votedDistance, votedWithin, votedReading}
 use Rattle.model.specs.Answers.{voteRefusal, voteAnswer}
 use Rattle.model.specs.Statuses.{chunkStatus, chunkValues, voteStatus, voteValues}
 use Rattle.model.specs.declared.Chunk.{Chunk}

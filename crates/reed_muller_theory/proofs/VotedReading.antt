@@ -1,28 +1,25 @@
 -- The reader that votes keeps the chunk promise: where a codeword lies within t of a chunk all votes find its coefficients, and what
 -- is answered has been tested. So it answers every chunk as the search does. No vote on a chunk that it reads is tied. Assumes
 -- nothing.
-use mathlib.Core.Path.{_≡_, refl, sym, ap, _∙_}
+use mathlib.Core.Path.{_≡_, refl, sym, _∙_}
 use mathlib.Core.Bool.{Bool, true, false, cond}
-use mathlib.Core.Logic.{⊎-elim}
-use Prim.Native.Nat.{ℕ, zero, suc, _+_, _-_, _*_, _%_, _^_, _≤_, _<_}
+use Prim.Native.Nat.{ℕ, _+_, _-_, _*_, _%_, _^_, _≤_, _<_}
 use native.Mathlib.Nat.{mod-add-mod, add-mod-mod}
 use native.Mathlib.Omega.{arith}
-use lib.Dec.{eqb, ltb}
+use lib.Dec.{eqb}
 use lib.Pow.{pow-pos, le-ones, lt-of-le-ones}
 use borrow.Author.Tests.{leb-true, eq-eqb, ne-eqb}
 use Rattle.bits.specs.Sums.{sumBelow, distance, unlike}
 use Rattle.bits.specs.Places.{bit, weight}
-use Rattle.bits.proofs.Numbers.{by-test, true-or-false, not-true}
-use Rattle.bits.proofs.Sums.{sum-ext}
-use Rattle.bits.proofs.Binary.{bit-bit, bit-ext-below}
+use Rattle.bits.proofs.Numbers.{not-true}
+use Rattle.bits.proofs.Binary.{bit-ext-below}
 use Rattle.bits.proofs.Places.{number-below, bit-of-number}
 use Rattle.bits.proofs.Searches.{first-is}
-use Rattle.model.specs.Card.{Code, sumOfRows, radius}
+use Rattle.model.specs.Card.{radius}
 use Rattle.model.specs.Order.{gray, codeword, lastCodeword}
 use Rattle.model.specs.Reading.{chunkDistance, withinRadius, chunkReading}
-use Rattle.model.specs.ReedMuller.{setOf, countOfSets, productOf, reedMuller, classes, votesForOne, coefficient, afterRounds, voted}
+use Rattle.model.specs.ReedMuller.{setOf, countOfSets, reedMuller, classes, votesForOne, afterRounds, voted}
 use Rattle.model.specs.ReedMuller.{votedRows, votedNumber, votedDistance, votedWithin, votedReading}
-use Rattle.model.specs.declared.Chunk.{Chunk}
 use Rattle.model.specs.declared.Chunk.the-variants.{Codeword, Unreadable}
 use Rattle.code_theory.specs.Promise.{Sound, ReadsChunks}
 use Rattle.code_theory.proofs.Gray.{gray-below, gray-injective, gray-onto}
@@ -30,17 +27,15 @@ use Rattle.code_theory.proofs.Promise.{promise, readers-agree}
 use Rattle.reed_muller_theory.proofs.Sets.{set-below, set-size}
 use Rattle.reed_muller_theory.proofs.Polynomials.{valueAt, coefficientOf, degree-of-codeword, codeword-is-polynomial}
 use Rattle.reed_muller_theory.proofs.LeastDistance.{coefficient-bit, coefficient-of-row, least-distance}
-use Rattle.reed_muller_theory.proofs.Vote.{Turned}
+use Rattle.reed_muller_theory.proofs.Vote.{vote-bit, Turned}
 use Rattle.reed_muller_theory.proofs.Rounds.{voted-right, voted-clear}
 
 -- ---- the codeword that is voted for
 
 module _ (r m : ℕ) (y : ℕ → ℕ) where
   voted-bit : (S : ℕ) → voted r m y S < 2
-  unfolding voted coefficient
-  voted-bit S =
-      let x : ℕ → ℕ = afterRounds r m y (r - weight m S) in
-      by-test (λ (b : ℕ). b < 2) (ltb (classes m S) (2 * votesForOne m S x)) (λ e. omega arith) (λ e. omega arith)
+  unfolding voted
+  voted-bit S = vote-bit m (afterRounds r m y (r - weight m S)) S
 
   pub rows-below : votedRows r m y < 2 ^ countOfSets r m
   unfolding votedRows

@@ -11,16 +11,16 @@ returns c = too-few-variables (c .before .args .r) (c .before .args .m) (c .if1 
 returns-2 : tie.Need-returns-2
 returns-2 c = too-many-variables (c .before .before .args .r) (c .before .before .args .m) (c .if2 .taken)
 
--- an entry of the table is at most 3
-cast-result : tie.Need-cast-result
-unfolding greatestOrders
-cast-result c = record { fits = omega (arith, greatest-at-most-three (c .before .before .args .m) (omega (arith, c .if2 .left))) }
-
 returns-3 : tie.Need-returns-3
 unfolding greatestOrders
 returns-3 c =
     let args = c .before .before .args in
     limit-in-table (args .r) (args .m) (omega (arith, c .before .if1 .left)) (omega (arith, c .if2 .left))
+
+-- an entry of the table is at most 3
+cast-result : tie.Need-cast-result
+unfolding greatestOrders
+cast-result c = record { fits = omega (arith, greatest-at-most-three (c .before .before .args .m) (omega (arith, c .before .if1 .left)) (omega (arith, c .if2 .left))) }
 
 pub within-limits-spec : {M : Type 1} → statement M
 within-limits-spec = tie.close (tie.spec returns returns-2 (λ c. search needs) cast-result returns-3)

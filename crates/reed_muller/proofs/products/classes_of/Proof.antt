@@ -5,7 +5,7 @@ use native.Mathlib.Omega.{arith}
 use borrow.Author.Needs.{needs}
 use lib.Bits.{and-le-l}
 use lib.Count.{trailingZeros}
-use Rattle.reed_muller.proofs.ClassesTaken.{Taken, none-taken, others-less, lowest-below, next-taken, all-summed, row-is-product}
+use Rattle.reed_muller.proofs.ClassesTaken.{Taken, none-taken, others-less, lowest-below, next-taken, all-summed, product-taken}
 use Rattle.reed_muller.proofs.products.classes_of.Statement.{statement}
 use Rattle.reed_muller.proofs.products.classes_of.Tie as tie
 
@@ -49,7 +49,7 @@ returns : tie.Need-returns Inv-loop μ-loop
 returns c =
     let taken = c .before .loop .inv .1 in
     let none : c .before .loop .rest ≡ 0 = omega (arith, c .loop-test .left) in
-    (all-summed _ _ _ _ _ _ taken none, row-is-product _ _ _ _ _ _ taken none)
+    (all-summed _ _ _ _ _ _ taken none, product-taken _ _ _ _ _ _ taken none)
 
 pub classes-of-spec : {M : Type 1} → statement M
 classes-of-spec =

@@ -1,9 +1,8 @@
 -- `number_of` meets its contract. The loop's invariant: the Gray number of the number so far is the rows, with what is still to be added
 -- added; halved once more, that is one bit less. Assumes nothing.
-use mathlib.Core.Path.{_≡_, refl, sym, ap, _∙_}
+use mathlib.Core.Path.{_≡_, refl, ap, _∙_}
 use Prim.Native.Nat.{ℕ, _^_, _/_, _<_}
 use native.Mathlib.Omega.{arith}
-use borrow.Author.Needs.{needs}
 use lib.Bits.{bitXor, xor-lt, xor-shr, xor-zero-r}
 use Rattle.bits.proofs.Binary.{xor-assoc, xor-exchange, xor-undone}
 use Rattle.model.specs.Order.{gray}
