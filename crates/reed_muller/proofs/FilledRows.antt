@@ -8,12 +8,15 @@ use native.Mathlib.Numerals.{add-one}
 use native.Mathlib.Omega.{arith}
 use lib.Dec.{ltb}
 use lib.ListN.{length, getD, set, take, drop, replicate, length-set, length-append, take-append-drop, List·getD-append, List·getD-eq-default}
+use lib.Pow.{pow-pos}
 use lib.Seq.{take-suc, take-length, getD-at, getD-set-same, getD-set-other}
 use borrow.Author.Tests.{lt-ltb, le-ltb}
 use Rattle.bits.proofs.Numbers.{lt-or-le, eq-or-ne}
 use Rattle.bits.proofs.ByteLists.{zero-byte}
 use Rattle.model.specs.ReedMuller.{setsUpTo, countOfSets, productRow, productOf}
-use Rattle.reed_muller_theory.proofs.FewerVariables.{kept, kept-append, kept-below, kept-above, kept-sets}
+use Rattle.reed_muller_theory.proofs.Sets.{count-low}
+use Rattle.reed_muller_theory.proofs.ClassSums.{product-of-none}
+use Rattle.reed_muller_theory.proofs.FewerVariables.{kept, kept-append, kept-below, kept-above, kept-sets, first-empty}
 
 -- row z of the sets in a list; past them zero
 abbrev pub rowAt : (m : ℕ) (l : List ℕ) (z : ℕ) → ℕ
@@ -87,7 +90,7 @@ pub record Reached (r m i count : ℕ) (rows : List ℕ) : Type 0 where
   pub twelve : length rows ≡ 12
   pub filled : Filled m (kept (2 ^ m) (take i (setsUpTo 6 r))) rows
 
-pub reached-none : (r m : ℕ) → Reached r m 0 0 (replicate 12 0)
+reached-none : (r m : ℕ) → Reached r m 0 0 (replicate 12 0)
 unfolding kept
 reached-none r m = record { counted = refl; twelve = refl; filled = λ z h. zero-byte 12 z ∙ rw (le-ltb z 0 (omega arith)) }
 
@@ -118,6 +121,13 @@ module _ (r m i count : ℕ) (rows : List ℕ) (inside : i < countOfSets r 6) (r
   reached-same h =
       let same : kept (2 ^ m) (take (i + 1) (setsUpTo 6 r)) ≡ kept (2 ^ m) (take i (setsUpTo 6 r)) = entry-left (2 ^ m) i (setsUpTo 6 r) inside h in
       record { counted = rw same (reached .counted); twelve = reached .twelve; filled = rw same (reached .filled) }
+
+-- the empty set is the first
+pub reached-first : (r m positions : ℕ) → positions ≡ 2 ^ 2 ^ m - 1 → Reached r m 1 1 (set (replicate 12 0) 0 positions)
+reached-first r m positions are =
+    let empty = first-empty 6 r in
+    reached-more r m 0 0 (replicate 12 0) (count-low r 6) (reached-none r m) positions (omega arith) (rw empty (pow-pos m))
+    (rw empty (are ∙ sym (product-of-none m)))
 
 pub reached-all : (r m count : ℕ) (rows : List ℕ) → m ≤ 6 → countOfSets r m ≤ 12 → Reached r m (countOfSets r 6) count rows
     → (count ≡ countOfSets r m) × ((λ z. getD rows z 0) ≡ productOf r m)

@@ -11,22 +11,15 @@ use lib.Pow.{pow-pos}
 use Rattle.bits.specs.Sums.{sumBelow, distance, unlike}
 use Rattle.bits.specs.Places.{bit, weight}
 use Rattle.bits.proofs.Sums.{sum-ext, sum-add, sum-of-ones}
-use Rattle.bits.proofs.Binary.{bit-bit, bit-zero, bit-ext-below, weight-zero, weight-ones, ones-xor}
+use Rattle.bits.proofs.Binary.{bit-bit, weight-zero, weight-ones, ones-xor}
 use Rattle.bits.proofs.Shifts.{bit-all-ones}
 use Rattle.model.specs.ReedMuller.{those, setsOf, setsUpTo, countOfSets, productRow, classes, votesForOne}
 use Rattle.reed_muller_theory.proofs.Classes.{count-of-classes}
-use Rattle.reed_muller_theory.proofs.Polynomials.{product-row-bit, product-row-narrow}
-use Rattle.reed_muller_theory.proofs.ClassSums.{has-if-every, class-sum-alone}
+use Rattle.reed_muller_theory.proofs.ClassSums.{product-of-none, class-sum-alone}
 use Rattle.reed_muller.specs.Table.{setsBefore}
 use Rattle.reed_muller.proofs.Votes.{votes-counted}
 use Rattle.reed_muller.proofs.RoundSteps.{RoundAt, round-starts, round-ends, most-for-one, not-most-for-one, not-voted, voted-for}
 use Rattle.reed_muller.proofs.VotedDown.{VotedDown, voting-goes-on}
-
--- the product of no variable is 1 at each position
-product-of-none : (m : ℕ) → productRow m 0 ≡ 2 ^ 2 ^ m - 1
-product-of-none m =
-    bit-ext-below (2 ^ m) (productRow m 0) (2 ^ 2 ^ m - 1) (product-row-narrow m 0) (omega (arith, pow-pos (2 ^ m)))
-    (λ p l. product-row-bit m 0 p l ∙ has-if-every 0 p (λ v. omega (arith, bit-zero v)) ∙ sym (bit-all-ones (2 ^ m) p l))
 
 all-classes : (m : ℕ) → classes m 0 ≡ 2 ^ m
 all-classes m = omega (arith, rw (weight-zero m) at (count-of-classes m 0 (pow-pos m)))

@@ -2,8 +2,9 @@
 -- the sets met so far. Assumes nothing.
 use mathlib.Core.Path.{_≡_, refl, sym, ap, _∙_}
 use mathlib.Core.List.{List, [], _∷_}
+use mathlib.Core.Logic.{⊎-elim}
 use Prim.Native.Nat.{ℕ, zero, suc, _+_, _-_, _*_, _%_, _^_, _≤_, _<_}
-use native.Mathlib.Nat.{le-dest, mul-le-mul-left}
+use native.Mathlib.Nat.{eq-zero-or-pos, le-dest, mul-le-mul-left}
 use native.Mathlib.Numerals.{add-one}
 use native.Mathlib.Omega.{arith}
 use lib.Bits.{bitXor, xor-lt}
@@ -15,7 +16,7 @@ use borrow.Author.Tests.{lt-ltb, le-ltb, eqb-true}
 use Rattle.bits.specs.Sums.{sumOver, unlike}
 use Rattle.bits.specs.Places.{bit, weight}
 use Rattle.bits.proofs.Sums.{sum-mono}
-use Rattle.bits.proofs.Binary.{bit-bit, bit-xor}
+use Rattle.bits.proofs.Binary.{bit-bit, bit-xor, weight-zero}
 use Rattle.model.specs.ReedMuller.{product, setsOf, setsUpTo, countOfSets, productRow, classSum, classes, votesForOne, coefficient, round}
 use Rattle.reed_muller_theory.proofs.Sets.{those-pass, weight-wider}
 use Rattle.reed_muller_theory.proofs.OrderLimits.{count-grows}
@@ -82,6 +83,13 @@ pub before-all : (s : ℕ) → setsBefore s ≤ countOfSets s 6
 unfolding setsBefore
 before-all zero = omega arith
 before-all (suc s) = count-grows s (suc s) 6 (omega arith)
+
+-- and so it is not empty where s is not 0
+pub entry-not-empty : (s i : ℕ) → 0 < s → setsBefore s ≤ i → i < countOfSets s 6 → 0 < getD (setsUpTo 6 s) i 0
+entry-not-empty s i more low high =
+    ⊎-elim (λ (none : getD (setsUpTo 6 s) i 0 ≡ 0). absurd (omega (arith, size-of-entry s i low high, ap (weight 6) none, weight-zero 6)))
+    (λ (some : 0 < getD (setsUpTo 6 s) i 0). some)
+    (eq-zero-or-pos (getD (setsUpTo 6 s) i 0))
 
 -- so one that is a set of the m variables has 2^(m-s) classes
 module _ (m s i : ℕ) (six : m ≤ 6) (order : s ≤ m) (low : setsBefore s ≤ i) (high : i < countOfSets s 6) (own : getD (setsUpTo 6 s) i 0 < 2 ^ m) where

@@ -29,22 +29,25 @@ pub fn all_variables() -> [u64; 6]
     VARIABLES
 }
 
-// The classes of a set, among the code's positions, and all sums of y over them at once. For each variable in the set the word is
-// added to itself, shifted up by the variable's bit: a position with the variable takes in the one without it.
+// The classes of a set that is not empty, among the code's positions, and all sums of y over them at once. For each variable in the
+// set the word is added to itself, shifted up by the variable's bit: a position with the variable takes in the one without it.
 pub fn classes_of(y: u64, set: u32, positions: u64, variables: &[u64; 6]) -> Classes
-    requires { ⌜ (set < 64) × (now variables ≡ variableRows) ⌝ }
+    requires { ⌜ (0 < set) × (set < 64) × (now variables ≡ variableRows) ⌝ }
     ensures sums { λ a. ⌜ ((c : ℕ) → c < 64 → product set c ≡ 1 → bit (a .sums) c ≡ classSum 6 set (bit y) c) ⌝ }
     ensures row { λ a. ⌜ ((m : ℕ) → m ≤ 6 → positions ≡ 2 ^ 2 ^ m - 1 → a .row ≡ productRow m set) ⌝ }
 {
     let mut sums = y;
     let mut row = positions;
     let mut rest = set;
-    while rest != 0 {
+    loop {
         let others = rest & (rest - 1);
         let v = u32::trailing_zeros(rest) as usize;
         row &= variables[v];
         sums ^= sums << (rest - others);
         rest = others;
+        if rest == 0 {
+            break;
+        }
     }
     Classes { sums, row }
 }

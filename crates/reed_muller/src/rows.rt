@@ -22,8 +22,8 @@ pub fn all_positions(m: u32) -> u64
     powers::low_bits(powers::two_to(m))
 }
 
-// The rows, by the table of sets: those that are not sets of the m variables are left out. A row is the product of its set, whatever
-// word is summed over the classes.
+// The rows, by the table of sets: those that are not sets of the m variables are left out. The empty set comes first, whose product is a
+// one at each position. A row is the product of its set, whatever word is summed over the classes.
 pub fn rows_of(r: u32, m: u32) -> Rows
     requires { ⌜ orderWithinLimits r m ≡ true ⌝ }
     ensures { λ a. ⌜ (a .count ≡ countOfSets r m) × ((λ z. getD (a .rows) z 0) ≡ productOf r m) ⌝ }
@@ -33,8 +33,9 @@ pub fn rows_of(r: u32, m: u32) -> Rows
     let variables = products::all_variables();
     let end = sets::start_of(r as usize + 1);
     let mut rows = [0u64; 12];
-    let mut count: usize = 0;
-    let mut i: usize = 0;
+    rows[0] = positions;
+    let mut count: usize = 1;
+    let mut i: usize = 1;
     while i < end {
         let set = sets[i] as u32;
         if sets::is_own(set, positions) {
@@ -44,8 +45,6 @@ pub fn rows_of(r: u32, m: u32) -> Rows
         }
         i += 1;
     }
-    Rows {
-        count: count as u32,
-        rows,
-    }
+    let count = count as u32;
+    Rows { count, rows }
 }

@@ -49,7 +49,7 @@ fn tie() -> Voted
 // One round, step 2 of document 004: the coefficient of each product of `size` variables is what most class sums of y are, and the
 // products with coefficient 1 are taken off. The table is gone through downwards, as the rounds are.
 fn round(m: u32, size: u32, y: u64, rows: u32, sets: &[u8; 42], variables: &[u64; 6]) -> Voted
-    requires { ⌜ (m ≤ 6) × (size ≤ m) × (size ≤ 3) × (y < 2 ^ 2 ^ m) × ((rows + 1) * 2 ^ countOfSets size m ≤ 4096) ⌝ }
+    requires { ⌜ (m ≤ 6) × (size ≤ m) × (size ≤ 3) × (y < 2 ^ 2 ^ m) × ((rows + 1) * 2 ^ countOfSets size m ≤ 4096) × (0 < size) ⌝ }
     requires { ⌜ (now sets ≡ setsUpTo 6 3) × (now variables ≡ variableRows) ⌝ }
     ensures tied { λ a. ⌜ (a .tied ≡ true → Tied m size y) ⌝ }
     ensures left { λ a. ⌜ (a .tied ≡ false → LeftBy m size y (a .left)) ⌝ }

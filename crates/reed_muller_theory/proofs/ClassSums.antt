@@ -9,16 +9,17 @@ use native.Mathlib.Nat.{add-zero, le-dest}
 use native.Mathlib.Omega.{arith}
 use lib.Bits.{bitAnd, bitOr, or-zero-r, or-add-and, and-le-r}
 use lib.Dec.{eqb}
-use lib.Pow.{pow-mono}
+use lib.Pow.{pow-mono, pow-pos}
 use borrow.Author.Tests.{eq-eqb, ne-eqb}
 use Rattle.bits.specs.Sums.{sumBelow, unlike}
 use Rattle.bits.specs.Places.{bit}
 use Rattle.bits.proofs.Numbers.{eq-or-ne}
 use Rattle.bits.proofs.Sums.{sum-ext, sum-add, sum-zero, sum-split, sum-one-odd}
-use Rattle.bits.proofs.Binary.{bit-bit, bit-ext, bit-and, bit-or, bit-pow-same, bit-pow-other, bit-set-here, bit-set-other}
-use Rattle.model.specs.ReedMuller.{product, classSum}
+use Rattle.bits.proofs.Binary.{bit-bit, bit-zero, bit-ext, bit-ext-below, bit-and, bit-or, bit-pow-same, bit-pow-other, bit-set-here, bit-set-other}
+use Rattle.bits.proofs.Shifts.{bit-all-ones}
+use Rattle.model.specs.ReedMuller.{product, productRow, classSum}
 use Rattle.reed_muller_theory.proofs.LowestVariable.{same, same-yes, same-no, member}
-use Rattle.reed_muller_theory.proofs.Polynomials.{product-bit}
+use Rattle.reed_muller_theory.proofs.Polynomials.{product-bit, product-row-bit, product-row-narrow}
 
 -- ---- having every bit of a set
 
@@ -33,6 +34,12 @@ has-every-bit S p one v =
 pub has-if-every : (S p : ℕ) → ((v : ℕ) → bit S v ≤ bit p v) → product S p ≡ 1
 unfolding product
 has-if-every S p every = same-yes (bitAnd p S) S (bit-ext (bitAnd p S) S (λ v. bit-and p S v ∙ omega (arith, every v)))
+
+-- the product of no variable is 1 at each position
+pub product-of-none : (m : ℕ) → productRow m 0 ≡ 2 ^ 2 ^ m - 1
+product-of-none m =
+    bit-ext-below (2 ^ m) (productRow m 0) (2 ^ 2 ^ m - 1) (product-row-narrow m 0) (omega (arith, pow-pos (2 ^ m)))
+    (λ p l. product-row-bit m 0 p l ∙ has-if-every 0 p (λ v. omega (arith, bit-zero v)) ∙ sym (bit-all-ones (2 ^ m) p l))
 
 -- the product with one variable more
 pub product-more : (A v p : ℕ) → bit A v ≡ 0 → product (A + 2 ^ v) p ≡ min (product A p) (product (2 ^ v) p)

@@ -1,11 +1,11 @@
 -- The sets of m variables among those of n: they are the ones below 2^m, in the same order. So one table of sets serves every m up to n.
 -- Assumes nothing.
-use mathlib.Core.Path.{_≡_, refl, ap, ap₂, _∙_}
+use mathlib.Core.Path.{_≡_, refl, sym, ap, ap₂, _∙_}
 use mathlib.Core.Bool.{Bool, true, false, cond}
 use mathlib.Core.List.{List, [], _∷_, _++_, append-nil}
 use mathlib.Core.Logic.{⊎-elim}
 use Prim.Native.Nat.{ℕ, zero, suc, _+_, _-_, _^_, _≤_, _<_, min}
-use native.Mathlib.Nat.{le-dest, add-zero, add-suc, min-zero, min-eq-left, min-eq-right}
+use native.Mathlib.Nat.{eq-zero-or-pos, le-dest, add-zero, add-suc, min-zero, min-eq-left, min-eq-right}
 use native.Mathlib.Omega.{arith}
 use lib.Dec.{ltb, eqb}
 use lib.ListN.{length, getD, List·getD-append}
@@ -13,8 +13,9 @@ use lib.Pow.{pow-mono}
 use borrow.Author.Tests.{lt-ltb, le-ltb}
 use Rattle.bits.specs.Places.{weight}
 use Rattle.bits.proofs.Numbers.{lt-or-le}
-use Rattle.model.specs.ReedMuller.{those, setsOf, setsUpTo, countOfSets}
-use Rattle.reed_muller_theory.proofs.Sets.{weight-wider}
+use Rattle.bits.proofs.Binary.{zero-of-weight}
+use Rattle.model.specs.ReedMuller.{those, setsOf, setsUpTo, setOf, countOfSets}
+use Rattle.reed_muller_theory.proofs.Sets.{weight-wider, set-below, set-size, count-low, twice}
 use Rattle.reed_muller_theory.proofs.OrderLimits.{count-grows}
 
 -- ---- the sets
@@ -95,3 +96,15 @@ sets-first n r t i l h = let (d, is) = le-dest l in rw (← is) (by d)
     by : (d : ℕ) → getD (setsUpTo n (r + d)) i 0 ≡ getD (setsUpTo n r) i 0
     by zero = rw (add-zero r)
     by (suc d) = rw (add-suc r d) (List·getD-append (setsUpTo n (r + d)) (setsOf n (suc (r + d))) 0 i (omega (arith, longer d)) ∙ by d)
+
+-- the empty set comes first, and no other is empty
+pub first-empty : (n r : ℕ) → getD (setsUpTo n r) 0 0 ≡ 0
+first-empty n r =
+    sets-first n 0 r 0 (omega arith) (count-low 0 n)
+    ∙ zero-of-weight n (setOf 0 n 0) (set-below 0 n 0 (count-low 0 n)) (omega (arith, set-size 0 n 0 (count-low 0 n)))
+
+pub others-not-empty : (n r i : ℕ) → 0 < i → i < countOfSets r n → 0 < getD (setsUpTo n r) i 0
+others-not-empty n r i more inside =
+    ⊎-elim (λ (none : getD (setsUpTo n r) i 0 ≡ 0). absurd (twice r n 0 i more inside (first-empty n r ∙ sym none)))
+    (λ (some : 0 < getD (setsUpTo n r) i 0). some)
+    (eq-zero-or-pos (getD (setsUpTo n r) i 0))

@@ -129,7 +129,7 @@ module _ (r m : ℕ) where
       if-at-all true x = omega arith
       if-at-all false x = omega arith
 
-  twice : (z y : ℕ) → z < y → y < countOfSets r m → setOf r m z ≡ setOf r m y → ⊥
+  pub twice : (z y : ℕ) → z < y → y < countOfSets r m → setOf r m z ≡ setOf r m y → ⊥
   twice z y h l e =
       omega (
         arith,

@@ -1,10 +1,8 @@
 -- `made_card` meets its contract: its fields are those of the code's card. Assumes nothing.
-use mathlib.Core.Path.{ap, _∙_}
 use Prim.Native.Nat.{_≤_}
 use native.Mathlib.Omega.{arith}
 use borrow.Author.Needs.{needs}
 use lib.Pow.{pow-mono}
-use Rattle.model.specs.CardBytes.{cardOf}
 use Rattle.model.specs.ReedMuller.{countOfSets, reedMullerCard}
 use Rattle.reed_muller_theory.proofs.OrderLimits.{limits-of-test}
 use Rattle.reed_muller.proofs.made.made_card.Statement.{statement}
@@ -28,8 +26,7 @@ returns : tie.Need-returns
 unfolding reedMullerCard
 returns c =
     let made = c .before .before .before .rows-of in
-    c .write-card .ensures
-    ∙ rw (c .before .two-to .ensures, made .ensures .0) (ap (cardOf _ _ _) (made .ensures .1))
+    rw (c .write-card .ensures, c .before .two-to .ensures, made .ensures .0, made .ensures .1)
 
 pub made-card-spec : {M : Type 1} → statement M
 made-card-spec = tie.close (tie.spec (λ c κs. search needs) two-to-requires write-card-requires returns)

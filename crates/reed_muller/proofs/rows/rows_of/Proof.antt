@@ -11,14 +11,16 @@ use lib.ListN.{getD}
 use borrow.Author.Tests.{ltb-true, ltb-false}
 use Rattle.model.specs.ReedMuller.{setsUpTo, countOfSets, productRow, productOf}
 use Rattle.reed_muller_theory.proofs.OrderLimits.{limits-of-test, order-at-most-three, count-grows}
+use Rattle.reed_muller_theory.proofs.Sets.{count-low}
+use Rattle.reed_muller_theory.proofs.FewerVariables.{others-not-empty}
 use Rattle.reed_muller.specs.Table.{setsBefore}
 use Rattle.reed_muller.proofs.Tables.{all-sets, set-at}
-use Rattle.reed_muller.proofs.FilledRows.{Reached, reached-none, room, reached-more, reached-same, reached-all}
+use Rattle.reed_muller.proofs.FilledRows.{Reached, reached-first, room, reached-more, reached-same, reached-all}
 use Rattle.reed_muller.proofs.rows.rows_of.Statement.{statement}
 use Rattle.reed_muller.proofs.rows.rows_of.Tie as tie
 
 abbrev Inv-loop : tie.InvT-loop
-Inv-loop r m positions sets variables end rows₀ count₀ i₀ rows count i = (i ≤ end) × Reached r m i count rows
+Inv-loop r m positions sets variables end rows₀ count₀ i₀ rows count i = (1 ≤ i) × (i ≤ end) × Reached r m i count rows
 
 abbrev μ-loop : tie.MeasureT-loop
 μ-loop r m positions sets variables end rows₀ count₀ i₀ rows count i = end - i
@@ -44,7 +46,9 @@ unfolding setsBefore
 end c = c .start-of .ensures ∙ rw (add-one (c .before .before .before .before .args .r))
 
 loop-holds : tie.Need-loop-holds Inv-loop μ-loop
-loop-holds c = (omega arith, reached-none _ _)
+loop-holds c =
+    let first = c .before .before .before .before in
+    (omega arith, omega (arith, end c, count-low (first .args .r) 6), reached-first (first .args .r) (first .args .m) _ (c .before .before .before .all-positions .ensures))
 
 -- ---- the set that is looked at
 
@@ -74,7 +78,8 @@ is-own-requires : tie.Need-is-own-requires Inv-loop μ-loop
 is-own-requires c κs = set c .1
 
 classes-of-requires : tie.Need-classes-of-requires Inv-loop μ-loop
-classes-of-requires c κs = let at = c .before .before .before in (set at .1, at .before .before .before .all-variables .ensures)
+classes-of-requires c κs = let at = c .before .before .before in
+    (omega (arith, set at .0, others-not-empty 6 (start at .args .r) (at .before .loop .i) (at .before .loop .inv .0) (inside at)), set at .1, at .before .before .before .all-variables .ensures)
 
 -- whether it is one of the code's
 is-own : (c : tie.After-is-own Inv-loop μ-loop) → c .is-own .result ≡ ltb (S (c .before)) (2 ^ start (c .before) .args .m)
@@ -89,7 +94,7 @@ own c = ltb-true _ _ (sym (is-own (c .before)) ∙ c .if1 .taken)
 fits : (c : tie.Then1 Inv-loop μ-loop) → c .before .before .before .loop .count < 12
 fits c =
     let at = c .before .before in
-    room _ _ (at .before .loop .i) _ _ (inside at) (at .before .loop .inv .1) (limits (start at) .0) (limits (start at) .2) (own c)
+    room _ _ (at .before .loop .i) _ _ (inside at) (at .before .loop .inv .2) (limits (start at) .0) (limits (start at) .2) (own c)
 
 mul-rows : tie.Need-mul-rows Inv-loop μ-loop
 mul-rows c = record { fits = omega (arith, fits (c .before .before)) }
@@ -103,12 +108,13 @@ loop-again c =
     let first = start at in
     let loop = at .before .loop in (
       omega arith,
+      omega arith,
       ⊎-elim
           (λ w.
           let then : tie.Then1 Inv-loop μ-loop = record { before = c .before; if1 = w .0 } in
           let row = w .2 .ensures .1 (first .args .m) (limits first .0) (made at .before .all-positions .ensures) ∙ ap (productRow (first .args .m)) (set at .0) in
-          rw (w .3, w .4) (reached-more _ _ (loop .i) _ _ (inside at) (loop .inv .1) _ (fits then) (own then) row))
-          (λ w. rw (w .1, w .2) (reached-same _ _ (loop .i) _ _ (inside at) (loop .inv .1) (ltb-false _ _ (sym (is-own (c .before)) ∙ w .0 .left))))
+          rw (w .3, w .4) (reached-more _ _ (loop .i) _ _ (inside at) (loop .inv .2) _ (fits then) (own then) row))
+          (λ w. rw (w .1, w .2) (reached-same _ _ (loop .i) _ _ (inside at) (loop .inv .2) (ltb-false _ _ (sym (is-own (c .before)) ∙ w .0 .left))))
           (c .if1 .came),
     )
 
@@ -120,11 +126,11 @@ all : (c : tie.After-loop Inv-loop μ-loop)
 all c =
     let first = c .before .before .before .before .before .before in
     let done : c .before .loop .i ≡ countOfSets (first .args .r) 6 =
-    omega (arith, c .loop-test .left, end (c .before .before), c .before .loop .inv .0) in
-    reached-all (first .args .r) (first .args .m) _ _ (limits first .0) (limits first .2) (rw done at (c .before .loop .inv .1))
+    omega (arith, c .loop-test .left, end (c .before .before), c .before .loop .inv .1) in
+    reached-all (first .args .r) (first .args .m) _ _ (limits first .0) (limits first .2) (rw done at (c .before .loop .inv .2))
 
-cast-t25 : tie.Need-cast-t25 Inv-loop μ-loop
-cast-t25 c = record { fits = omega (arith, all c .0, limits (c .before .before .before .before .before .before) .2) }
+cast-count : tie.Need-cast-count Inv-loop μ-loop
+cast-count c = record { fits = omega (arith, all c .0, limits (c .before .before .before .before .before .before) .2) }
 
 pub rows-of-spec : {M : Type 1} → statement M
 rows-of-spec =
@@ -137,6 +143,7 @@ rows-of-spec =
     (λ c κs. search needs)
     add-start-of
     start-of-requires
+    (λ c. search needs)
     loop-holds
     array-read-set
     cast-set
@@ -148,5 +155,5 @@ rows-of-spec =
     (λ c. search needs)
     (λ c. search needs)
     loop-again
-    cast-t25
+    cast-count
     (λ c. all c))

@@ -18,7 +18,7 @@ use Rattle.reed_muller_theory.proofs.OrderLimits.{count-grows}
 use Rattle.reed_muller.specs.Table.{setsBefore}
 use Rattle.reed_muller.proofs.Tables.{all-sets, set-at}
 use Rattle.reed_muller.proofs.Votes.{votes-counted}
-use Rattle.reed_muller.proofs.RoundSteps.{RoundAt, round-starts, round-ends, before-all, entry-size, entry-classes, set-passed}
+use Rattle.reed_muller.proofs.RoundSteps.{RoundAt, round-starts, round-ends, before-all, entry-not-empty, entry-size, entry-classes, set-passed}
 use Rattle.reed_muller.proofs.RoundSteps.{votes-bound, most-for-one, not-most-for-one, found-bound, not-voted, voted-for}
 use Rattle.reed_muller.proofs.voting.round.Statement.{statement}
 use Rattle.reed_muller.proofs.voting.round.Tie as tie
@@ -76,7 +76,8 @@ is-own-requires : tie.Need-is-own-requires Inv-loop μ-loop
 is-own-requires c κs = set (c .before) .1
 
 classes-of-requires : tie.Need-classes-of-requires Inv-loop μ-loop
-classes-of-requires c κs = let at-set = c .before .before .before in (set at-set .1, start at-set .pre .1 .1)
+classes-of-requires c κs = let at-set = c .before .before .before in
+    (omega (arith, set at-set .0, entry-not-empty (start at-set .args .size) (at at-set) (start at-set .pre .0 .5) (low at-set) (high at-set)), set at-set .1, start at-set .pre .1 .1)
 
 -- whether it is one of the code's
 is-own : (c : tie.After-is-own Inv-loop μ-loop) → c .is-own .result ≡ ltb (S (c .before .before)) (2 ^ start (c .before .before) .args .m)

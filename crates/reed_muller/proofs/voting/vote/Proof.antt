@@ -56,6 +56,7 @@ round-requires c κs =
         omega (arith, here .started, within .three),
         here .narrow,
         here .room,
+        before .loop-test .taken,
       ),
       (made .before .all-sets .ensures, made .all-variables .ensures),
     )
