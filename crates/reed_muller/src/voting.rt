@@ -67,10 +67,10 @@ fn round(m: u32, size: u32, y: u64, rows: u32, sets: &[u8; 42], variables: &[u64
         if sets::is_own(set, positions) {
             let classes = products::classes_of(y, set, positions, variables);
             let votes = 2 * u64::count_ones(classes.sums & classes.row);
+            found *= 2;
             if votes == count {
                 return tie();
             }
-            found *= 2;
             if count < votes {
                 left ^= classes.row;
                 found += 1;

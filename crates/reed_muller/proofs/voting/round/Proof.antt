@@ -127,6 +127,12 @@ mul-votes c =
           );
     }
 
+-- there is room for one more bit
+room : (c : tie.After-classes-of Inv-loop μ-loop) → 2 * inside c .before .loop .found + 2 ≤ 4096
+room c =
+    let set = inside c in
+    found-bound _ _ _ _ (at set) _ _ (here set) (low set) (own (c .before)) (start set .pre .0 .0) (start set .pre .0 .4)
+
 -- a tie
 returns : tie.Need-returns Inv-loop μ-loop
 returns c =
@@ -143,18 +149,11 @@ returns c =
       (λ e. absurd (true≢false (sym (c .tie .ensures) ∙ e)), λ e. absurd (true≢false (sym (c .tie .ensures) ∙ e))),
     )
 
--- there is room for one more bit
-room : (c : tie.Else2 Inv-loop μ-loop) → 2 * inside (c .before .before) .before .loop .found + 2 ≤ 4096
-room c =
-    let voted = c .before .before in
-    let set = inside voted in
-    found-bound _ _ _ _ (at set) _ _ (here set) (low set) (own (voted .before)) (start set .pre .0 .0) (start set .pre .0 .4)
-
 mul-found : tie.Need-mul-found Inv-loop μ-loop
-mul-found c = record { fits = omega (arith, room c) }
+mul-found c = record { fits = omega (arith, room (c .before)) }
 
 add-found : tie.Need-add-found Inv-loop μ-loop
-add-found c = record { fits = omega (arith, room (c .before .before)) }
+add-found c = record { fits = omega (arith, room (c .before .before .before .before)) }
 
 loop-again : tie.Need-loop-again Inv-loop μ-loop
 loop-again c =
@@ -202,9 +201,9 @@ round-spec =
     is-own-requires
     classes-of-requires
     mul-votes
+    mul-found
     (λ c κs. search needs)
     returns
-    mul-found
     add-found
     (λ c. search needs)
     loop-again
