@@ -9,9 +9,8 @@ ghost use Rattle.model.specs.Answers.{cardAnswer, writeAnswer, lentAfterWrite, 
 ghost use Rattle.model.specs.Answers.{makeRefusal, makeAnswer, voteAnswer};
 ghost use Rattle.model.specs.Statuses.{cardStatus, cardValues, writeStatus, readStatus, readValues, numberStatus, numberValues};
 ghost use Rattle.model.specs.Statuses.{voteStatus, voteValues};
-ghost use Rattle.reed_muller_theory.specs.MadeCards.{IsReedMullerCard};
 ghost use Rattle.dunnavish.specs.Crossing.{cardCount, readCount, numberCount, voteCount, cardBytes, statusFor, leftBy, UnchangedUnlessZero};
-ghost use Rattle.dunnavish.specs.Demands.{ServedWithinTwiceTurned, ServedWithinTurnedAndResidual, VotedAsSearch};
+ghost use Rattle.dunnavish.specs.Demands.{ServedWithinTwiceTurned, ServedWithinTurnedAndResidual, MadeWithinLimits, VotedAsSearch};
 use model::CardAnswer;
 use model::NumberAnswer;
 use model::ReadAnswer;
@@ -139,14 +138,14 @@ fn put_card(bytes: [u8; 512], card: &mut [u8])
     }
 }
 
-// Makes the card of the Reed-Muller code of order r in m variables for a track, into a lent card of 512 bytes. On status 0 they are
-// the bytes of that card.
+// Makes the card of the Reed-Muller code of order r in m variables for a track, into a lent card of 512 bytes. Where r, m and k are
+// within the limits, the status is 0, and they are the bytes of that card.
 #[no_mangle]
 pub extern "C" fn dunnavish_make_card(track: u16, r: u32, m: u32, card: &mut [u8]) -> u32
     ensures status { λ a. ⌜ a ≡ statusFor cardBytes (now (card .entry)) (makeRefusal r m) ⌝ }
     ensures left { λ a. ⌜ now (card .exit) ≡ leftBy a (makeAnswer track r m .bytes) (now (card .entry)) ⌝ }
     ensures unchanged { λ a. ⌜ UnchangedUnlessZero (now (card .entry)) a (now (card .exit)) ⌝ }
-    ensures made { λ a. ⌜ (a ≡ 0 → IsReedMullerCard track r m (now (card .exit))) ⌝ }
+    ensures made { λ a. ⌜ MadeWithinLimits track r m (now (card .entry)) a (now (card .exit)) ⌝ }
 {
     if card.len() != 512 {
         return WRONG_COUNT;
