@@ -10,7 +10,8 @@ ghost use Rattle.model.specs.Answers.{makeRefusal, makeAnswer, voteAnswer};
 ghost use Rattle.model.specs.Statuses.{cardStatus, cardValues, writeStatus, readStatus, readValues, numberStatus, numberValues};
 ghost use Rattle.model.specs.Statuses.{voteStatus, voteValues};
 ghost use Rattle.dunnavish.specs.Crossing.{cardCount, readCount, numberCount, voteCount, cardBytes, statusFor, leftBy, UnchangedUnlessZero};
-ghost use Rattle.dunnavish.specs.Demands.{ServedWithinTwiceTurned, ServedWithinTurnedAndResidual, MadeWithinLimits, VotedAsSearch};
+ghost use Rattle.dunnavish.specs.Demands.{ServedWithinTwiceTurned, ServedWithinTurnedAndResidual};
+ghost use Rattle.dunnavish.specs.Demands.{MadeWithinLimits, VotedAsPromised, VotedAsSearch};
 use model::CardAnswer;
 use model::NumberAnswer;
 use model::ReadAnswer;
@@ -160,12 +161,14 @@ pub extern "C" fn dunnavish_make_card(track: u16, r: u32, m: u32, card: &mut [u8
 }
 
 // Votes on a chunk of the Reed-Muller code of order r in m variables: the codeword's number, and in how many bits the two differ, into
-// two numbers. Where two are lent, on every chunk of n bits, the status and the numbers are those of the search on the made card.
+// two numbers. Where two are lent, on every chunk of n bits, it keeps the chunk promise, and the status and the numbers are those of
+// the search on the made card.
 #[no_mangle]
 pub extern "C" fn dunnavish_vote_chunk(r: u32, m: u32, chunk: u64, values: &mut [u32]) -> u32
     ensures status { λ a. ⌜ a ≡ statusFor voteCount (now (values .entry)) (voteStatus (voteAnswer r m chunk)) ⌝ }
     ensures left { λ a. ⌜ now (values .exit) ≡ leftBy a (voteValues (voteAnswer r m chunk)) (now (values .entry)) ⌝ }
     ensures unchanged { λ a. ⌜ UnchangedUnlessZero (now (values .entry)) a (now (values .exit)) ⌝ }
+    ensures promised { λ a. ⌜ VotedAsPromised r m chunk (now (values .entry)) a (now (values .exit)) ⌝ }
     ensures as_search { λ a. ⌜ VotedAsSearch r m chunk (now (values .entry)) a (now (values .exit)) ⌝ }
 {
     if values.len() != 2 {
