@@ -14,6 +14,7 @@ use Rattle.model.specs.ReedMuller.{reedMullerCard, orderWithinLimits}
 use Rattle.model.specs.Answers.{makeRefusal, makeAnswer}
 use Rattle.model.specs.declared.MadeCard.{MadeCard}
 use Rattle.reed_muller_theory.specs.MadeCards.{IsReedMullerCard}
+use Rattle.depot.proofs.MadeCards.{limits-refused, limits-passed, MadeWithinLimits}
 use Rattle.card_request.specs.Request.{allDigits, numberIn, isNumber, numberText, greatestTrack, greatestNumber, noCard, answerTo}
 use Rattle.card_request.specs.declared.NumberText.the-variants.{Number, NoNumber}
 use Rattle.card_request.specs.declared.Told.{Told}
@@ -47,28 +48,6 @@ module _ (most : ℕ) (text : List ℕ) where
   number-fits e =
       let (tests, is) = a-number e in
       omega (arith, is, leb-true (numberIn text) most (and-true-right (not (eqb (length text) 0) && allDigits text) _ tests))
-
--- ---- what a refusal says of the limits
-
-abbrev refusalFor : (within : Bool) → ℕ
-refusalFor within = cond (not within) 13 0
-
-module _ (r m : ℕ) where
-  limits-refused : (makeRefusal r m ≡ 0 → ⊥) → orderWithinLimits r m ≡ false
-  unfolding makeRefusal firstRefusal
-  limits-refused some = by (orderWithinLimits r m) some
-    where
-      by : (t : Bool) → (refusalFor t ≡ 0 → ⊥) → t ≡ false
-      by true refused = absurd (refused refl)
-      by false _ = refl
-
-  limits-passed : makeRefusal r m ≡ 0 → orderWithinLimits r m ≡ true
-  unfolding makeRefusal firstRefusal
-  limits-passed none = by (orderWithinLimits r m) none
-    where
-      by : (t : Bool) → refusalFor t ≡ 0 → t ≡ true
-      by true _ = refl
-      by false zero = absurd (omega arith)
 
 -- the bytes of a card that is made
 made-bytes : (track r m : ℕ) → orderWithinLimits r m ≡ true → makeAnswer track r m .bytes ≡ reedMullerCard track r m
@@ -129,7 +108,7 @@ module _ (track r m : List ℕ) where
               outside,
             ))
 
-        pub card-made : made ≡ makeAnswer t o v → (made .refusal ≡ 0 → IsReedMullerCard t o v (made .bytes)) → made .refusal ≡ 0
+        pub card-made : made ≡ makeAnswer t o v → MadeWithinLimits t o v made → made .refusal ≡ 0
             → Meets record { told = Made; card = made .bytes }
         unfolding answerTo
         card-made is law none =
@@ -145,4 +124,4 @@ module _ (track r m : List ℕ) where
               ← a-number greatestNumber m is-variables .1,
               within,
             )
-            (rw bytes, λ _. law none)
+            (rw bytes, λ _. law within .1)

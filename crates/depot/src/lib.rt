@@ -3,10 +3,12 @@
 // the definitions that the contracts name: its status is the refusal's number in documents 01 and 02, or 0 where the call is served;
 // its values are those named, or none where it is refused.
 ghost use mathlib.Core.Path.{_≡_};
+ghost use mathlib.Core.Bool.{true};
 ghost use mathlib.Core.List.{[], _∷_};
 ghost use Rattle.model.specs.Card.{cardRefusal, codeOf};
 ghost use Rattle.model.specs.Order.{start};
 ghost use Rattle.model.specs.Words.{millimetresOf};
+ghost use Rattle.model.specs.ReedMuller.{orderWithinLimits};
 ghost use Rattle.model.specs.Answers.{cardAnswer, writeAnswer, lentAfterWrite, readAnswer, startAnswer, millimetresAnswer};
 ghost use Rattle.model.specs.Answers.{cardFigures, writeRefusal, readRefusal, readFigures, startRefusal, millimetresRefusal};
 ghost use Rattle.model.specs.Answers.{makeRefusal, makeAnswer, voteRefusal, voteAnswer, voteFigures};
@@ -129,12 +131,12 @@ pub fn millimetres(card: &[u8], position: u32) -> NumberAnswer
 }
 
 // Makes the card of the Reed-Muller code of order r in m variables for a track. Refused: m outside 1 to 6, r above m, or k above 12,
-// 13; the bytes are then all zero. The card that is made is sound: its n is 2^m, its k the count of sets of at most r variables, its
+// 13; the bytes are then all zero. Any other is made, and is sound: its n is 2^m, its k the count of sets of at most r variables, its
 // D 2^(m-r), and its track the one that was given.
 pub fn make_card(track: u16, r: u32, m: u32) -> MadeCard
     ensures answer { λ a. ⌜ a ≡ makeAnswer track r m ⌝ }
     ensures status { λ a. ⌜ a .refusal ≡ makeRefusal r m ⌝ }
-    ensures made { λ a. ⌜ (a .refusal ≡ 0 → IsReedMullerCard track r m (a .bytes)) ⌝ }
+    ensures made { λ a. ⌜ (orderWithinLimits r m ≡ true → (a .refusal ≡ 0) × IsReedMullerCard track r m (a .bytes)) ⌝ }
 {
     if !limits::within_limits(r, m) {
         return MadeCard {

@@ -1,14 +1,15 @@
 -- What the call that makes a card leaves in the lent bytes, one law for each way out: bytes of the wrong count, a refusal, or the card's
--- bytes put there, of which the library's own contract says that they are the card that was asked for. Assumes nothing.
-use mathlib.Core.Path.{_≡_, sym, _∙_}
+-- bytes put there. The library's own contract says that within the limits none is refused, and that they are the card that was asked
+-- for. Assumes nothing.
+use mathlib.Core.Path.{_≡_, refl, sym, _∙_}
 use mathlib.Core.List.{List}
 use Prim.Native.Nat.{ℕ}
-use native.Mathlib.Omega.{arith}
 use lib.ListN.{length}
 use Rattle.model.specs.Answers.{makeRefusal, makeAnswer}
 use Rattle.model.specs.declared.MadeCard.{MadeCard}
-use Rattle.reed_muller_theory.specs.MadeCards.{IsReedMullerCard}
+use Rattle.depot.proofs.MadeCards.{MadeWithinLimits as AnswerMade}
 use Rattle.dunnavish.specs.Crossing.{cardBytes, wrongCount, statusFor, leftBy, UnchangedUnlessZero}
+use Rattle.dunnavish.specs.Demands.{MadeWithinLimits}
 use Rattle.dunnavish.proofs.Lent.{Crosses, wrong-count-changes-nothing, refusal-changes-nothing, values-are-left}
 
 module _ (track r m : ℕ) (lent : List ℕ) where
@@ -17,26 +18,30 @@ module _ (track r m : ℕ) (lent : List ℕ) where
   MakeCrosses status left =
       (status ≡ statusFor cardBytes lent (makeRefusal r m))
       × ((left ≡ leftBy status (makeAnswer track r m .bytes) lent)
-      × (UnchangedUnlessZero lent status left × (status ≡ 0 → IsReedMullerCard track r m left)))
+      × (UnchangedUnlessZero lent status left × MadeWithinLimits track r m lent status left))
 
   crosses : (status : ℕ) (left : List ℕ) → Crosses cardBytes lent (makeRefusal r m) (makeAnswer track r m .bytes) status left
-      → (status ≡ 0 → IsReedMullerCard track r m left) → MakeCrosses status left
+      → MadeWithinLimits track r m lent status left → MakeCrosses status left
   crosses status left (is-status, (is-left, unchanged)) made = (is-status, (is-left, (unchanged, made)))
 
   pub wrong-length : (length lent ≡ cardBytes → ⊥) → MakeCrosses wrongCount lent
-  wrong-length unlike = crosses wrongCount lent (wrong-count-changes-nothing cardBytes lent unlike _ _) (λ zero. absurd (omega arith))
+  unfolding MadeWithinLimits
+  wrong-length unlike = crosses wrongCount lent (wrong-count-changes-nothing cardBytes lent unlike _ _) (λ alike. absurd (unlike alike))
 
   -- the lent bytes are 512, and the library has answered
-  module _ (alike : length lent ≡ cardBytes) (answer : MadeCard) (is : answer ≡ makeAnswer track r m) (refusal : answer .refusal ≡ makeRefusal r m) where
+  module _ (alike : length lent ≡ cardBytes) (answer : MadeCard) (is : answer ≡ makeAnswer track r m) (refusal : answer .refusal ≡ makeRefusal r m)
+      (made : AnswerMade track r m answer) where
     pub make-refused : (answer .refusal ≡ 0 → ⊥) → MakeCrosses (answer .refusal) lent
+    unfolding MadeWithinLimits
     make-refused nonzero =
         crosses (answer .refusal) lent
         (rw (← refusal) (refusal-changes-nothing cardBytes lent alike (answer .refusal) nonzero (makeAnswer track r m .bytes)))
-        (λ zero. absurd (nonzero zero))
+        (λ _ within. absurd (nonzero (made within .0)))
 
-    pub card-put : answer .refusal ≡ 0 → IsReedMullerCard track r m (answer .bytes) → (left : List ℕ) → left ≡ answer .bytes → MakeCrosses 0 left
-    card-put none made left put =
+    pub card-put : answer .refusal ≡ 0 → (left : List ℕ) → left ≡ answer .bytes → MakeCrosses 0 left
+    unfolding MadeWithinLimits
+    card-put none left put =
         rw put
         (crosses 0 (answer .bytes)
         (rw (sym refusal ∙ none, ← is) (values-are-left cardBytes lent alike (answer .bytes)))
-        (λ _. made))
+        (λ _ within. (refl, made within .1)))

@@ -1,20 +1,21 @@
 -- Demand 3 of the reading call for C, over its status and the three numbers that it leaves: position, residual and rule. The
--- premises on card, position and word are those of the library's reading call; the caller lends three numbers besides. And what a
--- vote for C promises. Assumes nothing.
+-- premises on card, position and word are those of the library's reading call; the caller lends three numbers besides. And what the
+-- calls of document 02, P1, promise: a made card, and a vote. Assumes nothing.
 use mathlib.Core.Path.{_≡_}
 use mathlib.Core.Bool.{true}
-use mathlib.Core.List.{List}
+use mathlib.Core.List.{List, [], _∷_}
 use Prim.Native.Nat.{ℕ, _+_, _*_, _^_, _≤_, _<_}
 use lib.ListN.{length, getD}
 use Rattle.bits.specs.Places.{bit}
 use Rattle.model.specs.Card.{codeOf, SoundCard}
-use Rattle.model.specs.Order.{lastPosition}
-use Rattle.model.specs.Reading.{chunkReading}
-use Rattle.model.specs.ReedMuller.{reedMullerCard, orderWithinLimits}
+use Rattle.model.specs.Order.{lastCodeword, lastPosition}
+use Rattle.model.specs.Reading.{chunkDistance, withinRadius, chunkReading}
+use Rattle.model.specs.ReedMuller.{reedMuller, reedMullerCard, orderWithinLimits}
 use Rattle.model.specs.Statuses.{chunkStatus, chunkValues}
 use Rattle.model.specs.declared.Chunk.{Chunk}
 use Rattle.position_theory.specs.Damage.{WithinRadius, turned}
-use Rattle.dunnavish.specs.Crossing.{readCount, voteCount, leftBy}
+use Rattle.reed_muller_theory.specs.MadeCards.{IsReedMullerCard}
+use Rattle.dunnavish.specs.Crossing.{cardBytes, readCount, voteCount, leftBy}
 
 -- the position and the residual among the numbers that a read leaves
 abbrev pub positionLeft : (left : List ℕ) → ℕ
@@ -42,6 +43,26 @@ ServedWithinTurnedAndResidual card received lent status left =
     length lent ≡ readCount → (position : ℕ) → SoundCard card → position ≤ lastPosition (codeOf card)
     → WithinRadius (codeOf card) position received
     → ServedNear status left position (turned (codeOf card) position received + residualLeft left)
+
+-- Document 02, P1, where 512 bytes are lent: for every r and m within the limits the status is 0, and the bytes left are the card of the
+-- Reed-Muller code for the track
+unfoldable pub MadeWithinLimits : (track r m : ℕ) (lent : List ℕ) (status : ℕ) (left : List ℕ) → Type 0
+MadeWithinLimits track r m lent status left =
+    length lent ≡ cardBytes → orderWithinLimits r m ≡ true → (status ≡ 0) × IsReedMullerCard track r m left
+
+-- The chunk promise, of a status and the numbers left: a codeword within t of the chunk is left, with the count of bits by which they
+-- differ; and where the status is 0, what is left is a codeword of the code, within t, with that count.
+pub record LeftAsPromised (r m chunk status : ℕ) (left : List ℕ) : Type 0 where
+  pub reads : (p : ℕ) → p ≤ lastCodeword (reedMuller r m) → withinRadius (reedMuller r m) (bit chunk) p ≡ true
+      → (status ≡ 0) × (left ≡ p ∷ chunkDistance (reedMuller r m) (bit chunk) p ∷ [])
+  pub within : status ≡ 0
+      → (p : ℕ) × (p ≤ lastCodeword (reedMuller r m)) × (withinRadius (reedMuller r m) (bit chunk) p ≡ true)
+      × (left ≡ p ∷ chunkDistance (reedMuller r m) (bit chunk) p ∷ [])
+
+-- Document 02, P1, where two numbers are lent: a vote keeps the chunk promise on every chunk of n bits
+unfoldable pub VotedAsPromised : (r m chunk : ℕ) (lent : List ℕ) (status : ℕ) (left : List ℕ) → Type 0
+VotedAsPromised r m chunk lent status left =
+    length lent ≡ voteCount → orderWithinLimits r m ≡ true → chunk < 2 ^ 2 ^ m → LeftAsPromised r m chunk status left
 
 -- Document 02, P1, where two numbers are lent: on every chunk of n bits, readable or not, the status and the numbers left by a vote are
 -- those of the chunk's reading by search, on the made card of any track

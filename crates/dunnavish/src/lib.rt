@@ -9,9 +9,9 @@ ghost use Rattle.model.specs.Answers.{cardAnswer, writeAnswer, lentAfterWrite, 
 ghost use Rattle.model.specs.Answers.{makeRefusal, makeAnswer, voteAnswer};
 ghost use Rattle.model.specs.Statuses.{cardStatus, cardValues, writeStatus, readStatus, readValues, numberStatus, numberValues};
 ghost use Rattle.model.specs.Statuses.{voteStatus, voteValues};
-ghost use Rattle.reed_muller_theory.specs.MadeCards.{IsReedMullerCard};
 ghost use Rattle.dunnavish.specs.Crossing.{cardCount, readCount, numberCount, voteCount, cardBytes, statusFor, leftBy, UnchangedUnlessZero};
-ghost use Rattle.dunnavish.specs.Demands.{ServedWithinTwiceTurned, ServedWithinTurnedAndResidual, VotedAsSearch};
+ghost use Rattle.dunnavish.specs.Demands.{ServedWithinTwiceTurned, ServedWithinTurnedAndResidual};
+ghost use Rattle.dunnavish.specs.Demands.{MadeWithinLimits, VotedAsPromised, VotedAsSearch};
 use model::CardAnswer;
 use model::NumberAnswer;
 use model::ReadAnswer;
@@ -139,14 +139,14 @@ fn put_card(bytes: [u8; 512], card: &mut [u8])
     }
 }
 
-// Makes the card of the Reed-Muller code of order r in m variables for a track, into a lent card of 512 bytes. On status 0 they are
-// the bytes of that card.
+// Makes the card of the Reed-Muller code of order r in m variables for a track, into a lent card of 512 bytes. Where r, m and k are
+// within the limits, the status is 0, and they are the bytes of that card.
 #[no_mangle]
 pub extern "C" fn dunnavish_make_card(track: u16, r: u32, m: u32, card: &mut [u8]) -> u32
     ensures status { λ a. ⌜ a ≡ statusFor cardBytes (now (card .entry)) (makeRefusal r m) ⌝ }
     ensures left { λ a. ⌜ now (card .exit) ≡ leftBy a (makeAnswer track r m .bytes) (now (card .entry)) ⌝ }
     ensures unchanged { λ a. ⌜ UnchangedUnlessZero (now (card .entry)) a (now (card .exit)) ⌝ }
-    ensures made { λ a. ⌜ (a ≡ 0 → IsReedMullerCard track r m (now (card .exit))) ⌝ }
+    ensures made { λ a. ⌜ MadeWithinLimits track r m (now (card .entry)) a (now (card .exit)) ⌝ }
 {
     if card.len() != 512 {
         return WRONG_COUNT;
@@ -161,12 +161,14 @@ pub extern "C" fn dunnavish_make_card(track: u16, r: u32, m: u32, card: &mut [u8
 }
 
 // Votes on a chunk of the Reed-Muller code of order r in m variables: the codeword's number, and in how many bits the two differ, into
-// two numbers. Where two are lent, on every chunk of n bits, the status and the numbers are those of the search on the made card.
+// two numbers. Where two are lent, on every chunk of n bits, it keeps the chunk promise, and the status and the numbers are those of
+// the search on the made card.
 #[no_mangle]
 pub extern "C" fn dunnavish_vote_chunk(r: u32, m: u32, chunk: u64, values: &mut [u32]) -> u32
     ensures status { λ a. ⌜ a ≡ statusFor voteCount (now (values .entry)) (voteStatus (voteAnswer r m chunk)) ⌝ }
     ensures left { λ a. ⌜ now (values .exit) ≡ leftBy a (voteValues (voteAnswer r m chunk)) (now (values .entry)) ⌝ }
     ensures unchanged { λ a. ⌜ UnchangedUnlessZero (now (values .entry)) a (now (values .exit)) ⌝ }
+    ensures promised { λ a. ⌜ VotedAsPromised r m chunk (now (values .entry)) a (now (values .exit)) ⌝ }
     ensures as_search { λ a. ⌜ VotedAsSearch r m chunk (now (values .entry)) a (now (values .exit)) ⌝ }
 {
     if values.len() != 2 {

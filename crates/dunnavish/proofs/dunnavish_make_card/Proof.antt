@@ -2,6 +2,7 @@
 -- so it has the 512 bytes that are lent. Assumes nothing.
 use borrow.Author.Needs.{needs}
 use Rattle.code_theory.proofs.SoundCard.{card-tests}
+use Rattle.depot.proofs.MadeCards.{unrefused-card}
 use Rattle.dunnavish.proofs.MadeCards.{wrong-length, make-refused, card-put}
 use Rattle.dunnavish.proofs.dunnavish_make_card.Statement.{statement}
 use Rattle.dunnavish.proofs.dunnavish_make_card.Tie as tie
@@ -12,12 +13,14 @@ returns c = wrong-length _ _ _ _ (c .if1 .taken)
 returns-2 : tie.Need-returns-2
 returns-2 c =
     let asked = c .before .before in
-    make-refused _ _ _ _ (asked .before .if1 .left) _ (asked .make-card .ensures .0) (asked .make-card .ensures .1 .0) (c .if2 .taken)
+    let answered = asked .make-card .ensures in
+    make-refused _ _ _ _ (asked .before .if1 .left) _ (answered .0) (answered .1 .0) (answered .1 .1) (c .if2 .taken)
 
 put-card-requires : tie.Need-put-card-requires
 put-card-requires c κs =
     let asked = c .before .before .before .before in
-    let made = asked .make-card .ensures .1 .1 (c .before .before .if2 .left) in
+    let answered = asked .make-card .ensures in
+    let made = unrefused-card _ _ _ (answered .1 .0) (answered .1 .1) (c .before .before .if2 .left) in
     (card-tests _ (made .sound) .size, asked .before .if1 .left)
 
 returns-3 : tie.Need-returns-3
@@ -25,9 +28,8 @@ returns-3 c =
     let put = c .before .before in
     let passed = put .before .before .before in
     let asked = passed .before .before in
-    let none = passed .if2 .left in
-    card-put _ _ _ _ (asked .before .if1 .left) _ (asked .make-card .ensures .0) (asked .make-card .ensures .1 .0) none
-    (asked .make-card .ensures .1 .1 none) _ (put .put-card .ensures)
+    let answered = asked .make-card .ensures in
+    card-put _ _ _ _ (asked .before .if1 .left) _ (answered .0) (answered .1 .0) (answered .1 .1) (passed .if2 .left) _ (put .put-card .ensures)
 
 pub dunnavish-make-card-spec : {M : Type 1} → statement M
 dunnavish-make-card-spec =
