@@ -41,6 +41,7 @@ impl Made {
         }
         for &chunk in &self.chunks {
             assert_eq!(vote_chunk(self.r, self.m, chunk), Err(Refusal::ChunkUnreadable));
+            assert_eq!(vote_chunk(self.m + 1, self.m, chunk), Err(Refusal::CodeLimits));
         }
         let refused = |words: &[Vec<u8>], by| words.iter().all(|word| read_word(&self.card, word) == Err(by));
         assert!(refused(&self.searched, Refusal::ChunkUnreadable) && refused(&self.unsearched, Refusal::Separators));
@@ -55,11 +56,12 @@ impl Calls for Made {
     fn all(&self, call: &str, way: &str, count: usize) -> u64 {
         let (r, m) = black_box((self.r, self.m));
         let chunks = self.chunks[..count].iter().map(|&chunk| black_box(chunk));
-        let read = |words: &[Vec<u8>]| mixed(words[..count].iter().map(|word| number(read_word(&self.card, black_box(word)))));
+        let read = |words: &[Vec<u8>]| mixed(words[..count].iter().map(|word| refused(read_word(&self.card, black_box(word)))));
         black_box(match (call, way) {
             ("make_card", "library") => mixed((0..count).map(|track| last_byte(&make_card(track as u16, r, m).unwrap()))),
             ("make_card", "plain") => mixed((0..count).map(|track| last_byte(&plain_card(track as u16, r, m)))),
-            ("vote_chunk", "library") => mixed(chunks.map(|chunk| number(vote_chunk(r, m, chunk)))),
+            ("vote_chunk", "library") => mixed(chunks.map(|chunk| refused(vote_chunk(r, m, chunk)))),
+            ("vote_chunk", "refused-13") => mixed(chunks.map(|chunk| refused(vote_chunk(black_box(m + 1), m, chunk)))),
             ("vote_chunk", "kept") => mixed(chunks.map(|chunk| self.kept.find(chunk).map_or(10, |_| 0))),
             ("read_word", "refused-10") => read(&self.searched),
             ("read_word", "refused-9") => read(&self.unsearched),
@@ -79,9 +81,9 @@ fn last_byte(card: &[u8]) -> u64 {
     u64::from(black_box(card)[511])
 }
 
-/// The number of a refusal, or 0.
-fn number<T>(answer: Result<T, Refusal>) -> u64 {
-    answer.map_or_else(|refusal| u64::from(refusal.number().unwrap()), |_| 0)
+/// Whether a call was refused. By which number is looked at once, by `check`.
+fn refused<T>(answer: Result<T, Refusal>) -> u64 {
+    u64::from(answer.is_err())
 }
 
 /// Answers mixed into one number, so that they are not optimized away.

@@ -87,7 +87,8 @@ fn calls(card: &str, me: &str) {
 
 /// The calls on one Reed-Muller code. The search of a chunk alone is no call of the library. What it takes is measured as a
 /// difference: a word whose chunk 1 is searched and refused, less a word with the same chunks whose separators are refused
-/// before. It stands first in the last two rows, so the ratios there are the search's cost divided by the votes'.
+/// before. What the votes alone take is measured likewise: the chunk is voted on and refused, less the same chunk with an order that
+/// is refused before. The search stands first in the last three rows, so the ratios there are its cost divided by the votes'.
 fn made(name: &str, me: &str) {
     let work = Made::named(name, 2000).unwrap();
     work.check();
@@ -96,9 +97,14 @@ fn made(name: &str, me: &str) {
     ways("make_card", ["library", "plain"]);
     ways("vote_chunk", ["library", "kept"]);
     let search = cost("read_word", "refused-10").less(cost("read_word", "refused-9"));
-    let votes = cost("vote_chunk", "library");
-    let both = [("search: read_word refused by 10, less refused by 9", search), ("vote_chunk", votes)];
-    rows(name, "search / vote_chunk", both.into_iter());
+    let call = cost("vote_chunk", "library");
+    let votes = call.less(cost("vote_chunk", "refused-13"));
+    let readers = [
+        ("search: read_word refused by 10, less refused by 9", search),
+        ("votes: vote_chunk refused by 10, less refused by 13", votes),
+        ("vote_chunk, the whole call", call),
+    ];
+    rows(name, "search / votes", readers.into_iter());
 }
 
 /// The program tramread and its baselines on one card, each reading files of words.
