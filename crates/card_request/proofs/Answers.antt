@@ -1,5 +1,5 @@
 -- What a request is answered, one law for each way out of the code: a text that is no number, a code outside the limits, and the card.
--- Assumes nothing.
+-- A card that the definition tells to be made is the one of document 02, P1. Assumes nothing.
 use mathlib.Core.Path.{_≡_, refl, sym, ap, _∙_}
 use mathlib.Core.Bool.{Bool, true, false, cond, not, _&&_}
 use mathlib.Core.List.{List}
@@ -14,10 +14,10 @@ use Rattle.model.specs.ReedMuller.{reedMullerCard, orderWithinLimits}
 use Rattle.model.specs.Answers.{makeRefusal, makeAnswer}
 use Rattle.model.specs.declared.MadeCard.{MadeCard}
 use Rattle.reed_muller_theory.specs.MadeCards.{IsReedMullerCard}
-use Rattle.depot.proofs.MadeCards.{limits-refused, limits-passed, MadeWithinLimits}
-use Rattle.card_request.specs.Request.{allDigits, numberIn, isNumber, numberText, greatestTrack, greatestNumber, noCard, answerTo}
+use Rattle.reed_muller_theory.proofs.MadeCards.{is-reed-muller-card}
+use Rattle.depot.proofs.MadeCards.{limits-refused, limits-passed}
+use Rattle.card_request.specs.Request.{allDigits, numberIn, isNumber, numberText, greatestTrack, greatestNumber, noCard, requestAnswer}
 use Rattle.card_request.specs.declared.NumberText.the-variants.{Number, NoNumber}
-use Rattle.card_request.specs.declared.Told.{Told}
 use Rattle.card_request.specs.declared.Told.the-variants.{Made, OutsideLimits, NoTrack, NoOrder, NoVariables}
 use Rattle.card_request.specs.declared.Answer.{Answer}
 
@@ -43,46 +43,70 @@ module _ (most : ℕ) (text : List ℕ) where
       by true same = (refl, cc)
       by false clash = absurd (different (cc))
 
-  pub number-fits : {x : ℕ} → Number x ≡ numberText most text → x ≤ most
+  at-most : isNumber most text ≡ true → numberIn text ≤ most
   unfolding isNumber
-  number-fits e =
-      let (tests, is) = a-number e in
-      omega (arith, is, leb-true (numberIn text) most (and-true-right (not (eqb (length text) 0) && allDigits text) _ tests))
+  at-most tests = leb-true (numberIn text) most (and-true-right (not (eqb (length text) 0) && allDigits text) _ tests)
+
+  pub number-fits : {x : ℕ} → Number x ≡ numberText most text → x ≤ most
+  number-fits e = let (tests, is) = a-number e in omega (arith, is, at-most tests)
 
 -- the bytes of a card that is made
 made-bytes : (track r m : ℕ) → orderWithinLimits r m ≡ true → makeAnswer track r m .bytes ≡ reedMullerCard track r m
 unfolding makeAnswer makeRefusal firstRefusal unlessRefused
 made-bytes track r m within = rw within
 
--- ---- the answer
+-- ---- a card that is told to be made
+
+-- the answer by what the tests say, of the three texts and of the limits
+abbrev answerBy : (track r m within : Bool) (card : List ℕ) → Answer
+answerBy track r m within card =
+    cond (not track) (noCard NoTrack)
+    (cond (not r) (noCard NoOrder)
+    (cond (not m) (noCard NoVariables) (cond (not within) (noCard OutsideLimits) (record { told = Made; card = card }))))
+
+tests-of-made : (track r m within : Bool) (card : List ℕ) → answerBy track r m within card .told ≡ Made
+    → (track ≡ true) × (r ≡ true) × (m ≡ true) × (within ≡ true)
+tests-of-made true true true true card _ = (refl, refl, refl, refl)
+tests-of-made false r m within card clash = absurd (different (cc))
+tests-of-made true false m within card clash = absurd (different (cc))
+tests-of-made true true false within card clash = absurd (different (cc))
+tests-of-made true true true false card clash = absurd (different (cc))
 
 module _ (track r m : List ℕ) where
+  -- it is the code's, for the numbers that the texts give
+  pub made-card : requestAnswer track r m .told ≡ Made
+      → IsReedMullerCard (numberIn track) (numberIn r) (numberIn m) (requestAnswer track r m .card)
+  unfolding requestAnswer
+  made-card made =
+      let (first, second, third, within) =
+      tests-of-made (isNumber greatestTrack track) (isNumber greatestNumber r) (isNumber greatestNumber m)
+      (orderWithinLimits (numberIn r) (numberIn m)) (reedMullerCard (numberIn track) (numberIn r) (numberIn m)) made in
+      rw (first, second, third, within) (is-reed-muller-card _ _ _ within (omega (arith, at-most greatestTrack track first)))
+
+  -- ---- the answer
+
   -- what the contract says of the answer
   abbrev Meets : Answer → Type 0
-  Meets a = (a ≡ answerTo track r m) × (a .told ≡ Made → IsReedMullerCard (numberIn track) (numberIn r) (numberIn m) (a .card))
+  Meets a = (a ≡ requestAnswer track r m) × (a .told ≡ Made → IsReedMullerCard (numberIn track) (numberIn r) (numberIn m) (a .card))
 
-  -- no card is made, and something is told
-  no-card-meets : (told : Told) → (told ≡ Made → ⊥) → noCard told ≡ answerTo track r m → {a : Answer} → a ≡ noCard told → Meets a
-  no-card-meets told some is e = rw e (is, λ made. absurd (some made))
+  meets : {a : Answer} → a ≡ requestAnswer track r m → Meets a
+  meets e = rw e (refl, made-card)
 
   pub no-track : NoNumber ≡ numberText greatestTrack track → {a : Answer} → a ≡ noCard NoTrack → Meets a
-  unfolding answerTo
-  no-track none =
-      no-card-meets NoTrack (λ clash. different (cc)) (rw (no-number greatestTrack track none))
+  unfolding requestAnswer
+  no-track none e = meets (e ∙ rw (no-number greatestTrack track none))
 
   module _ {t : ℕ} (is-track : Number t ≡ numberText greatestTrack track) where
     pub no-order : NoNumber ≡ numberText greatestNumber r → {a : Answer} → a ≡ noCard NoOrder → Meets a
-    unfolding answerTo
-    no-order none =
-        no-card-meets NoOrder (λ clash. different (cc))
-        (rw (a-number greatestTrack track is-track .0, no-number greatestNumber r none))
+    unfolding requestAnswer
+    no-order none e = meets (e ∙ rw (a-number greatestTrack track is-track .0, no-number greatestNumber r none))
 
     module _ {o : ℕ} (is-order : Number o ≡ numberText greatestNumber r) where
       pub no-variables : NoNumber ≡ numberText greatestNumber m → {a : Answer} → a ≡ noCard NoVariables → Meets a
-      unfolding answerTo
-      no-variables none =
-          no-card-meets NoVariables (λ clash. different (cc))
-          (rw (a-number greatestTrack track is-track .0, a-number greatestNumber r is-order .0, no-number greatestNumber m none))
+      unfolding requestAnswer
+      no-variables none e =
+          meets
+          (e ∙ rw (a-number greatestTrack track is-track .0, a-number greatestNumber r is-order .0, no-number greatestNumber m none))
 
       -- three numbers, for which the library has answered
       module _ {v : ℕ} (is-variables : Number v ≡ numberText greatestNumber m) (made : MadeCard) (refusal : made .refusal ≡ makeRefusal o v) where
@@ -94,12 +118,12 @@ module _ (track r m : List ℕ) where
         )
 
         pub outside-limits : (made .refusal ≡ 0 → ⊥) → {a : Answer} → a ≡ noCard OutsideLimits → Meets a
-        unfolding answerTo
-        outside-limits some =
+        unfolding requestAnswer
+        outside-limits some e =
             let (first, second, third) = numbers-read in
             let outside : orderWithinLimits o v ≡ false = limits-refused o v (rw (← refusal) some) in
-            no-card-meets OutsideLimits (λ clash. different (cc))
-            (rw (
+            meets
+            (e ∙ rw (
               first,
               second,
               third,
@@ -108,14 +132,14 @@ module _ (track r m : List ℕ) where
               outside,
             ))
 
-        pub card-made : made ≡ makeAnswer t o v → MadeWithinLimits t o v made → made .refusal ≡ 0
-            → Meets record { told = Made; card = made .bytes }
-        unfolding answerTo
-        card-made is law none =
+        pub card-made : made ≡ makeAnswer t o v → made .refusal ≡ 0 → Meets record { told = Made; card = made .bytes }
+        unfolding requestAnswer
+        card-made is none =
             let (first, second, third) = numbers-read in
             let within : orderWithinLimits o v ≡ true = limits-passed o v (sym refusal ∙ none) in
             let bytes : made .bytes ≡ reedMullerCard t o v = ap (λ (card : MadeCard). card .bytes) is ∙ made-bytes t o v within in
-            rw (
+            meets
+            (rw (
               first,
               second,
               third,
@@ -123,5 +147,5 @@ module _ (track r m : List ℕ) where
               ← a-number greatestNumber r is-order .1,
               ← a-number greatestNumber m is-variables .1,
               within,
-            )
-            (rw bytes, λ _. law within .1)
+              bytes,
+            ))

@@ -28,7 +28,7 @@ unfoldable pub numberAfter : (before : ℕ) → List ℕ → ℕ
 numberAfter before [] = before
 numberAfter before (b ∷ text) = numberAfter (10 * before + (b - 48)) text
 
--- the number that a text makes (proofs/Decimal.antt: of a number in decimal that number)
+-- the number that a text makes. A number written in decimal reads as itself: law decimal-read of proofs/Decimal.antt
 abbrev pub numberIn : List ℕ → ℕ
 numberIn text = numberAfter 0 text
 
@@ -53,8 +53,8 @@ abbrev pub noCard : Told → Answer
 noCard told = record { told = told; card = replicate 512 0 }
 
 -- The first thing that is wrong is told: the track number, r, m, and then the code, refusal 13. Where nothing is, the card is made.
-unfoldable pub answerTo : (track r m : List ℕ) → Answer
-answerTo track r m =
+unfoldable pub requestAnswer : (track r m : List ℕ) → Answer
+requestAnswer track r m =
     cond (not (isNumber greatestTrack track)) (noCard NoTrack)
     (cond (not (isNumber greatestNumber r)) (noCard NoOrder)
     (cond (not (isNumber greatestNumber m)) (noCard NoVariables)

@@ -2,7 +2,7 @@
 // It is answered with the card, or with the first thing that is wrong with it; specs/Request.antt says which.
 ghost use mathlib.Core.Path.{_≡_};
 ghost use Rattle.reed_muller_theory.specs.MadeCards.{IsReedMullerCard};
-ghost use Rattle.card_request.specs.Request.{numberIn, numberText, noCard, answerTo};
+ghost use Rattle.card_request.specs.Request.{numberIn, numberText, noCard, requestAnswer};
 ghost use Rattle.card_request.specs.declared.Told.the-variants.{Made};
 
 // The greatest track number, and the greatest r and m that a call of the library can be given.
@@ -69,7 +69,7 @@ fn no_card(told: Told) -> Answer
 
 // The answer to a request: the card for the track number, the order r and the number of variables m that the texts give.
 pub fn card_for(track: &[u8], r: &[u8], m: &[u8]) -> Answer
-    ensures answer { λ a. ⌜ a ≡ answerTo (now (track .entry)) (now (r .entry)) (now (m .entry)) ⌝ }
+    ensures answer { λ a. ⌜ a ≡ requestAnswer (now (track .entry)) (now (r .entry)) (now (m .entry)) ⌝ }
     ensures made { λ a. ⌜ (a .told ≡ Made
         → IsReedMullerCard (numberIn (now (track .entry))) (numberIn (now (r .entry))) (numberIn (now (m .entry))) (a .card)) ⌝ }
 {

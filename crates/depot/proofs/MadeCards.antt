@@ -1,8 +1,8 @@
 -- What the call that makes a card answers, one law for each way out of the code; the refusal is that of the answer that the definition
 -- gives, and within the limits a card is made, the one of document 02, P1. For the callers: what a refusal says of the limits. Assumes
 -- nothing.
-use mathlib.Core.Path.{_≡_, refl, sym, ap, _∙_}
-use mathlib.Core.Bool.{Bool, true, false, cond, not}
+use mathlib.Core.Path.{_≡_, refl, sym, _∙_}
+use mathlib.Core.Bool.{Bool, true, false, cond, not, false≢true}
 use mathlib.Core.List.{List}
 use Prim.Native.Nat.{ℕ, _<_}
 use native.Mathlib.Omega.{arith}
@@ -49,8 +49,7 @@ module _ (track r m : ℕ) where
 
   pub make-refused : orderWithinLimits r m ≡ false → MakeMeets record { refusal = 13; bytes = replicate 512 0 }
   unfolding makeAnswer makeRefusal unlessRefused firstRefusal
-  make-refused outside =
-      (rw outside, (rw outside, λ within. let never : _≡_ {A = ℕ} 13 0 = ap refusalFor (sym outside ∙ within) in absurd (omega arith)))
+  make-refused outside = (rw outside, (rw outside, λ within. absurd (false≢true (sym outside ∙ within))))
 
   pub card-made : track < 65536 → orderWithinLimits r m ≡ true → (bytes : List ℕ) → bytes ≡ reedMullerCard track r m
       → MakeMeets record { refusal = 0; bytes = bytes }

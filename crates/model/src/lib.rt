@@ -1,5 +1,6 @@
 // What a code chunk reads as, what a card decodes to, and what the public calls answer. The definitions of specs/ give these
-// values their meaning. A refusal carries document 01's number for it and nothing else.
+// values their meaning. A refusal carries its number in documents 01 and 02 and nothing else, but that of a card that is not made,
+// beside which stand 512 zero bytes.
 
 // What a code chunk reads as: the number p of the codeword c(p) within the radius, and in how many places the two differ.
 pub enum Chunk {

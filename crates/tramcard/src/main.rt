@@ -1,10 +1,11 @@
 // tramcard: makes the card of a Reed-Muller code. Its arguments are the track number, the order r and the number of variables m, in
 // decimal; standard output gets the card's 512 bytes. Where no card is made, standard error gets a line that says why, and standard
-// output nothing. What the arguments are answered is `answerTo`, a definition of crate card_request.
+// output nothing. What the arguments are answered is `requestAnswer`, a definition of crate card_request.
 // The stored args are track 14, r 1 and m 4, and stdout is that card: n is 16, k is 5 and D is 8.
 ghost use mathlib.Core.Path.{_≡_};
 ghost use lib.ListN.{length};
-ghost use Rattle.model.specs.Card.{SoundCard};
+ghost use Rattle.card_request.specs.Request.{requestAnswer};
+ghost use Rattle.card_request.specs.declared.Told.the-variants.{Made};
 use card_request::Told;
 use libc::STDERR_FILENO;
 
@@ -20,9 +21,11 @@ fn tell(line: &[u8]) {
     io::write_all(STDERR_FILENO, line);
 }
 
-// Puts a card out. Nothing else goes to standard output.
-fn put_out(card: &[u8])
-    requires { ⌜ SoundCard (now card) ⌝ }
+// Puts out the card that these three texts are answered: it is told to be made, and these are its bytes. Nothing else goes to standard
+// output.
+fn put_out(track: &[u8], r: &[u8], m: &[u8], card: &[u8])
+    requires made { ⌜ requestAnswer (now track) (now r) (now m) .told ≡ Made ⌝ }
+    requires its_bytes { ⌜ now card ≡ requestAnswer (now track) (now r) (now m) .card ⌝ }
 {
     standard_io::put_all(card, 512, b"tramcard: writing standard output");
 }
@@ -45,7 +48,7 @@ fn main() {
     let told = answer.told;
     let card = answer.card;
     match told {
-        Told::Made => put_out(&card),
+        Told::Made => put_out(&track[..track_end], &r[..r_end], &m[..m_end], &card),
         Told::OutsideLimits => tell(
             b"tramcard: refused 13: M is not 1 to 6, R is above M, or k is above 12\n",
         ),

@@ -61,7 +61,7 @@ returns-5 c =
     let made = c .before .before .before in
     let read = made .before in
     card-made _ _ _ (is-track (first (second read))) (is-order (second read)) (is-variables read) (made .make-card .result)
-    (made .make-card .ensures .1 .0) (made .make-card .ensures .0) (made .make-card .ensures .1 .1) (c .before .if1 .left)
+    (made .make-card .ensures .1 .0) (made .make-card .ensures .0) (c .before .if1 .left)
 
 pub card-for-spec : {M : Type 1} → statement M
 card-for-spec =

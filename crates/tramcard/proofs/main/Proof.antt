@@ -1,12 +1,14 @@
--- `tramcard::main` is safe and ends. What it puts out is the card that was made, which is sound. Assumes nothing.
+-- `tramcard::main` is safe and ends. What it puts out is the card that the three arguments are answered. Assumes nothing.
+use mathlib.Core.Path.{refl}
 use borrow.Author.Needs.{needs}
 use Rattle.tramcard.proofs.main.Statement.{statement}
 use Rattle.tramcard.proofs.main.Tie as tie
 
 put-out-requires : tie.Need-put-out-requires
 put-out-requires c κs =
-    let answered = c .before .before .before .before in
-    answered .card-for .ensures .1 (c .before .enum-told .given .1) .sound
+    let matched = c .before .before .before .before in
+    let answered = matched .before .before .before .card-for .ensures in
+    rw (← answered .0) (matched .enum-told .given .1, refl)
 
 pub main-spec : {M : Type 1} → statement M
 main-spec =
@@ -32,6 +34,12 @@ main-spec =
     (λ c. search needs)
     (λ c. search needs)
     (λ c κs. search needs)
+    (λ c. search needs)
+    (λ c. search needs)
+    (λ c. search needs)
+    (λ c. search needs)
+    (λ c. search needs)
+    (λ c. search needs)
     (λ c. search needs)
     (λ c. search needs)
     put-out-requires
