@@ -101,7 +101,7 @@ fn votes_of_repetition_and_of_all_words() {
     assert_eq!(vote_chunk(0, 6, u64::MAX >> 31), voted(1, 31));
     assert_eq!(vote_chunk(0, 6, u64::MAX), voted(1, 0));
     assert_eq!(vote_chunk(0, 1, 0b01), Err(Refusal::ChunkUnreadable));
-    // r = m: every chunk is a codeword. 01 is row 3 and row 2 together, Gray(2); 10 is row 2, Gray(3)
+    // r = m: every chunk is a codeword. 01 is the sum of the rows 11 and 10, Gray(2); 10 is one of them, Gray(3)
     assert_eq!([0b00, 0b11, 0b01, 0b10].map(|chunk| vote_chunk(1, 1, chunk)), [0, 1, 2, 3].map(|number| voted(number, 0)));
 }
 

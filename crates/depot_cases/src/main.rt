@@ -1,6 +1,6 @@
-// Tries the public calls on the cases of document 01, on bad input of every kind, each refusal from 1 to 12 and two faults at
-// once for their order, and on the ends of every range. The file stdout is written by hand, a line a case, from document 01's
-// cards, table and rules; it is never taken from what the program writes.
+// Tries the five public calls that take a card on the cases of document 01, on bad input of every kind, each refusal from 1 to 12 and
+// two faults at once for their order, and on the ends of every range. The file stdout is written by hand, a line a case, from
+// document 01's cards, table and rules; it is never taken from what the program writes.
 mod bad_cards;
 mod calls;
 mod cards;

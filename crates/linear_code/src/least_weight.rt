@@ -12,7 +12,7 @@ ghost use Rattle.code_theory.specs.LeastOfSets.{leastOfSets};
 use super::powers;
 
 // How many of k rows are low ones: five at most, for the table has room for 32 sums. The compiler would clear a longer table by a
-// call of memset, and the archive for C is to need memcpy alone.
+// call of memset, for every card that is checked.
 fn low_rows(k: u32) -> u32
     ensures { λ r. ⌜ (r ≤ 5) × (r ≤ k) ⌝ }
 {

@@ -1,4 +1,4 @@
--- The definitions answer every case of document 01's table as it says: computed, all at once. Assumes nothing.
+-- The definitions answer every case of the table as the documents say: computed, all at once. Assumes nothing.
 use mathlib.Core.Path.{_≡_, refl}
 use mathlib.Core.List.{map}
 use Rattle.bits.specs.Sums.{sumBelow, sumOver, distance, joinAt}

@@ -1,5 +1,5 @@
--- Document 01, "Two cards to try": every case marked *, and with them the cards' figures and the refused cards and words
--- that it names; and the borders of document 02's requests; as one table of questions and answers. That the definitions answer so is one theorem, `starred-cases`.
+-- Document 01, "Two cards to try": every case marked *, and with them the cards' figures and the refused cards and words that it
+-- names; and the borders of document 02's P1. One table of questions and answers. That the definitions answer so is one theorem, `starred-cases`.
 -- Assumes nothing.
 use mathlib.Core.List.{List, [], _∷_, _++_}
 use Prim.Native.Nat.{ℕ, zero, suc}
@@ -24,7 +24,7 @@ cardA = cardWith 3 2 0 (3 ∷ 6 ∷ [])
 unfoldable pub cardB : List ℕ
 cardB = cardWith 3 1 14 (7 ∷ [])
 
--- what may be asked of a card
+-- what may be asked of a card, or of a code by its order and number of variables
 pub data Question : Type 0 where
   -- the check that it carries
   carriedCheck : (card : List ℕ) → Question
@@ -121,7 +121,7 @@ starredCases =
     ∷ case (made 0 0 1 2) (0 ∷ 0 ∷ 2 ∷ 1 ∷ 0 ∷ 2 ∷ 0 ∷ 10 ∷ 10 ∷ 0b11 ∷ 0 ∷ [])
     ∷ case (made 14 1 2 3) (0 ∷ 0 ∷ 4 ∷ 3 ∷ 14 ∷ 2 ∷ 0 ∷ 14 ∷ 86 ∷ 0b1111 ∷ 0b1010 ∷ 0b1100 ∷ [])
     ∷ case (made 65535 2 2 4) (0 ∷ 0 ∷ 4 ∷ 4 ∷ 65535 ∷ 1 ∷ 0 ∷ 11 ∷ 135 ∷ 0b1111 ∷ 0b1010 ∷ 0b1100 ∷ 0b1000 ∷ [])
-    -- 13: no variable, seven, r above m, k 15 and 16; and the bytes, all zero, are refusal 3
+    -- 13: no variable, seven, r above m, k 15 and 16, the greatest numbers; and the bytes, all zero, are refusal 3
     ∷ case (made 14 0 0 0) (13 ∷ 3 ∷ [])
     ∷ case (made 14 1 7 0) (13 ∷ 3 ∷ [])
     ∷ case (made 14 4 3 0) (13 ∷ 3 ∷ [])
@@ -134,6 +134,10 @@ starredCases =
     ∷ case (vote 1 3 0b01011110) (0 ∷ 12 ∷ 1 ∷ [])
     ∷ case (vote 1 3 0b00011110) (10 ∷ [])
     ∷ case (vote 1 3 0b100011110) (8 ∷ [])
+    -- 64 places: none is above, 31 bits are within t, and 32 tie
+    ∷ case (vote 0 6 0xffffffffffffffff) (0 ∷ 1 ∷ 0 ∷ [])
+    ∷ case (vote 0 6 0x7fffffff) (0 ∷ 0 ∷ 31 ∷ [])
+    ∷ case (vote 0 6 0xffffffff) (10 ∷ [])
     ∷ case (vote 0 0 2) (13 ∷ [])
     ∷ case (vote 2 5 4294967296) (13 ∷ [])
     ∷ []

@@ -1,4 +1,4 @@
--- What the answers, and what a code chunk reads as, stand for in document 01's words, for every case of each enum: its status,
+-- What the answers, and what a code chunk reads as, stand for in the documents' words, for every case of each enum: its status,
 -- which is 0 where the call is served and the refusal's number in the table where it is turned down, and its values. A refusal
 -- carries its number alone. Assumes nothing.
 use mathlib.Core.Bool.{cond}

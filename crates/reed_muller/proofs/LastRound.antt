@@ -56,6 +56,9 @@ module _ (r m chunk left rows : ℕ) (six : m ≤ 6) (here : VotedDown r m chunk
   own : getD (setsUpTo 6 0) 0 0 < 2 ^ m
   own = rw empty (pow-pos m)
 
+  twice-ones : 2 * ones left ≡ 2 * votesForOne m 0 (bit left)
+  twice-ones = ap (λ (v : ℕ). 2 * v) (sym (votes-of-none m left six (here .narrow)))
+
   ended : (left′ found : ℕ) → RoundAt m 0 left rows 0 left′ found → VotedDown r m chunk 0 left′ found
   unfolding setsBefore
   ended left′ found met =
@@ -66,8 +69,7 @@ module _ (r m chunk left rows : ℕ) (six : m ≤ 6) (here : VotedDown r m chunk
   taken-off most =
       ended (bitXor left (2 ^ 2 ^ m - 1)) (rows * 2 + 1)
       (voted-for m 0 left rows 0 left rows begun (omega arith) own
-      (rw empty
-      (most-for-one m 0 (bit left) (2 * ones left) (2 ^ m) (ap (λ (v : ℕ). 2 * v) (sym (votes-of-none m left six (here .narrow)))) (sym (all-classes m)) most))
+      (rw empty (most-for-one m 0 (bit left) (2 * ones left) (2 ^ m) twice-ones (sym (all-classes m)) most))
       (2 ^ 2 ^ m - 1) (rw empty (sym (product-of-none m))))
 
   pub not-taken-off : 2 * ones left ≤ 2 ^ m → VotedDown r m chunk 0 left (rows * 2)
@@ -75,5 +77,4 @@ module _ (r m chunk left rows : ℕ) (six : m ≤ 6) (here : VotedDown r m chunk
   not-taken-off no-most =
       ended left (rows * 2)
       (not-voted m 0 left rows 0 left rows begun (omega arith) own
-      (rw empty
-      (not-most-for-one m 0 (bit left) (2 * ones left) (2 ^ m) (ap (λ (v : ℕ). 2 * v) (sym (votes-of-none m left six (here .narrow)))) (sym (all-classes m)) no-most)))
+      (rw empty (not-most-for-one m 0 (bit left) (2 * ones left) (2 ^ m) twice-ones (sym (all-classes m)) no-most)))

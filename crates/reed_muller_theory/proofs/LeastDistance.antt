@@ -25,7 +25,8 @@ use Rattle.code_theory.proofs.LeastWeight.{Attained, least-le, least-some}
 use Rattle.reed_muller_theory.proofs.LowestVariable.{member, weight-digit}
 use Rattle.reed_muller_theory.proofs.Classes.{count-of-classes, classes-apart}
 use Rattle.reed_muller_theory.proofs.Sets.{set-below, set-size, rowOfSet, row-of-set, set-occurs, count-low, count-high}
-use Rattle.reed_muller_theory.proofs.Polynomials.{valueAt, DegreeAtMost, class-of-polynomial, product-bit, product-row-bit, row-is-product, no-row, row-narrow}
+use Rattle.reed_muller_theory.proofs.Polynomials.{valueAt, DegreeAtMost, class-of-polynomial}
+use Rattle.reed_muller_theory.proofs.Polynomials.{product-bit, product-row-bit, row-is-product, no-row, row-narrow}
 use Rattle.reed_muller_theory.proofs.Polynomials.{coefficientOf, degree-of-codeword, codeword-is-polynomial}
 
 -- ---- a set with the most variables

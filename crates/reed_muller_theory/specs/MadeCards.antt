@@ -7,7 +7,7 @@ use Rattle.model.specs.Card.{lengthOf, rowCountOf, trackOf, codeOf, SoundCard}
 use Rattle.model.specs.ReedMuller.{countOfSets, reedMuller}
 
 pub record IsReedMullerCard (track r m : ℕ) (card : List ℕ) : Type 0 where
-  -- it is sound: no call turns it down
+  -- it is sound: none of the refusals 1 to 5 holds of it
   pub sound : SoundCard card
   -- n is 2^m, one place for each position p of the m variables
   pub n-is : lengthOf card ≡ 2 ^ m

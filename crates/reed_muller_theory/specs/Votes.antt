@@ -1,4 +1,4 @@
--- Document 02, P1: what a reader that votes promises of a chunk, whose r and m are within the limits and which has n bits. Assumes nothing.
+-- Document 02, P1: what a reader that votes promises where r and m are within the limits and the chunk has n bits. Assumes nothing.
 use mathlib.Core.Path.{_≡_}
 use mathlib.Core.Bool.{true}
 use Prim.Native.Nat.{ℕ, _^_, _≤_, _<_}
@@ -12,8 +12,8 @@ use Rattle.model.specs.declared.Chunk.{Chunk}
 use Rattle.model.specs.declared.VoteAnswer.{VoteAnswer}
 use Rattle.model.specs.declared.VoteAnswer.the-variants.{Voted}
 
--- The chunk promise, of an answer: a codeword within t of the chunk is answered, with the count of bits by which they differ; and what
--- is answered is a codeword of the code, within t, with that count.
+-- What `ReadsChunks` (code_theory) promises of every chunk, said of one answer: a codeword within t of the chunk is answered, with the
+-- count of bits by which they differ; and what is answered is a codeword of the code, within t, with that count.
 pub record ReadAsPromised (r m chunk : ℕ) (answer : VoteAnswer) : Type 0 where
   pub reads : (p : ℕ) → p ≤ lastCodeword (reedMuller r m) → withinRadius (reedMuller r m) (bit chunk) p ≡ true
       → answer ≡ Voted p (chunkDistance (reedMuller r m) (bit chunk) p)

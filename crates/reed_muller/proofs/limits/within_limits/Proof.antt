@@ -20,7 +20,9 @@ returns-3 c =
 -- an entry of the table is at most 3
 cast-result : tie.Need-cast-result
 unfolding greatestOrders
-cast-result c = record { fits = omega (arith, greatest-at-most-three (c .before .before .args .m) (omega (arith, c .before .if1 .left)) (omega (arith, c .if2 .left))) }
+cast-result c =
+    let m = c .before .before .args .m in
+    record { fits = omega (arith, greatest-at-most-three m (omega (arith, c .before .if1 .left)) (omega (arith, c .if2 .left))) }
 
 pub within-limits-spec : {M : Type 1} → statement M
 within-limits-spec = tie.close (tie.spec returns returns-2 (λ c. search needs) cast-result returns-3)

@@ -48,7 +48,8 @@ end c = c .start-of .ensures ∙ rw (add-one (c .before .before .before .before 
 loop-holds : tie.Need-loop-holds Inv-loop μ-loop
 loop-holds c =
     let first = c .before .before .before .before in
-    (omega arith, omega (arith, end c, count-low (first .args .r) 6), reached-first (first .args .r) (first .args .m) _ (c .before .before .before .all-positions .ensures))
+    let positions = c .before .before .before .all-positions .ensures in
+    (omega arith, omega (arith, end c, count-low (first .args .r) 6), reached-first (first .args .r) (first .args .m) _ positions)
 
 -- ---- the set that is looked at
 
@@ -79,7 +80,8 @@ is-own-requires c κs = set c .1
 
 classes-of-requires : tie.Need-classes-of-requires Inv-loop μ-loop
 classes-of-requires c κs = let at = c .before .before .before in
-    (omega (arith, set at .0, others-not-empty 6 (start at .args .r) (at .before .loop .i) (at .before .loop .inv .0) (inside at)), set at .1, at .before .before .before .all-variables .ensures)
+    let some = others-not-empty 6 (start at .args .r) (at .before .loop .i) (at .before .loop .inv .0) (inside at) in
+    (omega (arith, set at .0, some), set at .1, at .before .before .before .all-variables .ensures)
 
 -- whether it is one of the code's
 is-own : (c : tie.After-is-own Inv-loop μ-loop) → c .is-own .result ≡ ltb (S (c .before)) (2 ^ start (c .before) .args .m)
@@ -112,7 +114,8 @@ loop-again c =
       ⊎-elim
           (λ w.
           let then : tie.Then1 Inv-loop μ-loop = record { before = c .before; if1 = w .0 } in
-          let row = w .2 .ensures .1 (first .args .m) (limits first .0) (made at .before .all-positions .ensures) ∙ ap (productRow (first .args .m)) (set at .0) in
+          let product = w .2 .ensures .1 (first .args .m) (limits first .0) (made at .before .all-positions .ensures) in
+          let row = product ∙ ap (productRow (first .args .m)) (set at .0) in
           rw (w .3, w .4) (reached-more _ _ (loop .i) _ _ (inside at) (loop .inv .2) _ (fits then) (own then) row))
           (λ w. rw (w .1, w .2) (reached-same _ _ (loop .i) _ _ (inside at) (loop .inv .2) (ltb-false _ _ (sym (is-own (c .before)) ∙ w .0 .left))))
           (c .if1 .came),

@@ -77,7 +77,8 @@ is-own-requires c κs = set (c .before) .1
 
 classes-of-requires : tie.Need-classes-of-requires Inv-loop μ-loop
 classes-of-requires c κs = let at-set = c .before .before .before in
-    (omega (arith, set at-set .0, entry-not-empty (start at-set .args .size) (at at-set) (start at-set .pre .0 .5) (low at-set) (high at-set)), set at-set .1, start at-set .pre .1 .1)
+    let some = entry-not-empty (start at-set .args .size) (at at-set) (start at-set .pre .0 .5) (low at-set) (high at-set) in
+    (omega (arith, set at-set .0, some), set at-set .1, start at-set .pre .1 .1)
 
 -- whether it is one of the code's
 is-own : (c : tie.After-is-own Inv-loop μ-loop) → c .is-own .result ≡ ltb (S (c .before .before)) (2 ^ start (c .before .before) .args .m)
@@ -103,7 +104,8 @@ module _ (c : tie.After-classes-of Inv-loop μ-loop) where
   sums : (p : ℕ) → p < 64 → product (S inside) p ≡ 1 → bit (c .classes-of .result .sums) p ≡ classSum 6 (S inside) (bit (start inside .args .y)) p
   sums = rw (set inside .0) at (c .classes-of .ensures .0)
 
-  votes : ones (bitAnd (c .classes-of .result .sums) (c .classes-of .result .row)) ≡ votesForOne (start inside .args .m) (S inside) (bit (start inside .args .y))
+  votes : ones (bitAnd (c .classes-of .result .sums) (c .classes-of .result .row))
+      ≡ votesForOne (start inside .args .m) (S inside) (bit (start inside .args .y))
   votes = votes-counted (start inside .args .m) (S inside) _ (start inside .pre .0 .0) row (start inside .args .y) _ sums
 
   all-classes : made inside .two-to .result ≡ classes (start inside .args .m) (S inside)

@@ -64,7 +64,8 @@ round-requires c κs =
 returns : tie.Need-returns Inv-loop μ-loop
 returns c =
     let before = c .before .before .before .before in
-    voting-tied _ _ _ (before .before .loop .size) _ _ (before .before .loop .inv) (limits (start before) .order) (c .before .round .ensures .0 (c .if1 .taken))
+    voting-tied _ _ _ (before .before .loop .size) _ _ (before .before .loop .inv) (limits (start before) .order)
+    (c .before .round .ensures .0 (c .if1 .taken))
 
 loop-again : tie.Need-loop-again Inv-loop μ-loop
 loop-again c =
