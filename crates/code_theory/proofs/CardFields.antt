@@ -68,41 +68,6 @@ row-back before row (suc m) after at z here h fits =
     rw (append-assoc (rowBytes row m) (bytesOf 8 (row m)) after)
     (⊎-elim last (λ l. row-back before row m (bytesOf 8 (row m) ++ after) at z here l fits) (eq-or-lt-of-le (le-of-suc-le-suc h)))
 
--- ---- bytes below 256
-
-record Bytes (l : List ℕ) : Type 0 where
-  below : (i : ℕ) → byte l i < 256
-
-no-bytes : Bytes []
-no-bytes = record { below = λ i. omega arith }
-
-cons-bytes : {x : ℕ} {l : List ℕ} → x < 256 → Bytes l → Bytes (x ∷ l)
-cons-bytes {x} {l} first rest = record { below = at }
-  where
-    at : (i : ℕ) → byte (x ∷ l) i < 256
-    at zero = first
-    at (suc i) = rest .below i
-
-append-bytes : {l m : List ℕ} → Bytes l → Bytes m → Bytes (l ++ m)
-append-bytes {l} {m} first rest = joined l first
-  where
-    joined : (s : List ℕ) → Bytes s → Bytes (s ++ m)
-    joined [] bytes = rest
-    joined (x ∷ s) bytes = cons-bytes (bytes .below 0) (joined s record { below = λ i. bytes .below (suc i) })
-
-number-bytes : (m x : ℕ) → Bytes (bytesOf m x)
-unfolding bytesOf
-number-bytes zero x = no-bytes
-number-bytes (suc m) x = append-bytes (number-bytes m (x / 256)) (cons-bytes (omega arith) no-bytes)
-
-row-bytes : (row : ℕ → ℕ) (z : ℕ) → Bytes (rowBytes row z)
-unfolding rowBytes
-row-bytes row zero = no-bytes
-row-bytes row (suc z) = append-bytes (row-bytes row z) (number-bytes 8 (row z))
-
-zero-bytes : (n : ℕ) → Bytes (replicate n 0)
-zero-bytes n = record { below = λ i. rw (zero-byte n i) (omega arith) }
-
 -- ---- bytes with zeros behind them, and 510 bytes with their check
 
 pub length-padded : (l : List ℕ) (a spare : ℕ) → length l ≡ a → length (l ++ replicate spare 0) ≡ a + spare
@@ -177,13 +142,6 @@ module _ (n k track : ℕ) (row : ℕ → ℕ) where
   pub unused-of-written : unusedByteSet (cardOf n k track row) ≡ false
   unfolding unusedByteSet
   unused-of-written = any-none _ 410 (λ i l. rw (unused-zero i l))
-
-  pub bytes-of-written : n < 256 → k < 256 → (i : ℕ) → byte (cardOf n k track row) i < 256
-  unfolding sealed
-  bytes-of-written n-byte k-byte =
-      let fields : Bytes (fieldBytes n k track row 12) =
-      cons-bytes n-byte (cons-bytes k-byte (append-bytes (number-bytes 2 track) (row-bytes row 12))) in
-      rw card-in-parts (append-bytes (append-bytes fields (zero-bytes 410)) (number-bytes 2 _) .below)
 
   -- what stands behind the fields
   behind : List ℕ
