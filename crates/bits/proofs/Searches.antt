@@ -1,11 +1,11 @@
 -- What the searches find. Each search is known by a few facts: where it lies, what holds there, and what holds of the numbers
 -- that it passed over; whatever has those facts is what it finds. Assumes nothing.
 use mathlib.Core.Path.{_≡_, refl, sym, _∙_}
-use mathlib.Core.Bool.{Bool, true, false, cond, _||_, true≢false}
+use mathlib.Core.Bool.{Bool, true, false, cond, _||_, true≢false, or-false, or-assoc}
 use mathlib.Core.Logic.{_⊎_, inl, inr, ⊎-elim}
 use Prim.Native.Nat.{ℕ, zero, suc, _+_, _-_, _≤_, _<_, zero-le}
 use native.Mathlib.Nat.{eq-or-lt-of-le, lt-of-not-le, le-of-suc-le-suc, le-antisymm, le-refl, le-step, le-dest, lt-suc-self}
-use native.Mathlib.Nat.{add-suc, add-sub-cancel-left}
+use native.Mathlib.Nat.{add-zero, add-suc, add-sub-cancel-left}
 use native.Mathlib.Numerals.{add-one}
 use native.Mathlib.Omega.{arith}
 use lib.Dec.{ltb}
@@ -49,6 +49,12 @@ unfolding anyBelow
 any-some f zero i l t = absurd (omega arith)
 any-some f (suc m) i l t =
     ⊎-elim (λ e. or-true-right (anyBelow f m) (f m) (rw e at t)) (λ k. rw (any-some f m i k t)) (last-or-below l)
+
+-- among the first a numbers, or among the m after them
+pub any-split : (f : ℕ → Bool) (a m : ℕ) → anyBelow f (a + m) ≡ (anyBelow f a || anyBelow (λ i. f (a + i)) m)
+unfolding anyBelow
+any-split f a zero = rw (add-zero a, or-false (anyBelow f a))
+any-split f a (suc m) = rw (add-suc a m, any-split f a m, or-assoc (anyBelow f a) (anyBelow (λ i. f (a + i)) m) (f (a + m)))
 
 -- ---- first: where the test first holds
 

@@ -9,6 +9,7 @@ use Prim.Native.Nat.{ℕ, zero, suc, _+_, _*_, _/_, _%_, _^_, _≤_, _<_}
 use native.Mathlib.Nat.{pow-suc, eq-or-lt-of-le, le-of-suc-le-suc, lt-of-lt-of-le}
 use native.Mathlib.Omega.{arith}
 use borrow.Author.Tests.{lt-ltb, le-ltb}
+use lib.IntN.{pos}
 use lib.ListN.{length, replicate, length-append, length-replicate, List·getD-append}
 use lib.Pow.{pow-mono}
 use lib.Seq.{getD-at, getD-append-add}
@@ -16,10 +17,12 @@ use Rattle.bits.proofs.Numbers.{lt-or-le}
 use Rattle.bits.proofs.Searches.{any-none}
 use Rattle.bits.proofs.Sums.{sum-ext}
 use Rattle.bits.proofs.ByteLists.{zero-byte}
-use Rattle.model.specs.Card.{byte, highFirst, lengthOf, rowCountOf, trackOf, rowOf, storedCheck, checkShare, computedCheck}
-use Rattle.model.specs.Card.{Code, codeOf, unusedByteSet, SoundCard}
+use Rattle.model.specs.Card.{byte, highFirst, lengthOf, rowCountOf, trackOf, rowOf, offsetOf, storedCheck, checkShare, computedCheck}
+use Rattle.model.specs.Card.{Code, codeOf, unusedByteSet, offsetOutside, SoundCard}
 use Rattle.model.specs.CardBytes.{bytesOf, rowBytes, sealed, cardOf}
+use Rattle.code_theory.specs.Offsets.{OldCard}
 use Rattle.code_theory.specs.Promise.{Sound}
+use Rattle.code_theory.proofs.Offsets.{old-offset}
 use Rattle.code_theory.proofs.SoundCard.{sound-of-tests, test-of-limits, test-of-narrow, test-of-unused, test-of-independent}
 
 -- ---- a number in m bytes
@@ -79,7 +82,7 @@ padded-zero l a spare i e = rw (← e) (getD-append-add l (replicate spare 0) i 
 -- where the 100 bytes of the fields have zeros behind them, no unused byte is set
 pub unused-padded : (l : List ℕ) (spare : ℕ) → length l ≡ 100 → unusedByteSet (l ++ replicate spare 0) ≡ false
 unfolding unusedByteSet
-unused-padded l spare e = any-none _ 410 (λ i h. rw (padded-zero l 100 spare i e))
+unused-padded l spare e = any-none _ 406 (λ i h. let here : 104 + i ≡ 100 + (4 + i) = omega arith in rw (here, padded-zero l 100 spare (4 + i) e))
 
 -- what stands behind the 510 bytes is no part of their check
 pub check-of-front : (body after : List ℕ) → length body ≡ 510 → computedCheck (body ++ after) ≡ computedCheck body
@@ -133,15 +136,19 @@ module _ (n k track : ℕ) (row : ℕ → ℕ) where
   pub check-of-written : storedCheck (cardOf n k track row) ≡ computedCheck (cardOf n k track row)
   check-of-written = rw card-in-parts (check-sealed _ length-body)
 
-  unused-zero : (i : ℕ) → i < 410 → byte (cardOf n k track row) (100 + i) ≡ 0
-  unused-zero i l =
+  zero-past-rows : (i : ℕ) → i < 410 → byte (cardOf n k track row) (100 + i) ≡ 0
+  zero-past-rows i l =
       let fields = fieldBytes n k track row 12 in
       rw card-in-parts
       (byte-sealed _ length-body (100 + i) (omega arith) ∙ padded-zero fields 100 410 i (length-fields n k track row 12))
 
   pub unused-of-written : unusedByteSet (cardOf n k track row) ≡ false
   unfolding unusedByteSet
-  unused-of-written = any-none _ 410 (λ i l. rw (unused-zero i l))
+  unused-of-written = any-none _ 406 (λ i l. let here : 104 + i ≡ 100 + (4 + i) = omega arith in rw (here, zero-past-rows (4 + i) (omega arith)))
+
+  pub offset-of-written : offsetOf (cardOf n k track row) ≡ pos 0
+  unfolding OldCard
+  offset-of-written = old-offset _ (λ i l. zero-past-rows i (omega arith))
 
   -- what stands behind the fields
   behind : List ℕ
@@ -190,6 +197,7 @@ module _ (C : Code) (sound : Sound C) (track : ℕ) (none-past : (z : ℕ) → 1
   same-k = k-of-written (C .n) (C .k) track (C .row)
 
   pub written-card-sound : SoundCard (cardOf (C .n) (C .k) track (C .row))
+  unfolding offsetOutside
   written-card-sound =
       sound-of-tests _
       record {
@@ -199,6 +207,7 @@ module _ (C : Code) (sound : Sound C) (track : ℕ) (none-past : (z : ℕ) → 1
         rows-within = rw (same-n, same-rows) (test-of-narrow _ _ (sound .narrow));
         unused-rows-zero = rw (same-k, same-rows) (test-of-unused _ _ (sound .unused));
         unused-bytes-zero = unused-of-written (C .n) (C .k) track (C .row);
+        offset-within = rw (offset-of-written (C .n) (C .k) track (C .row)) refl;
         rows-independent = rw (same-k, same-rows) (test-of-independent _ _ (sound .independent));
       }
 

@@ -3,6 +3,7 @@ pub mod Gray
 pub mod Codewords
 pub mod Refusals
 pub mod SoundCard
+pub mod Offsets
 pub mod CardFields
 pub mod LeastWeight
 pub mod LeastOfSets

@@ -7,12 +7,15 @@ use mathlib.Core.Logic.{⊎-elim}
 use Prim.Native.Nat.{ℕ, _+_, _-_, _^_, _≤_, _<_}
 use native.Mathlib.Omega.{arith}
 use lib.Dec.{leb, eqb}
+use lib.IntN.{ℤ, pos, negsuc}
 use lib.ListN.{length}
-use borrow.Author.Tests.{leb-true, leb-false, le-leb, lt-leb, eqb-true, eqb-false, eq-eqb, ne-eqb, not-false}
+use lib.Signed.{mag}
+use borrow.Author.Tests.{leb-true, leb-false, ltb-false, le-leb, lt-leb, eqb-true, eqb-false, eq-eqb, ne-eqb, not-false}
 use Rattle.bits.proofs.Numbers.{lt-or-le, or-false-left, or-false-right}
 use Rattle.bits.proofs.Searches.{any-none, none-of-any}
-use Rattle.model.specs.Card.{lengthOf, rowCountOf, rowOf, storedCheck, computedCheck, sumOfRows, codeOf}
-use Rattle.model.specs.Card.{withinLimits, rowTooWide, unusedRowSet, unusedByteSet, misplaced, dependent, cardRefusal, SoundCard}
+use Rattle.model.specs.Card.{lengthOf, rowCountOf, rowOf, offsetOf, storedCheck, computedCheck, sumOfRows, codeOf}
+use Rattle.model.specs.Card.{withinLimits, rowTooWide, unusedRowSet, unusedByteSet, misplaced, offsetOutside, dependent, cardRefusal}
+use Rattle.model.specs.Card.{SoundCard}
 use Rattle.code_theory.specs.Promise.{Sound}
 use Rattle.code_theory.proofs.Refusals.{NoneHolds, numbered, none-holds, none-refuses}
 
@@ -68,10 +71,16 @@ test-of-unused k row unused =
     any-none (λ z. leb k z && not (eqb (row z) 0)) 12
     (λ z l. ⊎-elim (λ h. rw (lt-leb k z h)) (λ h. rw (le-leb k z h, unused z h l)) (lt-or-le z k))
 
+-- an offset that is not outside its range is at most 20,000 in magnitude
+pub offset-of-test : (offset : ℤ) → offsetOutside offset ≡ false → mag offset ≤ 20000
+unfolding offsetOutside
+offset-of-test (pos x) e = ltb-false 20000 x e
+offset-of-test (negsuc x) e = omega (arith, ltb-false 19999 x (or-false-left _ false e))
+
 pub independent-of-test : (k : ℕ) (row : ℕ → ℕ) → dependent k row ≡ false
     → (g : ℕ) → 0 < g → g < 2 ^ k → sumOfRows row k g ≡ 0 → ⊥
 unfolding dependent
-independent-of-test k row test g pos below e =
+independent-of-test k row test g above below e =
     eqb-false (sumOfRows row k (g - 1 + 1)) 0
     (none-of-any (λ h. eqb (sumOfRows row k (h + 1)) 0) (2 ^ k - 1) test (g - 1) (omega arith))
     (ap (sumOfRows row k) (omega arith) ∙ e)
@@ -85,7 +94,7 @@ test-of-independent k row independent =
 
 -- ---- a sound card
 
--- what refusals 1 to 5 test, each as a fact of a card of which none holds
+-- what refusals 1 to 5 and 14 test, each as a fact of a card of which none holds
 pub record CardTests (b : List ℕ) : Type 0 where
   pub size : length b ≡ 512
   pub check : storedCheck b ≡ computedCheck b
@@ -93,6 +102,7 @@ pub record CardTests (b : List ℕ) : Type 0 where
   pub rows-within : rowTooWide (lengthOf b) (rowOf b) ≡ false
   pub unused-rows-zero : unusedRowSet (rowCountOf b) (rowOf b) ≡ false
   pub unused-bytes-zero : unusedByteSet b ≡ false
+  pub offset-within : offsetOutside (offsetOf b) ≡ false
   pub rows-independent : dependent (rowCountOf b) (rowOf b) ≡ false
 
 pub card-tests : (b : List ℕ) → SoundCard b → CardTests b
@@ -100,7 +110,7 @@ unfolding cardRefusal misplaced NoneHolds numbered
 card-tests b e =
     let wide : Bool = rowTooWide (lengthOf b) (rowOf b) in
     let unused : Bool = unusedRowSet (rowCountOf b) (rowOf b) in
-    let (size, (check, (limits, (placed, (independent, _))))) = none-holds _ refl e in
+    let (size, (check, (limits, (placed, (within, (independent, _)))))) = none-holds _ refl e in
     record {
       size = eqb-true _ _ (not-false _ size);
       check = eqb-true _ _ (not-false _ check);
@@ -108,6 +118,7 @@ card-tests b e =
       rows-within = or-false-left wide unused (or-false-left (wide || unused) (unusedByteSet b) placed);
       unused-rows-zero = or-false-right wide unused (or-false-left (wide || unused) (unusedByteSet b) placed);
       unused-bytes-zero = or-false-right (wide || unused) (unusedByteSet b) placed;
+      offset-within = within;
       rows-independent = independent;
     }
 
@@ -118,7 +129,7 @@ sound-of-tests b tests =
     let size : not (eqb (length b) 512) ≡ false = rw (tests .size) in
     let check : not (eqb (storedCheck b) (computedCheck b)) ≡ false = rw (eq-eqb _ _ (tests .check)) in
     let placed : misplaced b ≡ false = rw (tests .rows-within, tests .unused-rows-zero) (tests .unused-bytes-zero) in
-    none-refuses _ (size, (check, (rw (tests .limits), (placed, (tests .rows-independent, tt)))))
+    none-refuses _ (size, (check, (rw (tests .limits), (placed, (tests .offset-within, (tests .rows-independent, tt))))))
 
 pub sound-card : (b : List ℕ) → SoundCard b → Sound (codeOf b)
 unfolding codeOf

@@ -1,3 +1,4 @@
 pub mod LeastDistance
 pub mod LeastOfSets
+pub mod Offsets
 pub mod Promise

@@ -1,5 +1,6 @@
 pub mod Statuses
-pub mod NumberAnswers
+pub mod BlockStarts
+pub mod Distances
 pub mod Writing
 pub mod Reading
 pub mod MadeCards

@@ -9,7 +9,7 @@ use borrow.Author.Tests.{ne-eqb}
 use Rattle.bits.specs.Places.{bit}
 use Rattle.bits.proofs.Numbers.{eq-or-ne}
 use Rattle.model.specs.Refusals.{unlessRefused}
-use Rattle.model.specs.Card.{cardRefusal, codeOf}
+use Rattle.model.specs.Card.{cardRefusal, codeOf, offsetOf}
 use Rattle.model.specs.Order.{start}
 use Rattle.model.specs.Words.{millimetresOf}
 use Rattle.model.specs.Answers.{summaryOf, cardAnswer, cardFigures, writeRefusal, writeAnswer, readingOf}
@@ -17,21 +17,23 @@ use Rattle.model.specs.Answers.{readRefusal, readAnswer, readFigures}
 use Rattle.model.specs.Answers.{startRefusal, startAnswer, millimetresRefusal, millimetresAnswer, voteRefusal, voteAnswer, voteFigures}
 use Rattle.model.specs.ReedMuller.{votedNumber, votedDistance}
 use Rattle.model.specs.Statuses.{ifServed, cardStatus, cardValues, writeStatus, writeValues}
-use Rattle.model.specs.Statuses.{readStatus, readValues, numberStatus, numberValues, voteStatus, voteValues}
+use Rattle.model.specs.Statuses.{readStatus, readValues, numberStatus, numberValues, millimetresStatus, millimetresValues}
+use Rattle.model.specs.Statuses.{voteStatus, voteValues}
 use Rattle.model.specs.declared.CardAnswer.the-variants.{Sound, Refused as CardRefused}
 use Rattle.model.specs.declared.WriteAnswer.{WriteAnswer}
 use Rattle.model.specs.declared.WriteAnswer.the-variants.{Written, Refused as WriteRefused}
 use Rattle.model.specs.declared.ReadAnswer.the-variants.{At, Refused as ReadRefused}
 use Rattle.model.specs.declared.NumberAnswer.the-variants.{Number, Refused as NumberRefused}
+use Rattle.model.specs.declared.MillimetresAnswer.the-variants.{Millimetres, Refused as MillimetresRefused}
 use Rattle.model.specs.declared.VoteAnswer.the-variants.{Voted, Refused as VoteRefused}
 use Rattle.code_theory.proofs.Refusals.{served-if-none, refused-if-some}
 
 -- what a contract says of an answer's status and values
-abbrev pub Told : {A : Type 0} (status : A → ℕ) (values : A → List ℕ) (refusal : ℕ) (figures : List ℕ) (answer : A) → Type 0
+abbrev pub Told : {A B : Type 0} (status : A → ℕ) (values : A → List B) (refusal : ℕ) (figures : List B) (answer : A) → Type 0
 Told status values refusal figures answer = (status answer ≡ refusal) × (values answer ≡ ifServed (status answer) figures)
 
 -- an answer that is served where the refusal's number is 0, and is the refusal otherwise
-told : {A : Type 0} (status : A → ℕ) (values : A → List ℕ) (refusal : ℕ) (figures : List ℕ) (refused : ℕ → A) (served : A)
+told : {A B : Type 0} (status : A → ℕ) (values : A → List B) (refusal : ℕ) (figures : List B) (refused : ℕ → A) (served : A)
     → ((number : ℕ) → status (refused number) ≡ number) → ((number : ℕ) → values (refused number) ≡ [])
     → status served ≡ 0 → values served ≡ figures
     → Told status values refusal figures (unlessRefused refusal refused served)
@@ -69,11 +71,12 @@ start-told card block =
     (λ number. refl) (λ number. refl) refl refl
 
 pub millimetres-told : (card : List ℕ) (position : ℕ)
-    → Told numberStatus numberValues (millimetresRefusal card position) (millimetresOf position ∷ []) (millimetresAnswer card position)
-unfolding millimetresAnswer numberStatus numberValues
+    → Told millimetresStatus millimetresValues (millimetresRefusal card position) (millimetresOf (offsetOf card) position ∷ [])
+    (millimetresAnswer card position)
+unfolding millimetresAnswer millimetresStatus millimetresValues
 millimetres-told card position =
-    told numberStatus numberValues (millimetresRefusal card position) _ NumberRefused (Number (millimetresOf position))
-    (λ number. refl) (λ number. refl) refl refl
+    told millimetresStatus millimetresValues (millimetresRefusal card position) _ MillimetresRefused
+    (Millimetres (millimetresOf (offsetOf card) position)) (λ number. refl) (λ number. refl) refl refl
 
 pub vote-told : (r m chunk : ℕ) → Told voteStatus voteValues (voteRefusal r m chunk) (voteFigures r m chunk) (voteAnswer r m chunk)
 unfolding voteAnswer voteStatus voteValues voteFigures

@@ -69,7 +69,7 @@ module _ (card : List ℕ) (position : ℕ) (lent : List ℕ) where
   unfolding writeAnswer lentAfterWrite unlessRefused
   refused refusal e ne = write-meets (Refused refusal) lent (rw (e, ne-eqb refusal 0 ne)) (rw (e, ne-eqb refusal 0 ne))
 
-  -- refusals 1 to 5
+  -- the card's refusals
   pub write-card-refused : (decoded : Decoded) → DecodedFrom card decoded → (decoded .refusal ≡ 0 → ⊥) → WriteMeets (Refused (decoded .refusal)) lent
   unfolding writeRefusal firstRefusal
   write-card-refused decoded from ne = refused (decoded .refusal) (rw (← (from .refusal), ne-eqb (decoded .refusal) 0 ne)) ne

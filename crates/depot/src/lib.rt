@@ -6,7 +6,9 @@
 ghost use mathlib.Core.Path.{_≡_};
 ghost use mathlib.Core.Bool.{true};
 ghost use mathlib.Core.List.{[], _∷_};
-ghost use Rattle.model.specs.Card.{cardRefusal, codeOf};
+ghost use Prim.Native.Nat.{_≤_};
+ghost use lib.Signed.{mag};
+ghost use Rattle.model.specs.Card.{cardRefusal, codeOf, offsetOf};
 ghost use Rattle.model.specs.Order.{start};
 ghost use Rattle.model.specs.Words.{millimetresOf};
 ghost use Rattle.model.specs.ReedMuller.{orderWithinLimits};
@@ -14,8 +16,10 @@ ghost use Rattle.model.specs.Answers.{cardAnswer, writeAnswer, lentAfterWrite, 
 ghost use Rattle.model.specs.Answers.{cardFigures, writeRefusal, readRefusal, readFigures, startRefusal, millimetresRefusal};
 ghost use Rattle.model.specs.Answers.{makeRefusal, makeAnswer, voteRefusal, voteAnswer, voteFigures};
 ghost use Rattle.model.specs.Statuses.{ifServed, cardStatus, cardValues, writeStatus, writeValues};
-ghost use Rattle.model.specs.Statuses.{readStatus, readValues, numberStatus, numberValues, voteStatus, voteValues};
+ghost use Rattle.model.specs.Statuses.{readStatus, readValues, numberStatus, numberValues, millimetresStatus, millimetresValues};
+ghost use Rattle.model.specs.Statuses.{voteStatus, voteValues};
 ghost use Rattle.model.specs.declared.WriteAnswer.the-variants.{Written};
+ghost use Rattle.code_theory.specs.Offsets.{CheckedAsBefore, DistanceAsBefore};
 ghost use Rattle.position_theory.specs.Demands.{WrittenIfServable, UnchangedIfRefused, NeighboursDifferInOneBit, NoOtherPositionsWord};
 ghost use Rattle.position_theory.specs.Demands.{NearestOfAllowed, OffByAtMostTwiceTurned, OffByAtMostTurnedAndResidual};
 ghost use Rattle.reed_muller_theory.specs.MadeCards.{IsReedMullerCard};
@@ -24,6 +28,7 @@ use linear_code::decode;
 use model::CardAnswer;
 use model::Chunk;
 use model::MadeCard;
+use model::MillimetresAnswer;
 use model::NumberAnswer;
 use model::ReadAnswer;
 use model::VoteAnswer;
@@ -38,16 +43,18 @@ use reed_muller::made;
 use reed_muller::rows;
 use reed_muller::voting;
 
-// Checks a card. A sound card is answered with its n, k, track, D, t, d and last position; any other with its refusal, 1 to 5.
+// Checks a card. A sound card is answered with its n, k, track, D, t, d and last position; any other with its refusal, 1 to 5 or 14.
+// An old card, whose bytes 100 to 103 are zero, is answered as document 01 alone has it.
 pub fn check_card(card: &[u8]) -> CardAnswer
     ensures answer { λ r. ⌜ r ≡ cardAnswer (now (card .entry)) ⌝ }
     ensures status { λ r. ⌜ cardStatus r ≡ cardRefusal (now (card .entry)) ⌝ }
     ensures values { λ r. ⌜ cardValues r ≡ ifServed (cardStatus r) (cardFigures (now (card .entry))) ⌝ }
+    ensures old_card { λ r. ⌜ CheckedAsBefore (now (card .entry)) r ⌝ }
 {
     summary::card_answer(decode::decode(card))
 }
 
-// Writes the word of a position into the lent word. Refused: the card, 1 to 5; a lent word that has not exactly the bytes of a
+// Writes the word of a position into the lent word. Refused: the card, 1 to 5 or 14; a lent word that has not exactly the bytes of a
 // word, 6; a position above the last, 7. Anything else is written. A refused write changes no byte of the lent word. The word that
 // is written differs in just one bit from the word of each neighbouring position, and is the word of no other position.
 pub fn write_word(card: &[u8], position: u32, word: &mut [u8]) -> WriteAnswer
@@ -77,7 +84,7 @@ pub fn write_word(card: &[u8], position: u32, word: &mut [u8]) -> WriteAnswer
     WriteAnswer::Written
 }
 
-// Reads a received word: its position, the residual and the rule. Refused: the card, 1 to 5; a word that has not exactly the bytes
+// Reads a received word: its position, the residual and the rule. Refused: the card, 1 to 5 or 14; a word that has not exactly the bytes
 // of a word, 6; a spare bit set, 8; separators that name no rule, 9; a chunk that the rule names with no codeword within the
 // radius, 10; two chunks that read differently, 11; a block before the first or after the last, 12.
 // Of the word of any position on the track, with at most t bits turned in each chunk, the answer is a position, and it is at most
@@ -98,7 +105,7 @@ pub fn read_word(card: &[u8], word: &[u8]) -> ReadAnswer
     reading::read(decoded.code, word)
 }
 
-// The position at which a block starts. Refused: the card, 1 to 5, or a block above 2^k - 1, 7.
+// The position at which a block starts. Refused: the card, 1 to 5 or 14, or a block above 2^k - 1, 7.
 pub fn block_start(card: &[u8], block: u32) -> NumberAnswer
     ensures answer { λ r. ⌜ r ≡ startAnswer (now (card .entry)) block ⌝ }
     ensures status { λ r. ⌜ numberStatus r ≡ startRefusal (now (card .entry)) block ⌝ }
@@ -115,20 +122,31 @@ pub fn block_start(card: &[u8], block: u32) -> NumberAnswer
     NumberAnswer::Number(blocks::block_start(code, block))
 }
 
-// The distance of a position from the buffer face, in millimetres. Refused: the card, 1 to 5, or a position above the last, 7.
-pub fn millimetres(card: &[u8], position: u32) -> NumberAnswer
+// The distance of a position from the buffer face: the offset, and 50 mm for each step. Document 01 names the form: a signed sum.
+fn from_face(offset: i32, position: u32) -> i32
+    requires { ⌜ (mag offset ≤ 20000) × (position ≤ 1310400) ⌝ }
+    ensures { λ r. ⌜ r ≡ millimetresOf offset position ⌝ }
+{
+    offset + (50 * position) as i32
+}
+
+// The distance of a position from the buffer face, in millimetres: negative where the position lies before the face. Refused: the
+// card, 1 to 5 or 14, or a position above the last, 7. An old card, whose bytes 100 to 103 are zero, gives its old distances: it is
+// answered as document 01 alone has it.
+pub fn millimetres(card: &[u8], position: u32) -> MillimetresAnswer
     ensures answer { λ r. ⌜ r ≡ millimetresAnswer (now (card .entry)) position ⌝ }
-    ensures status { λ r. ⌜ numberStatus r ≡ millimetresRefusal (now (card .entry)) position ⌝ }
-    ensures values { λ r. ⌜ numberValues r ≡ ifServed (numberStatus r) (millimetresOf position ∷ []) ⌝ }
+    ensures status { λ r. ⌜ millimetresStatus r ≡ millimetresRefusal (now (card .entry)) position ⌝ }
+    ensures values { λ r. ⌜ millimetresValues r ≡ ifServed (millimetresStatus r) (millimetresOf (offsetOf (now (card .entry))) position ∷ []) ⌝ }
+    ensures old_card { λ r. ⌜ DistanceAsBefore (now (card .entry)) position r ⌝ }
 {
     let decoded = decode::decode(card);
     if decoded.refusal != 0 {
-        return NumberAnswer::Refused(decoded.refusal);
+        return MillimetresAnswer::Refused(decoded.refusal);
     }
     if blocks::last_position(decoded.code) < position {
-        return NumberAnswer::Refused(7);
+        return MillimetresAnswer::Refused(7);
     }
-    NumberAnswer::Number(50 * position)
+    MillimetresAnswer::Millimetres(from_face(decoded.offset, position))
 }
 
 // Makes the card of the Reed-Muller code of order r in m variables for a track. Refused: m outside 1 to 6, r above m, or k above 12,

@@ -1,4 +1,5 @@
 pub mod Lent
+pub mod OldCards
 pub mod ReadDemands
 pub mod MadeCards
 pub mod VotePromise

@@ -1,6 +1,6 @@
--- How an answer of the library crosses to a caller in C: its status, and its values in numbers that the caller lends. The status
--- and the values of each answer are those of the model's Statuses.antt; of a made card they are its refusal and its bytes.
--- Assumes nothing.
+-- How an answer of the library crosses to a caller in C: its status, and its values in numbers that the caller lends, signed ones for a
+-- distance. The status and the values of each answer are those of the model's Statuses.antt; of a made card they are its refusal and
+-- its bytes. Assumes nothing.
 use Prim.Native.Nat.{ℕ}
 use mathlib.Core.Path.{_≡_}
 use mathlib.Core.Bool.{cond}
@@ -8,7 +8,7 @@ use mathlib.Core.List.{List}
 use lib.Dec.{eqb}
 use lib.ListN.{length}
 
--- How many values a call answers where it is served: a check of a card, a read, a call that asks for one number, and a vote.
+-- How many values a call answers where it is served: a check of a card, a read, a block's start or a distance, and a vote.
 abbrev pub cardCount : ℕ
 cardCount = 7
 
@@ -30,13 +30,13 @@ abbrev pub wrongCount : ℕ
 wrongCount = 100
 
 -- the status of a call that answers `count` values: that of its answer, or `wrongCount`
-unfoldable pub statusFor : (count : ℕ) (lent : List ℕ) (answered : ℕ) → ℕ
+unfoldable pub statusFor : {A : Type 0} (count : ℕ) (lent : List A) (answered : ℕ) → ℕ
 statusFor count lent answered = cond (eqb (length lent) count) answered wrongCount
 
 -- the lent numbers, or bytes, after a call with this status: the values of its answer where the status is 0, or as they were
-unfoldable pub leftBy : (status : ℕ) (values lent : List ℕ) → List ℕ
+unfoldable pub leftBy : {A : Type 0} (status : ℕ) (values lent : List A) → List A
 leftBy status values lent = cond (eqb status 0) values lent
 
 -- a status other than 0: nothing that was lent has changed
-unfoldable pub UnchangedUnlessZero : (lent : List ℕ) (status : ℕ) (left : List ℕ) → Type 0
+unfoldable pub UnchangedUnlessZero : {A : Type 0} (lent : List A) (status : ℕ) (left : List A) → Type 0
 UnchangedUnlessZero lent status left = (status ≡ 0 → ⊥) → left ≡ lent

@@ -1,21 +1,23 @@
 -- Demand 3 of the reading call for C, over its status and the three numbers that it leaves: position, residual and rule. The
 -- premises on card, position and word are those of the library's reading call; the caller lends three numbers besides. And what the
--- calls of document 02, P1, promise: a made card, and a vote. Assumes nothing.
+-- calls of document 02, P1, promise: a made card, and a vote; and what P2 promises of old cards. Assumes nothing.
 use mathlib.Core.Path.{_≡_}
 use mathlib.Core.Bool.{true}
-use mathlib.Core.List.{List, [], _∷_}
+use mathlib.Core.List.{List, [], _∷_, map}
 use Prim.Native.Nat.{ℕ, _+_, _*_, _^_, _≤_, _<_}
+use lib.IntN.{ℤ, pos}
 use lib.ListN.{length, getD}
 use Rattle.bits.specs.Places.{bit}
 use Rattle.model.specs.Card.{codeOf, SoundCard}
 use Rattle.model.specs.Order.{lastCodeword, lastPosition}
 use Rattle.model.specs.Reading.{chunkDistance, withinRadius, chunkReading}
 use Rattle.model.specs.ReedMuller.{reedMuller, reedMullerCard, orderWithinLimits}
-use Rattle.model.specs.Statuses.{chunkStatus, chunkValues}
+use Rattle.model.specs.Statuses.{chunkStatus, chunkValues, cardStatus, cardValues, numberStatus, numberValues}
 use Rattle.model.specs.declared.Chunk.{Chunk}
+use Rattle.code_theory.specs.Offsets.{OldCard, oldCardAnswer, oldDistance}
 use Rattle.position_theory.specs.Damage.{WithinRadius, turned}
 use Rattle.reed_muller_theory.specs.MadeCards.{IsReedMullerCard}
-use Rattle.dunnavish.specs.Crossing.{cardBytes, readCount, voteCount, leftBy}
+use Rattle.dunnavish.specs.Crossing.{cardBytes, cardCount, numberCount, readCount, voteCount, leftBy}
 
 -- the position and the residual among the numbers that a read leaves
 abbrev pub positionLeft : (left : List ℕ) → ℕ
@@ -71,3 +73,15 @@ VotedAsSearch r m chunk lent status left =
     length lent ≡ voteCount → (track : ℕ) → orderWithinLimits r m ≡ true → chunk < 2 ^ 2 ^ m
     → let read : Chunk = chunkReading (codeOf (reedMullerCard track r m)) (bit chunk) in
     (status ≡ chunkStatus read) × (left ≡ leftBy status (chunkValues read) lent)
+
+-- Document 02, P2, where seven numbers are lent: of an old card the status and the numbers left are those of document 01's answer
+unfoldable pub OldCardServed : (card lent : List ℕ) (status : ℕ) (left : List ℕ) → Type 0
+OldCardServed card lent status left =
+    length lent ≡ cardCount → OldCard card
+    → (status ≡ cardStatus (oldCardAnswer card)) × (left ≡ leftBy status (cardValues (oldCardAnswer card)) lent)
+
+-- Document 02, P2, where one number is lent: the same of a distance, as a signed number
+unfoldable pub OldDistanceServed : (card : List ℕ) (position : ℕ) (lent : List ℤ) (status : ℕ) (left : List ℤ) → Type 0
+OldDistanceServed card position lent status left =
+    length lent ≡ numberCount → OldCard card
+    → (status ≡ numberStatus (oldDistance card position)) × (left ≡ leftBy status (map pos (numberValues (oldDistance card position))) lent)

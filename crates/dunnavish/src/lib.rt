@@ -1,18 +1,20 @@
 // The library's calls for programs in C, Rust and other languages: numbers and slices alone, no state, no `requires`. Each returns a
-// status, 0 or the refusal's number, and puts the values of its answer into numbers that the caller lends, or a made card's bytes
-// into lent bytes. Lent numbers that are not exactly as many as the answer has values, or a lent card that has not 512 bytes, are
-// answered 100, before anything else is looked at. Whenever the status is not 0, nothing that was lent has changed.
+// status, 0 or the refusal's number, and puts the values of its answer into numbers that the caller lends, signed ones for a distance,
+// or a made card's bytes into lent bytes. Lent numbers that are not exactly as many as the answer has values, or a lent card that has
+// not 512 bytes, are answered 100, before anything else is looked at. Whenever the status is not 0, nothing that was lent has changed.
 // include/dunnavish.h says the same to a programmer in C.
 ghost use mathlib.Core.Path.{_≡_};
 ghost use lib.ListN.{length};
 ghost use Rattle.model.specs.Answers.{cardAnswer, writeAnswer, lentAfterWrite, readAnswer, startAnswer, millimetresAnswer};
 ghost use Rattle.model.specs.Answers.{makeRefusal, makeAnswer, voteAnswer};
 ghost use Rattle.model.specs.Statuses.{cardStatus, cardValues, writeStatus, readStatus, readValues, numberStatus, numberValues};
-ghost use Rattle.model.specs.Statuses.{voteStatus, voteValues};
+ghost use Rattle.model.specs.Statuses.{millimetresStatus, millimetresValues, voteStatus, voteValues};
 ghost use Rattle.dunnavish.specs.Crossing.{cardCount, readCount, numberCount, voteCount, cardBytes, statusFor, leftBy, UnchangedUnlessZero};
+ghost use Rattle.dunnavish.specs.Demands.{OldCardServed, OldDistanceServed};
 ghost use Rattle.dunnavish.specs.Demands.{ServedWithinTwiceTurned, ServedWithinTurnedAndResidual};
 ghost use Rattle.dunnavish.specs.Demands.{MadeWithinLimits, VotedAsPromised, VotedAsSearch};
 use model::CardAnswer;
+use model::MillimetresAnswer;
 use model::NumberAnswer;
 use model::ReadAnswer;
 use model::VoteAnswer;
@@ -21,12 +23,14 @@ use model::WriteAnswer;
 // The status of a call whose lent numbers, or bytes, are too few or too many.
 const WRONG_COUNT: u32 = 100;
 
-// Checks a card: n, k, track, D, t, d and last position into seven numbers.
+// Checks a card: n, k, track, D, t, d and last position into seven numbers. An old card, whose bytes 100 to 103 are zero, is answered
+// as document 01 alone has it.
 #[no_mangle]
 pub extern "C" fn dunnavish_check_card(card: &[u8], values: &mut [u32]) -> u32
     ensures status { λ r. ⌜ r ≡ statusFor cardCount (now (values .entry)) (cardStatus (cardAnswer (now (card .entry)))) ⌝ }
     ensures left { λ r. ⌜ now (values .exit) ≡ leftBy r (cardValues (cardAnswer (now (card .entry)))) (now (values .entry)) ⌝ }
     ensures unchanged { λ r. ⌜ UnchangedUnlessZero (now (values .entry)) r (now (values .exit)) ⌝ }
+    ensures old_card { λ r. ⌜ OldCardServed (now (card .entry)) (now (values .entry)) r (now (values .exit)) ⌝ }
 {
     if values.len() != 7 {
         return WRONG_COUNT;
@@ -107,21 +111,23 @@ pub extern "C" fn dunnavish_block_start(card: &[u8], block: u32, values: &mut [u
     }
 }
 
-// The distance of a position from the buffer face in millimetres, into one number.
+// The distance of a position from the buffer face in millimetres, into one signed number. An old card, whose bytes 100 to 103 are zero,
+// gives its old distances.
 #[no_mangle]
-pub extern "C" fn dunnavish_millimetres(card: &[u8], position: u32, values: &mut [u32]) -> u32
-    ensures status { λ r. ⌜ r ≡ statusFor numberCount (now (values .entry)) (numberStatus (millimetresAnswer (now (card .entry)) position)) ⌝ }
-    ensures left { λ r. ⌜ now (values .exit) ≡ leftBy r (numberValues (millimetresAnswer (now (card .entry)) position)) (now (values .entry)) ⌝ }
+pub extern "C" fn dunnavish_millimetres(card: &[u8], position: u32, values: &mut [i32]) -> u32
+    ensures status { λ r. ⌜ r ≡ statusFor numberCount (now (values .entry)) (millimetresStatus (millimetresAnswer (now (card .entry)) position)) ⌝ }
+    ensures left { λ r. ⌜ now (values .exit) ≡ leftBy r (millimetresValues (millimetresAnswer (now (card .entry)) position)) (now (values .entry)) ⌝ }
     ensures unchanged { λ r. ⌜ UnchangedUnlessZero (now (values .entry)) r (now (values .exit)) ⌝ }
+    ensures old_card { λ r. ⌜ OldDistanceServed (now (card .entry)) position (now (values .entry)) r (now (values .exit)) ⌝ }
 {
     if values.len() != 1 {
         return WRONG_COUNT;
     }
     let answer = depot::millimetres(card, position);
     match answer {
-        NumberAnswer::Refused(refusal) => refusal,
-        NumberAnswer::Number(number) => {
-            values[0] = number;
+        MillimetresAnswer::Refused(refusal) => refusal,
+        MillimetresAnswer::Millimetres(distance) => {
+            values[0] = distance;
             0
         }
     }

@@ -1,5 +1,6 @@
--- What decoding a card shows once refusals 1 to 3 are past: the least weight of the sets of rows, where no row is too wide, is
--- 0 where the rows are dependent, refusal 5, and the code's least distance where they are not. Assumes nothing.
+-- What decoding a card shows once refusals 1 to 3 are past: what is misplaced is refusal 4 and then an offset outside its range 14; the
+-- least weight of the sets of rows, where no row is too wide, is 0 where the rows are dependent, refusal 5, and the code's least
+-- distance where they are not. Assumes nothing.
 use mathlib.Core.Path.{_≡_, sym, _∙_}
 use mathlib.Core.Bool.{true, false, cond}
 use mathlib.Core.List.{List}
@@ -10,8 +11,8 @@ use borrow.Author.Tests.{eq-eqb, ne-eqb}
 use lib.Dec.{eqb}
 use lib.ListN.{length, getD}
 use Rattle.bits.proofs.Numbers.{eq-or-ne, or-false-left}
-use Rattle.model.specs.Card.{lengthOf, rowCountOf, rowOf, codeOf, trackOf, storedCheck, computedCheck}
-use Rattle.model.specs.Card.{withinLimits, rowTooWide, misplaced, dependent, cardRefusal, SoundCard}
+use Rattle.model.specs.Card.{lengthOf, rowCountOf, rowOf, codeOf, trackOf, offsetOf, storedCheck, computedCheck}
+use Rattle.model.specs.Card.{withinLimits, rowTooWide, misplaced, offsetOutside, dependent, cardRefusal, SoundCard}
 use Rattle.model.specs.Decoded.{meaning}
 use Rattle.model.specs.declared.Decoded.{Decoded}
 use Rattle.code_theory.specs.LeastOfSets.{leastOfSets}
@@ -19,7 +20,7 @@ use Rattle.code_theory.proofs.LeastOfSets.{least-if-independent, independent-of
 use Rattle.code_theory.proofs.SoundCard.{limits-of-test, narrow-of-test, card-tests, sound-card}
 use Rattle.linear_code.specs.DecodedFrom.{DecodedFrom}
 use Rattle.linear_code.proofs.Rows.{Narrow}
-use Rattle.linear_code.proofs.Refusals.{refusal-4-5-or-0}
+use Rattle.linear_code.proofs.Refusals.{refusal-4-14-5-or-0}
 
 -- the least weight of the sets of a card's rows
 abbrev pub least : List ℕ → ℕ
@@ -52,14 +53,18 @@ module _ (b : List ℕ) (limits : withinLimits (lengthOf b) (rowCountOf b) ≡ t
       rw (ne-eqb (least b) 0 ne) (independent-of-least (lengthOf b) (rowCountOf b) (rowOf b) (omega arith)))
       (eq-or-ne (least b) 0)
 
-  -- the last two refusals, 5 by a number that is the least weight of rows that are narrow, and a card that passes both
+  -- the last three refusals, 5 by a number that is the least weight of rows that are narrow, and a card that passes all three
   module _ (whole : length b ≡ 512) (checked : storedCheck b ≡ computedCheck b) where
     pub refusal-4 : misplaced b ≡ true → cardRefusal b ≡ 4
-    refusal-4 test = rw (refusal-4-5-or-0 b whole checked limits, test)
+    refusal-4 test = rw (refusal-4-14-5-or-0 b whole checked limits, test)
 
-    module _ (placed : misplaced b ≡ false) (distance : ℕ) (is-least : Narrow (lengthOf b) (rowCountOf b) (rowOf b) → distance ≡ least b) where
+    pub refusal-14 : misplaced b ≡ false → offsetOutside (offsetOf b) ≡ true → cardRefusal b ≡ 14
+    refusal-14 placed outside = rw (refusal-4-14-5-or-0 b whole checked limits, placed, outside)
+
+    module _ (placed : misplaced b ≡ false) (near : offsetOutside (offsetOf b) ≡ false) (distance : ℕ)
+        (is-least : Narrow (lengthOf b) (rowCountOf b) (rowOf b) → distance ≡ least b) where
       by-distance : cardRefusal b ≡ cond (eqb distance 0) 5 0
-      by-distance = rw (refusal-4-5-or-0 b whole checked limits, placed, dependent-if-zero placed, is-least (narrow placed))
+      by-distance = rw (refusal-4-14-5-or-0 b whole checked limits, placed, near, dependent-if-zero placed, is-least (narrow placed))
 
       pub refusal-5 : distance ≡ 0 → cardRefusal b ≡ 5
       refusal-5 zero = rw (by-distance, eq-eqb distance 0 zero)
@@ -82,10 +87,22 @@ pub refused-from : (b : List ℕ) (r : Decoded) (refusal : ℕ) → r .refusal �
     → (refusal ≡ 0 → ⊥) → DecodedFrom b r
 refused-from b r refusal e is ne =
     let never : r .refusal ≡ 0 → ⊥ = λ z. ne (sym e ∙ z) in
-    record { refusal = e ∙ sym is; track = λ z. absurd (never z); code = λ z. absurd (never z); sound = λ z. absurd (never z) }
+    record {
+      refusal = e ∙ sym is;
+      track = λ z. absurd (never z);
+      offset = λ z. absurd (never z);
+      code = λ z. absurd (never z);
+      sound = λ z. absurd (never z);
+    }
 
--- a sound card, with its track and its code
-pub decoded-from : (b : List ℕ) (r : Decoded) → SoundCard b → r .refusal ≡ 0 → r .track ≡ trackOf b → meaning (r .code) ≡ codeOf b
-    → DecodedFrom b r
-decoded-from b r sound none track code =
-    record { refusal = none ∙ sym sound; track = λ z. track; code = λ z. code; sound = λ z. rw code (sound-card b sound) }
+-- a sound card, with its track, its offset and its code
+pub decoded-from : (b : List ℕ) (r : Decoded) → SoundCard b → r .refusal ≡ 0 → r .track ≡ trackOf b → r .offset ≡ offsetOf b
+    → meaning (r .code) ≡ codeOf b → DecodedFrom b r
+decoded-from b r sound none track offset code =
+    record {
+      refusal = none ∙ sym sound;
+      track = λ z. track;
+      offset = λ z. offset;
+      code = λ z. code;
+      sound = λ z. rw code (sound-card b sound);
+    }

@@ -1,4 +1,5 @@
 pub mod CardBytes
+pub mod TwosComplement
 pub mod Refusals
 pub mod Rows
 pub mod Decoding

@@ -1,4 +1,4 @@
-// The fields of a card, and what refusals 2, 3 and 4 test of them.
+// The fields of a card, and what refusals 2, 3 and 4 test of them. The offset, and refusal 14, are in offset.rt.
 ghost use mathlib.Core.Path.{_≡_};
 ghost use mathlib.Core.Bool.{_||_};
 ghost use Prim.Native.Nat.{_+_, _^_, _≤_, _<_};
@@ -66,7 +66,7 @@ fn weighted_sum(card: &[u8], end: usize) -> u32
     total
 }
 
-// The check that the card should carry. Where no unused byte is set, the bytes from 100 on add nothing. Each sum's end is a
+// The check that the card should carry. Where no unused byte is set, the bytes from 104 on add nothing. Each sum's end is a
 // constant, so that the compiler knows the weights of the short one and takes many bytes in one step.
 pub fn computed_check(card: &[u8], unused_set: bool) -> u32
     requires { ⌜ (length (now card) ≡ 512) × («unused_set» ≡ unusedByteSet (now card)) ⌝ }
@@ -75,7 +75,7 @@ pub fn computed_check(card: &[u8], unused_set: bool) -> u32
     let total = if unused_set {
         weighted_sum(card, 510)
     } else {
-        weighted_sum(card, 100)
+        weighted_sum(card, 104)
     };
     total % 65521
 }
@@ -151,15 +151,15 @@ fn unused_row_set(k: u32, rows: [u64; 12]) -> bool
     false
 }
 
-// Is some byte from 100 to 509 not zero? The bytes are joined and tested once, so that many are taken in one step.
+// Is some byte from 104 to 509 not zero? The bytes are joined and tested once, so that many are taken in one step.
 pub fn unused_byte_set(card: &[u8]) -> bool
     requires { ⌜ length (now card) ≡ 512 ⌝ }
     ensures { λ r. ⌜ r ≡ unusedByteSet (now (card .entry)) ⌝ }
 {
     let mut joined: u8 = 0;
     let mut i: usize = 0;
-    while i < 410 {
-        joined |= card[100 + i];
+    while i < 406 {
+        joined |= card[104 + i];
         i += 1;
     }
     joined != 0

@@ -3,6 +3,7 @@ ghost use mathlib.Core.Path.{_≡_};
 ghost use Rattle.linear_code.specs.DecodedFrom.{DecodedFrom};
 use super::card;
 use super::least_weight;
+use super::offset;
 use model::Decoded;
 use model::DecodedCode;
 
@@ -13,6 +14,7 @@ fn refused(refusal: u32) -> Decoded
     Decoded {
         refusal,
         track: 0,
+        offset: 0,
         code: DecodedCode {
             n: 0,
             k: 0,
@@ -22,8 +24,9 @@ fn refused(refusal: u32) -> Decoded
     }
 }
 
-// Refusals 1 to 5 of any bytes as a card, checked downwards, and the track and the code of a sound one. The rows are dependent
-// where a nonempty set of them has weight 0, so where their least weight is 0; that is known once every row lies within n bits.
+// Refusals 1 to 5 and 14 of any bytes as a card, 14 between 4 and 5, and the track, the offset and the code of a sound one. The rows are
+// dependent where a nonempty set of them has weight 0, so where their least weight is 0; that is known once every row lies within
+// n bits.
 pub fn decode(card: &[u8]) -> Decoded
     ensures { λ r. ⌜ DecodedFrom (now (card .entry)) r ⌝ }
 {
@@ -43,7 +46,12 @@ pub fn decode(card: &[u8]) -> Decoded
     if card::has_misplaced(n, k, rows, unused_set) {
         return refused(4);
     }
+    let offset = offset::offset_of(card);
+    let outside = offset::is_outside(offset);
     let distance = least_weight::least_weight(n, k, rows);
+    if outside {
+        return refused(14);
+    }
     if distance == 0 {
         return refused(5);
     }
@@ -51,6 +59,7 @@ pub fn decode(card: &[u8]) -> Decoded
     Decoded {
         refusal: 0,
         track,
+        offset,
         code: DecodedCode {
             n,
             k,

@@ -3,5 +3,6 @@ pub mod card;
 pub mod codeword;
 pub mod decode;
 pub mod least_weight;
+pub mod offset;
 pub mod powers;
 pub mod search;

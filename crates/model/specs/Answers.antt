@@ -10,7 +10,7 @@ use lib.ListN.{length, replicate}
 use Rattle.bits.specs.Places.{bit, bytesFor, place}
 use Rattle.bits.specs.Searches.{anyBelow}
 use Rattle.model.specs.Refusals.{Row, refuses, refusedAs, firstRefusal, unlessRefused}
-use Rattle.model.specs.Card.{Code, cardRefusal, codeOf, radius, trackOf}
+use Rattle.model.specs.Card.{Code, cardRefusal, codeOf, offsetOf, radius, trackOf}
 use Rattle.model.specs.Order.{lastCodeword, lastPosition, start}
 use Rattle.model.specs.Words.{wordBits, wordBytes, millimetresOf}
 use Rattle.model.specs.Reading.{ruleNamed, rowsOf, allowed, residual, nearest}
@@ -25,6 +25,8 @@ use Rattle.model.specs.declared.ReadAnswer.{ReadAnswer}
 use Rattle.model.specs.declared.ReadAnswer.the-variants.{At, Refused as ReadRefused}
 use Rattle.model.specs.declared.NumberAnswer.{NumberAnswer}
 use Rattle.model.specs.declared.NumberAnswer.the-variants.{Number, Refused as NumberRefused}
+use Rattle.model.specs.declared.MillimetresAnswer.{MillimetresAnswer}
+use Rattle.model.specs.declared.MillimetresAnswer.the-variants.{Millimetres, Refused as MillimetresRefused}
 use Rattle.model.specs.declared.MadeCard.{MadeCard}
 use Rattle.model.specs.declared.VoteAnswer.{VoteAnswer}
 use Rattle.model.specs.declared.VoteAnswer.the-variants.{Voted, Refused as VoteRefused}
@@ -120,8 +122,9 @@ unfoldable pub millimetresRefusal : (card : List ℕ) (position : ℕ) → ℕ
 millimetresRefusal card position = firstRefusal (refusedAs (cardRefusal card) ∷ refuses 7 (ltb (lastPosition (codeOf card)) position) ∷ [])
 
 -- millimetres: the distance of a position from the buffer face
-unfoldable pub millimetresAnswer : (card : List ℕ) (position : ℕ) → NumberAnswer
-millimetresAnswer card position = unlessRefused (millimetresRefusal card position) NumberRefused (Number (millimetresOf position))
+unfoldable pub millimetresAnswer : (card : List ℕ) (position : ℕ) → MillimetresAnswer
+millimetresAnswer card position =
+    unlessRefused (millimetresRefusal card position) MillimetresRefused (Millimetres (millimetresOf (offsetOf card) position))
 
 -- make a card: the refusal's number, or 0 where the card is made
 unfoldable pub makeRefusal : (r m : ℕ) → ℕ

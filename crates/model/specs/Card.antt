@@ -1,4 +1,5 @@
--- Document 01, "The card": the fields of a card's 512 bytes, the code that its rows span, and refusals 1 to 5.
+-- Document 01, "The card", with the offset of document 02's P2: the fields of a card's 512 bytes, the code that its rows span, and
+-- a card's refusals, 1 to 5 and 14.
 -- Every definition is total: a card that is refused has fields and a code too, and nothing relies on them.
 -- Assumes nothing.
 use mathlib.Core.Path.{_≡_}
@@ -7,7 +8,9 @@ use mathlib.Core.List.{List, [], _∷_}
 use Prim.Native.Nat.{ℕ, zero, suc, _+_, _-_, _*_, _/_, _%_, _^_, min}
 use lib.Bits.{bitXor}
 use lib.Dec.{leb, ltb, eqb}
+use lib.IntN.{ℤ, pos, negℤ, subℕ}
 use lib.ListN.{length, getD}
+use lib.Signed.{ltZ}
 use Rattle.bits.specs.Sums.{sumBelow}
 use Rattle.bits.specs.Places.{bit, weight}
 use Rattle.bits.specs.Searches.{anyBelow}
@@ -37,6 +40,14 @@ trackOf b = highFirst b 2 2
 -- row z of the rows 0 to 11: the 8 bytes from 4 + 8z on; past them there is no row, and zero stands for it
 unfoldable pub rowOf : (b : List ℕ) (z : ℕ) → ℕ
 rowOf b z = cond (ltb z 12) (highFirst b (4 + 8 * z) 8) 0
+
+-- a number of 32 bits, read by two's complement: itself below 2^31, and from there on itself less 2^32
+unfoldable pub twosComplement : (x : ℕ) → ℤ
+twosComplement x = cond (ltb x (2 ^ 31)) (pos x) (subℕ x (2 ^ 32))
+
+-- the offset in millimetres, a signed number: bytes 100 to 103
+unfoldable pub offsetOf : List ℕ → ℤ
+offsetOf b = twosComplement (highFirst b 100 4)
 
 -- the check that the card carries: bytes 510 to 511
 unfoldable pub storedCheck : List ℕ → ℕ
@@ -96,13 +107,17 @@ rowTooWide n row = anyBelow (λ z. leb (2 ^ n) (row z)) 12
 unfoldable pub unusedRowSet : (k : ℕ) (row : ℕ → ℕ) → Bool
 unusedRowSet k row = anyBelow (λ z. leb k z && not (eqb (row z) 0)) 12
 
--- some byte from 100 to 509 is not zero
+-- some byte from 104 to 509 is not zero
 unfoldable pub unusedByteSet : List ℕ → Bool
-unusedByteSet b = anyBelow (λ i. not (eqb (byte b (100 + i)) 0)) 410
+unusedByteSet b = anyBelow (λ i. not (eqb (byte b (104 + i)) 0)) 406
 
 -- a bit is set that a card leaves zero: at n or above in a row, in an unused row, or in an unused byte
 unfoldable pub misplaced : List ℕ → Bool
 misplaced b = rowTooWide (lengthOf b) (rowOf b) || unusedRowSet (rowCountOf b) (rowOf b) || unusedByteSet b
+
+-- the offset is outside -20,000 to 20,000
+unfoldable pub offsetOutside : (offset : ℤ) → Bool
+offsetOutside offset = ltZ offset (negℤ (pos 20000)) || ltZ (pos 20000) offset
 
 -- some nonempty set of the rows 0 to k - 1 sums to zero; the numbers 1 to 2^k - 1 name these sets by their bits
 unfoldable pub dependent : (k : ℕ) (row : ℕ → ℕ) → Bool
@@ -116,9 +131,10 @@ cardRefusal b =
     ∷ refuses 2 (not (eqb (storedCheck b) (computedCheck b)))
     ∷ refuses 3 (not (withinLimits (lengthOf b) (rowCountOf b)))
     ∷ refuses 4 (misplaced b)
+    ∷ refuses 14 (offsetOutside (offsetOf b))
     ∷ refuses 5 (dependent (rowCountOf b) (rowOf b))
     ∷ [])
 
--- a sound card: none of the refusals 1 to 5 holds of it
+-- a sound card: none of the refusals 1 to 5 and 14 holds of it
 abbrev pub SoundCard : List ℕ → Type 0
 SoundCard b = cardRefusal b ≡ 0

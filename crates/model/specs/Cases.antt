@@ -1,22 +1,30 @@
 -- Document 01, "Two cards to try": every case marked *, and with them the cards' figures and the refused cards and words that it
--- names; and the borders of document 02's P1. One table of questions and answers. That the definitions answer so is one theorem, `starred-cases`.
--- Assumes nothing.
-use mathlib.Core.List.{List, [], _∷_, _++_}
-use Prim.Native.Nat.{ℕ, zero, suc}
-use lib.ListN.{getD, replicate}
+-- names; and the borders of document 02's P1 and P2. One table of questions and answers, whose numbers are signed, since a distance
+-- may be below zero. That the definitions answer so is one theorem, `starred-cases`. Assumes nothing.
+use mathlib.Core.List.{List, [], _∷_, _++_, map}
+use Prim.Native.Nat.{ℕ, zero, suc, _-_}
+use lib.IntN.{ℤ, pos, negℤ}
+use lib.ListN.{length, getD, replicate}
 use Rattle.bits.specs.Sums.{sumBelow}
 use Rattle.bits.specs.Places.{bit, place, listOf, differingBits}
-use Rattle.model.specs.Card.{Code, rowOf, storedCheck, codeOf}
-use Rattle.model.specs.CardBytes.{cardOf}
+use Rattle.model.specs.Card.{Code, rowOf, offsetOf, storedCheck, codeOf}
+use Rattle.model.specs.CardBytes.{cardEnding, cardOf}
 use Rattle.model.specs.Order.{codeword, lastPosition, start}
-use Rattle.model.specs.Words.{separator₁, separator₂, separator₃, wordBytes}
-use Rattle.model.specs.Answers.{cardAnswer, writeAnswer, lentAfterWrite, readAnswer, makeAnswer, voteAnswer}
-use Rattle.model.specs.Statuses.{cardStatus, cardValues, writeStatus, writeValues, readStatus, readValues, voteStatus, voteValues}
+use Rattle.model.specs.Words.{separator₁, separator₂, separator₃, wordBytes, millimetresOf}
+use Rattle.model.specs.Answers.{cardAnswer, writeAnswer, lentAfterWrite, readAnswer, millimetresAnswer, makeAnswer, voteAnswer}
+use Rattle.model.specs.Statuses.{cardStatus, cardValues, writeStatus, writeValues, readStatus, readValues}
+use Rattle.model.specs.Statuses.{millimetresStatus, millimetresValues, voteStatus, voteValues}
+use Rattle.model.specs.declared.MillimetresAnswer.{MillimetresAnswer}
 use Rattle.model.specs.declared.MadeCard.{MadeCard}
 
 -- a card with these rows, and zero for the others
 abbrev pub cardWith : (n k track : ℕ) → List ℕ → List ℕ
 cardWith n k track rows = cardOf n k track (λ z. getD rows z 0)
+
+-- the same with these bytes from byte 100 on, the first four of which are the offset's, and zero after them
+abbrev pub cardFrom100 : (n k track : ℕ) (rows bytes : List ℕ) → List ℕ
+cardFrom100 n k track rows bytes =
+    cardEnding n k track (λ z. getD rows z 0) (bytes ++ replicate (410 - length bytes) 0)
 
 unfoldable pub cardA : List ℕ
 cardA = cardWith 3 2 0 (3 ∷ 6 ∷ [])
@@ -24,10 +32,32 @@ cardA = cardWith 3 2 0 (3 ∷ 6 ∷ [])
 unfoldable pub cardB : List ℕ
 cardB = cardWith 3 1 14 (7 ∷ [])
 
+-- card B with these bytes from byte 100 on
+unfoldable pub cardBFrom100 : List ℕ → List ℕ
+cardBFrom100 bytes = cardFrom100 3 1 14 (7 ∷ []) bytes
+
+-- -20,000, -1 and 20,000 in four bytes, and one less and one more than the ends
+abbrev lowest : List ℕ
+lowest = 0xff ∷ 0xff ∷ 0xb1 ∷ 0xe0 ∷ []
+
+abbrev minusOne : List ℕ
+minusOne = 0xff ∷ 0xff ∷ 0xff ∷ 0xff ∷ []
+
+abbrev highest : List ℕ
+highest = 0x00 ∷ 0x00 ∷ 0x4e ∷ 0x20 ∷ []
+
+abbrev tooLow : List ℕ
+tooLow = 0xff ∷ 0xff ∷ 0xb1 ∷ 0xdf ∷ []
+
+abbrev tooHigh : List ℕ
+tooHigh = 0x00 ∷ 0x00 ∷ 0x4e ∷ 0x21 ∷ []
+
 -- what may be asked of a card, or of a code by its order and number of variables
 pub data Question : Type 0 where
   -- the check that it carries
   carriedCheck : (card : List ℕ) → Question
+  -- the offset that it carries
+  carriedOffset : (card : List ℕ) → Question
   -- the answer to a check of it
   checkCard : (card : List ℕ) → Question
   -- so many codewords in their order, place by place
@@ -42,6 +72,10 @@ pub data Question : Type 0 where
   bitsUnlike : (card : List ℕ) (position : ℕ) (received : List ℕ) → Question
   -- how many bits of each separator are 1
   onesOfSeparators : (card received : List ℕ) → Question
+  -- the answer to a call for the distance of a position
+  distance : (card : List ℕ) (position : ℕ) → Question
+  -- the distance of a position where the offset is this one
+  distanceFrom : (offset : ℤ) (position : ℕ) → Question
   -- the refusal of a card that is to be made, or 0; then the answer to a check of its bytes, and its first rows, so many
   made : (track r m rows : ℕ) → Question
   -- the answer to a vote on a chunk
@@ -56,32 +90,48 @@ unfoldable pub codewordPlaces : List ℕ → ℕ → List ℕ
 codewordPlaces card zero = []
 codewordPlaces card (suc i) = codewordPlaces card i ++ listOf (codeOf card .n) (bit (codeword (codeOf card) i))
 
+-- numbers as signed ones
+abbrev pub naturals : List ℕ → List ℤ
+naturals = map pos
+
 -- what the definitions answer
-unfoldable pub answerTo : Question → List ℕ
-answerTo (carriedCheck card) = storedCheck card ∷ []
-answerTo (checkCard card) = numbersOf cardStatus cardValues (cardAnswer card)
-answerTo (order card m) = codewordPlaces card m
-answerTo (starts card m) = listOf m (start (codeOf card)) ++ (lastPosition (codeOf card) ∷ [])
+unfoldable pub answerTo : Question → List ℤ
+answerTo (carriedCheck card) = naturals (storedCheck card ∷ [])
+answerTo (carriedOffset card) = offsetOf card ∷ []
+answerTo (checkCard card) = naturals (numbersOf cardStatus cardValues (cardAnswer card))
+answerTo (order card m) = naturals (codewordPlaces card m)
+answerTo (starts card m) = naturals (listOf m (start (codeOf card)) ++ (lastPosition (codeOf card) ∷ []))
 answerTo (write card position lent) =
-    numbersOf writeStatus writeValues (writeAnswer card position lent) ++ lentAfterWrite card position lent
-answerTo (read card received) = numbersOf readStatus readValues (readAnswer card received)
-answerTo (bitsUnlike card position received) = differingBits (wordBytes (codeOf card) position) received ∷ []
+    naturals (numbersOf writeStatus writeValues (writeAnswer card position lent) ++ lentAfterWrite card position lent)
+answerTo (read card received) = naturals (numbersOf readStatus readValues (readAnswer card received))
+answerTo (bitsUnlike card position received) = naturals (differingBits (wordBytes (codeOf card) position) received ∷ [])
 answerTo (onesOfSeparators card received) =
     let C : Code = codeOf card in
     let x : ℕ → ℕ = place received in
-    sumBelow (separator₁ C x) (C .D) ∷ sumBelow (separator₂ C x) (C .D) ∷ sumBelow (separator₃ C x) (C .D) ∷ []
+    naturals (sumBelow (separator₁ C x) (C .D) ∷ sumBelow (separator₂ C x) (C .D) ∷ sumBelow (separator₃ C x) (C .D) ∷ [])
+answerTo (distance card position) =
+    let answer : MillimetresAnswer = millimetresAnswer card position in
+    pos (millimetresStatus answer) ∷ millimetresValues answer
+answerTo (distanceFrom offset position) = millimetresOf offset position ∷ []
 answerTo (made track r m rows) =
     let card : MadeCard = makeAnswer track r m in
-    card .refusal ∷ (numbersOf cardStatus cardValues (cardAnswer (card .bytes)) ++ listOf rows (rowOf (card .bytes)))
-answerTo (vote r m chunk) = numbersOf voteStatus voteValues (voteAnswer r m chunk)
+    naturals (card .refusal ∷ (numbersOf cardStatus cardValues (cardAnswer (card .bytes)) ++ listOf rows (rowOf (card .bytes))))
+answerTo (vote r m chunk) = naturals (numbersOf voteStatus voteValues (voteAnswer r m chunk))
 
 -- a question and what the documents say
 pub record Case : Type 0 where
   pub question : Question
-  pub answer : List ℕ
+  pub answer : List ℤ
 
 abbrev pub case : Question → List ℕ → Case
-case question answer = record { question = question; answer = answer }
+case question answer = record { question = question; answer = naturals answer }
+
+-- the same, with signed numbers in the answer
+abbrev pub signed : Question → List ℤ → Case
+signed question answer = record { question = question; answer = answer }
+
+abbrev pub minus : ℕ → ℤ
+minus x = negℤ (pos x)
 
 unfoldable pub starredCases : List Case
 starredCases =
@@ -140,4 +190,28 @@ starredCases =
     ∷ case (vote 0 6 0xffffffff) (10 ∷ [])
     ∷ case (vote 0 0 2) (13 ∷ [])
     ∷ case (vote 2 5 4294967296) (13 ∷ [])
+    -- document 02, P2: the offset at both ends of its range, at -1 and at 0, and at the ends of the numbers of 32 bits
+    ∷ signed (carriedOffset (cardBFrom100 lowest)) (minus 20000 ∷ [])
+    ∷ signed (carriedOffset (cardBFrom100 minusOne)) (minus 1 ∷ [])
+    ∷ case (carriedOffset cardB) (0 ∷ [])
+    ∷ case (carriedOffset (cardBFrom100 highest)) (20000 ∷ [])
+    ∷ signed (carriedOffset (cardBFrom100 (0x80 ∷ []))) (minus 2147483648 ∷ [])
+    ∷ case (carriedOffset (cardBFrom100 (0x7f ∷ 0xff ∷ 0xff ∷ 0xff ∷ []))) (2147483647 ∷ [])
+    -- distances of the first and the last position; one above is refusal 7. No sound card has a position above 1,310,400
+    ∷ signed (distance (cardBFrom100 lowest) 0) (pos 0 ∷ minus 20000 ∷ [])
+    ∷ case (distance (cardBFrom100 minusOne) 15) (0 ∷ 749 ∷ [])
+    ∷ case (distance cardB 15) (0 ∷ 750 ∷ [])
+    ∷ case (distance (cardBFrom100 highest) 15) (0 ∷ 20750 ∷ [])
+    ∷ case (distance (cardBFrom100 highest) 16) (7 ∷ [])
+    ∷ case (distanceFrom (minus 20000) 1310400) (65500000 ∷ [])
+    ∷ case (distanceFrom (pos 20000) 1310400) (65540000 ∷ [])
+    -- 14: past either end; after 4, where byte 104 is not zero, and before 5
+    ∷ case (checkCard (cardBFrom100 tooLow)) (14 ∷ [])
+    ∷ case (checkCard (cardBFrom100 tooHigh)) (14 ∷ [])
+    ∷ case (checkCard (cardBFrom100 (tooHigh ++ (1 ∷ [])))) (4 ∷ [])
+    ∷ case (checkCard (cardFrom100 3 2 0 (3 ∷ 3 ∷ []) tooHigh)) (14 ∷ [])
+    ∷ case (checkCard (cardFrom100 3 2 0 (3 ∷ 3 ∷ []) highest)) (5 ∷ [])
+    -- all other answers are card B's, and a made card carries offset 0
+    ∷ case (checkCard (cardBFrom100 lowest)) (0 ∷ 3 ∷ 1 ∷ 14 ∷ 3 ∷ 1 ∷ 15 ∷ 15 ∷ [])
+    ∷ case (carriedOffset (makeAnswer 14 1 2 .bytes)) (0 ∷ [])
     ∷ []

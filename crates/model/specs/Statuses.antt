@@ -5,6 +5,7 @@ use mathlib.Core.Bool.{cond}
 use mathlib.Core.List.{List, [], _∷_}
 use Prim.Native.Nat.{ℕ}
 use lib.Dec.{eqb}
+use lib.IntN.{ℤ}
 use Rattle.model.specs.declared.Chunk.{Chunk}
 use Rattle.model.specs.declared.Chunk.the-variants.{Codeword, Unreadable}
 use Rattle.model.specs.declared.CardAnswer.{CardAnswer}
@@ -15,11 +16,13 @@ use Rattle.model.specs.declared.ReadAnswer.{ReadAnswer}
 use Rattle.model.specs.declared.ReadAnswer.the-variants.{At, Refused as ReadRefused}
 use Rattle.model.specs.declared.NumberAnswer.{NumberAnswer}
 use Rattle.model.specs.declared.NumberAnswer.the-variants.{Number, Refused as NumberRefused}
+use Rattle.model.specs.declared.MillimetresAnswer.{MillimetresAnswer}
+use Rattle.model.specs.declared.MillimetresAnswer.the-variants.{Millimetres, Refused as MillimetresRefused}
 use Rattle.model.specs.declared.VoteAnswer.{VoteAnswer}
 use Rattle.model.specs.declared.VoteAnswer.the-variants.{Voted, Refused as VoteRefused}
 
--- the values of an answer with this status: these where it is 0, and none of a refusal
-unfoldable pub ifServed : (status : ℕ) (values : List ℕ) → List ℕ
+-- the values of an answer with this status: these where it is 0, and none of a refusal. They are numbers, or signed ones
+unfoldable pub ifServed : {A : Type 0} (status : ℕ) (values : List A) → List A
 ifServed status values = cond (eqb status 0) values []
 
 -- a code chunk: the number of its codeword, and in how many bits the two differ; 10 where no codeword lies within the radius
@@ -58,7 +61,7 @@ unfoldable pub readValues : ReadAnswer → List ℕ
 readValues (At r) = r .position ∷ r .residual ∷ r .rule ∷ []
 readValues (ReadRefused refusal) = []
 
--- a call that asks for one number: a block's start, or a distance in millimetres
+-- a block's start
 unfoldable pub numberStatus : NumberAnswer → ℕ
 numberStatus (Number number) = 0
 numberStatus (NumberRefused refusal) = refusal
@@ -66,6 +69,15 @@ numberStatus (NumberRefused refusal) = refusal
 unfoldable pub numberValues : NumberAnswer → List ℕ
 numberValues (Number number) = number ∷ []
 numberValues (NumberRefused refusal) = []
+
+-- a distance in millimetres, a signed number
+unfoldable pub millimetresStatus : MillimetresAnswer → ℕ
+millimetresStatus (Millimetres distance) = 0
+millimetresStatus (MillimetresRefused refusal) = refusal
+
+unfoldable pub millimetresValues : MillimetresAnswer → List ℤ
+millimetresValues (Millimetres distance) = distance ∷ []
+millimetresValues (MillimetresRefused refusal) = []
 
 -- a vote on a chunk: the codeword's number, and in how many bits the two differ
 unfoldable pub voteStatus : VoteAnswer → ℕ

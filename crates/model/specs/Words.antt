@@ -3,6 +3,7 @@
 use mathlib.Core.List.{List}
 use Prim.Native.Nat.{ℕ, zero, suc, _+_, _-_, _*_, _%_}
 use lib.Dec.{leb}
+use lib.IntN.{ℤ, pos, _+ℤ_}
 use Rattle.bits.specs.Sums.{joinAt, fromPlace}
 use Rattle.bits.specs.Walk.{walk}
 use Rattle.bits.specs.Places.{bit, pack}
@@ -69,6 +70,6 @@ wordAt C position =
 unfoldable pub wordBytes : Code → (position : ℕ) → List ℕ
 wordBytes C position = pack (wordBits C) (wordAt C position)
 
--- distance from the buffer face: 50 mm × position
-abbrev pub millimetresOf : (position : ℕ) → ℕ
-millimetresOf position = 50 * position
+-- distance from the buffer face, a signed number: offset + 50 mm × position (document 02, P2)
+unfoldable pub millimetresOf : (offset : ℤ) (position : ℕ) → ℤ
+millimetresOf offset position = offset +ℤ pos (50 * position)

@@ -16,10 +16,11 @@ pub struct DecodedCode {
     pub rows: [u64; 12],
 }
 
-// A card decoded: its refusal's number, or 0 for a sound card, whose track number and code stand beside it.
+// A card decoded: its refusal's number, or 0 for a sound card, whose track number, offset in millimetres and code stand beside it.
 pub struct Decoded {
     pub refusal: u32,
     pub track: u32,
+    pub offset: i32,
     pub code: DecodedCode,
 }
 
@@ -59,9 +60,15 @@ pub enum ReadAnswer {
     Refused(u32),
 }
 
-// The answer to a call that asks for one number: a block's start, or a distance in millimetres.
+// The answer to a call that asks for a number: a block's start.
 pub enum NumberAnswer {
     Number(u32),
+    Refused(u32),
+}
+
+// The answer to a call that asks for a distance in millimetres. It is signed: a position may lie before the buffer face.
+pub enum MillimetresAnswer {
+    Millimetres(i32),
     Refused(u32),
 }
 

@@ -7,7 +7,8 @@ use native.Mathlib.Nat.{le-trans}
 use Rattle.model.specs.Card.{Code, codeOf}
 use Rattle.model.specs.ReedMuller.{productOf, reedMuller, reedMullerCard, orderWithinLimits}
 use Rattle.code_theory.specs.Promise.{Sound}
-use Rattle.code_theory.proofs.CardFields.{n-of-written, k-of-written, track-of-written, written-card-sound, code-of-written}
+use Rattle.code_theory.proofs.CardFields.{n-of-written, k-of-written, track-of-written, offset-of-written}
+use Rattle.code_theory.proofs.CardFields.{written-card-sound, code-of-written}
 use Rattle.reed_muller_theory.specs.MadeCards.{IsReedMullerCard}
 use Rattle.reed_muller_theory.proofs.OrderLimits.{limits-of-test}
 use Rattle.reed_muller_theory.proofs.Polynomials.{no-row}
@@ -35,5 +36,6 @@ module _ (track r m : ℕ) (within : orderWithinLimits r m ≡ true) where
         k-is = k-of-written (C .n) (C .k) track (C .row);
         D-is = ap (λ (read : Code). read .D) code-of-made ∙ least-distance r m order;
         track-is = track-of-written (C .n) (C .k) track (C .row) fits;
+        offset-is = offset-of-written (C .n) (C .k) track (C .row);
         code-is = code-of-made;
       }

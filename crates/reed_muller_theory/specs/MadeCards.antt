@@ -3,11 +3,12 @@
 use mathlib.Core.Path.{_≡_}
 use mathlib.Core.List.{List}
 use Prim.Native.Nat.{ℕ, _-_, _^_}
-use Rattle.model.specs.Card.{lengthOf, rowCountOf, trackOf, codeOf, SoundCard}
+use lib.IntN.{pos}
+use Rattle.model.specs.Card.{lengthOf, rowCountOf, trackOf, offsetOf, codeOf, SoundCard}
 use Rattle.model.specs.ReedMuller.{countOfSets, reedMuller}
 
 pub record IsReedMullerCard (track r m : ℕ) (card : List ℕ) : Type 0 where
-  -- it is sound: none of the refusals 1 to 5 holds of it
+  -- it is sound: none of the refusals 1 to 5 and 14 holds of it
   pub sound : SoundCard card
   -- n is 2^m, one place for each position p of the m variables
   pub n-is : lengthOf card ≡ 2 ^ m
@@ -17,5 +18,7 @@ pub record IsReedMullerCard (track r m : ℕ) (card : List ℕ) : Type 0 where
   pub D-is : codeOf card .D ≡ 2 ^ (m - r)
   -- its track number is the one that was given
   pub track-is : trackOf card ≡ track
+  -- its offset is 0
+  pub offset-is : offsetOf card ≡ pos 0
   -- its rows are the products of at most r variables, by size of S and then by S: its code is the Reed-Muller code
   pub code-is : codeOf card ≡ reedMuller r m

@@ -7,8 +7,8 @@ use Rattle.bits.specs.Walk.{walk}
 use Rattle.bits.specs.Places.{weight, place}
 use Rattle.bits.specs.Searches.{anyBelow, firstFrom, first, leastAt, greatest}
 use Rattle.model.specs.Refusals.{firstRefusal, unlessRefused}
-use Rattle.model.specs.Card.{highFirst, trackOf, rowOf, storedCheck, computedCheck, sumOfRows, leastWeight, codeOf}
-use Rattle.model.specs.Card.{withinLimits, rowTooWide, unusedRowSet, unusedByteSet, misplaced, dependent, cardRefusal}
+use Rattle.model.specs.Card.{highFirst, trackOf, rowOf, twosComplement, offsetOf, storedCheck, computedCheck, sumOfRows, leastWeight, codeOf}
+use Rattle.model.specs.Card.{withinLimits, rowTooWide, unusedRowSet, unusedByteSet, misplaced, offsetOutside, dependent, cardRefusal}
 use Rattle.model.specs.Order.{gray, lastCodeword, codeword, changedRow, changedWeight, start, lastPosition}
 use Rattle.model.specs.Words.{fiveChunks, word, blockOf, wordAt}
 use Rattle.model.specs.Reading.{majority, chunkDistance, withinRadius, readFirst, chunkReading, unreadable, numberRead, seen}
@@ -30,8 +30,8 @@ unfolding sumBelow distance joinAt
     walk
     weight place
     anyBelow firstFrom first leastAt greatest
-    highFirst trackOf rowOf storedCheck computedCheck sumOfRows leastWeight codeOf
-    firstRefusal unlessRefused withinLimits rowTooWide unusedRowSet unusedByteSet misplaced dependent cardRefusal
+    highFirst trackOf rowOf twosComplement offsetOf storedCheck computedCheck sumOfRows leastWeight codeOf
+    firstRefusal unlessRefused withinLimits rowTooWide unusedRowSet unusedByteSet misplaced offsetOutside dependent cardRefusal
     gray lastCodeword codeword changedRow changedWeight start lastPosition
     fiveChunks word blockOf wordAt
     majority chunkDistance withinRadius readFirst chunkReading unreadable numberRead seen

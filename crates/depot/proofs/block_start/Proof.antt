@@ -3,7 +3,7 @@
 use borrow.Author.Needs.{needs}
 use Rattle.model.specs.Decoded.{meaning}
 use Rattle.code_theory.specs.Promise.{Sound}
-use Rattle.depot.proofs.NumberAnswers.{start-refused, start-above, start-within}
+use Rattle.depot.proofs.BlockStarts.{start-refused, start-above, start-within}
 use Rattle.depot.proofs.block_start.Statement.{statement}
 use Rattle.depot.proofs.block_start.Tie as tie
 

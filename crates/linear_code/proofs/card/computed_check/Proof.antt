@@ -1,4 +1,4 @@
--- `linear_code::card::computed_check` meets its contract: the sum over all places ends at place 100 where no unused byte is set.
+-- `linear_code::card::computed_check` meets its contract: the sum over all places ends at place 104 where no unused byte is set.
 -- Assumes nothing.
 use mathlib.Core.Path.{sym, _∙_}
 use mathlib.Core.Logic.{⊎-elim}

@@ -13,10 +13,10 @@ use Rattle.linear_code.proofs.card.unused_byte_set.Statement.{statement
 use Rattle.linear_code.proofs.card.unused_byte_set.Tie as tie
 
 abbrev Inv-loop : tie.InvT-loop
-Inv-loop card joined₀ i₀ joined i = (i ≤ 410) × (not (eqb joined 0) ≡ anyBelow (λ j. not (eqb (byte card (100 + j)) 0)) i)
+Inv-loop card joined₀ i₀ joined i = (i ≤ 406) × (not (eqb joined 0) ≡ anyBelow (λ j. not (eqb (byte card (104 + j)) 0)) i)
 
 abbrev μ-loop : tie.MeasureT-loop
-μ-loop card joined₀ i₀ joined i = 410 - i
+μ-loop card joined₀ i₀ joined i = 406 - i
 
 loop-holds : tie.Need-loop-holds Inv-loop μ-loop
 unfolding anyBelow
@@ -26,12 +26,12 @@ loop-again : tie.Need-loop-again Inv-loop μ-loop
 loop-again c =
     let loop = c .before .before .loop in
     let first = c .before .before .before in
-    (omega arith, join-more (λ j. byte (first .args .card .now) (100 + j)) (loop .joined) (loop .i) (loop .inv .1))
+    (omega arith, join-more (λ j. byte (first .args .card .now) (104 + j)) (loop .joined) (loop .i) (loop .inv .1))
 
 returns : tie.Need-returns Inv-loop μ-loop
 unfolding unusedByteSet
 returns c =
-    let all : c .before .loop .i ≡ 410 = omega arith in
+    let all : c .before .loop .i ≡ 406 = omega arith in
     rw (← all) (c .before .loop .inv .1)
 
 pub unused-byte-set-spec : {M : Type 1} → statement M

@@ -1,6 +1,6 @@
 -- `linear_code::decode::decode` meets its contract: each test that fails is one of refusals 1 to 3, by its law, and past the three what was
--- read of the card is said of its bytes: n, k, the rows, and their least weight where none is too wide. From these the two tests
--- of the rows tell refusals 4 and 5 from a sound card, whose code they are. Assumes nothing.
+-- read of the card is said of its bytes: n, k, the rows, the offset, and the rows' least weight where none is too wide. From these the
+-- last tests tell refusals 4, 14 and 5 from a sound card, whose code and offset they are. Assumes nothing.
 use mathlib.Core.Path.{_≡_, refl, sym, _∙_}
 use mathlib.Core.Bool.{true, false}
 use mathlib.Core.List.{List}
@@ -8,27 +8,41 @@ use Prim.Native.Nat.{ℕ}
 use borrow.Author.Needs.{needs}
 use borrow.Author.Tests.{not-true, not-false}
 use native.Mathlib.Omega.{arith}
+use lib.IntN.{ℤ}
 use lib.ListN.{length}
-use Rattle.model.specs.Card.{lengthOf, rowCountOf, rowOf, storedCheck, computedCheck, withinLimits, misplaced}
+use mir.Facts.{toZ-ofZ}
+use mir.Syntax.{w32}
+use mir.Val.{toZ, ofZ}
+use Rattle.model.specs.Card.{lengthOf, rowCountOf, rowOf, offsetOf, storedCheck, computedCheck, withinLimits, misplaced, offsetOutside}
 use Rattle.code_theory.proofs.SoundCard.{limits-of-test}
-use Rattle.linear_code.proofs.Decoding.{least, least-of-card, refusal-4, refusal-5, not-refused, code-of-least, refused-from, decoded-from}
+use Rattle.linear_code.proofs.Decoding.{least, least-of-card, refusal-4, refusal-14, refusal-5, not-refused, code-of-least}
+use Rattle.linear_code.proofs.Decoding.{refused-from, decoded-from}
 use Rattle.linear_code.proofs.Rows.{Narrow}
 use Rattle.linear_code.proofs.Refusals.{refusal-1, refusal-2, refusal-3, misplaced-of-card}
 use Rattle.linear_code.proofs.decode.decode.Statement.{statement}
 use Rattle.linear_code.proofs.decode.decode.Tie as tie
 
--- the way back to the test before, and to the card's bytes, from past the second test and from past the third
+-- the way back to the test before, and to the card's bytes, from past the second test and those after it
 abbrev first-passed : tie.Else2 → tie.Else1
 first-passed c = c .before .before .before .before
 
 abbrev second-passed : tie.Else3 → tie.Else2
 second-passed c = c .before .before .before .before
 
+abbrev third-passed : tie.Else4 → tie.Else3
+third-passed c = c .before .before .before
+
+abbrev fourth-passed : tie.After-least-weight → tie.Else4
+fourth-passed c = c .before .before .before
+
 abbrev card₂ : tie.Else2 → List ℕ
 card₂ c = first-passed c .before .before .args .card .now
 
 abbrev card₃ : tie.Else3 → List ℕ
 card₃ c = card₂ (second-passed c)
+
+abbrev card₄ : tie.Else4 → List ℕ
+card₄ c = card₃ (third-passed c)
 
 -- past the second test: 512 bytes, and the two checks are equal
 whole : (c : tie.Else2) → length (card₂ c) ≡ 512
@@ -52,7 +66,7 @@ limits c = rw (is-n c, is-k c) at (c .within-limits .ensures)
 within : (c : tie.Else3) → withinLimits (lengthOf (card₃ c)) (rowCountOf (card₃ c)) ≡ true
 within c = sym (limits (c .before)) ∙ not-false _ (c .if3 .left)
 
--- past the third test: the fourth, and the least weight of the rows that the card has
+-- past the third test: the fourth
 is-misplaced : (c : tie.After-has-misplaced) → c .has-misplaced .result ≡ misplaced (card₃ (c .before .before))
 is-misplaced c =
     let limited = c .before .before .before in
@@ -60,14 +74,29 @@ is-misplaced c =
     misplaced-of-card _ _ _ _ _ _ (is-n limited) (is-k limited) (c .before .rows-of .ensures)
     (summed .before .before .unused-byte-set .ensures) (c .has-misplaced .ensures)
 
-placed : (c : tie.Else4) → misplaced (card₃ (c .before .before .before)) ≡ false
+placed : (c : tie.Else4) → misplaced (card₄ c) ≡ false
 placed c = sym (is-misplaced (c .before)) ∙ c .if4 .left
 
+-- past the fourth test: the offset, whose bits a local holds, what the fifth asks of it, and the least weight of the card's rows
+abbrev offset : tie.After-offset-of → ℤ
+offset c = toZ w32 (ofZ w32 (c .offset-of .result))
+
+is-offset : (c : tie.After-offset-of) → offset c ≡ offsetOf (card₄ (c .before))
+is-offset c = toZ-ofZ (record { sfits = c .offset-of .ok }) ∙ c .offset-of .ensures
+
+is-outside : (c : tie.After-is-outside) → c .is-outside .result ≡ offsetOutside (offsetOf (card₄ (c .before .before)))
+is-outside c = rw (is-offset (c .before)) at (c .is-outside .ensures)
+
 is-least : (c : tie.After-least-weight)
-    → let b = card₃ (c .before .before .before .before) in Narrow (lengthOf b) (rowCountOf b) (rowOf b) → c .least-weight .result ≡ least b
+    → let b = card₄ (fourth-passed c) in Narrow (lengthOf b) (rowCountOf b) (rowOf b) → c .least-weight .result ≡ least b
 is-least c =
-    let limited = c .before .before .before .before .before in
-    least-of-card _ _ _ _ _ (is-n limited) (is-k limited) (c .before .before .before .rows-of .ensures) (c .least-weight .ensures)
+    let fourth = fourth-passed c in
+    let limited = third-passed fourth .before in
+    least-of-card _ _ _ _ _ (is-n limited) (is-k limited) (fourth .before .before .rows-of .ensures) (c .least-weight .ensures)
+
+-- past the fifth test
+near : (c : tie.Else5) → offsetOutside (offsetOf (card₄ (fourth-passed (c .before)))) ≡ false
+near c = sym (is-outside (c .before .before)) ∙ c .if5 .left
 
 returns : tie.Need-returns
 returns c = refused-from _ _ 1 (c .refused .ensures) (refusal-1 _ (c .before .if1 .taken)) (λ e. omega arith)
@@ -97,28 +126,43 @@ returns-4 c =
 
 least-weight-requires : tie.Need-least-weight-requires
 least-weight-requires c κs =
-    let limited = c .before .before .before .before in
-    let bounds = limits-of-test _ _ (within (c .before .before .before)) in
-    rw (is-n limited, is-k limited) (bounds .1, bounds .3)
+    let third = third-passed (c .before .before) in
+    let bounds = limits-of-test _ _ (within third) in
+    (omega (arith, is-n (third .before), bounds .1), omega (arith, is-k (third .before), bounds .3))
 
 returns-5 : tie.Need-returns-5
 returns-5 c =
     let weighed = c .before .before in
-    let third = weighed .before .before .before .before in
+    let fourth = fourth-passed weighed in
+    let third = third-passed fourth in
     let second = second-passed third in
-    refused-from _ _ 5 (c .refused5 .ensures)
-    (refusal-5 _ (within third) (whole second) (checked second) (placed (weighed .before)) _ (is-least weighed) (c .before .if5 .taken))
+    let test = sym (is-outside (weighed .before)) ∙ c .before .if5 .taken in
+    refused-from _ _ 14 (c .refused5 .ensures)
+    (refusal-14 _ (within third) (whole second) (checked second) (placed fourth) test)
     (λ e. omega arith)
 
 returns-6 : tie.Need-returns-6
 returns-6 c =
-    let weighed = c .before .before in
-    let third = weighed .before .before .before .before in
-    let rows = weighed .before .before .before .rows-of in
+    let fifth = c .before .before in
+    let weighed = fifth .before in
+    let fourth = fourth-passed weighed in
+    let third = third-passed fourth in
     let second = second-passed third in
+    refused-from _ _ 5 (c .refused6 .ensures)
+    (refusal-5 _ (within third) (whole second) (checked second) (placed fourth) (near fifth) _ (is-least weighed) (c .before .if6 .taken))
+    (λ e. omega arith)
+
+returns-7 : tie.Need-returns-7
+returns-7 c =
+    let fifth = c .before .before in
+    let weighed = fifth .before in
+    let fourth = fourth-passed weighed in
+    let third = third-passed fourth in
+    let second = second-passed third in
+    let rows = fourth .before .before .rows-of in
     let sound =
-    not-refused _ (within third) (whole second) (checked second) (placed (weighed .before)) _ (is-least weighed) (c .before .if5 .left) in
-    decoded-from _ _ sound refl (c .track-of .ensures)
+    not-refused _ (within third) (whole second) (checked second) (placed fourth) (near fifth) _ (is-least weighed) (c .before .if6 .left) in
+    decoded-from _ _ sound refl (c .track-of .ensures) (is-offset (weighed .before .before))
     (code-of-least _ sound _ _ _ (rows .result) (is-n (third .before)) (is-k (third .before)) (rows .ensures) (is-least weighed))
 
 pub decode-spec : {M : Type 1} → statement M
@@ -141,8 +185,12 @@ decode-spec =
     (λ c κs. search needs)
     (λ c κs. search needs)
     returns-4
+    (λ c κs. search needs)
+    (λ c κs. search needs)
     least-weight-requires
     (λ c κs. search needs)
     returns-5
     (λ c κs. search needs)
-    returns-6)
+    returns-6
+    (λ c κs. search needs)
+    returns-7)

@@ -1,4 +1,4 @@
--- What the calls that ask for one number answer, one law for each way out of the code, from what decoding the card gave; the
+-- What the call that asks for a block's start answers, one law for each way out of the code, from what decoding the card gave; the
 -- status and the values are those of the answer that the definition gives. Assumes nothing.
 use mathlib.Core.Path.{_≡_, refl, sym, _∙_}
 use mathlib.Core.List.{List, [], _∷_}
@@ -7,18 +7,17 @@ use borrow.Author.Tests.{eq-eqb, lt-ltb, le-ltb}
 use Rattle.model.specs.Refusals.{firstRefusal, unlessRefused}
 use Rattle.model.specs.Card.{cardRefusal, codeOf, SoundCard}
 use Rattle.model.specs.Decoded.{meaning}
-use Rattle.model.specs.Order.{lastCodeword, lastPosition, start}
-use Rattle.model.specs.Words.{millimetresOf}
-use Rattle.model.specs.Answers.{startRefusal, startAnswer, millimetresRefusal, millimetresAnswer}
+use Rattle.model.specs.Order.{lastCodeword, start}
+use Rattle.model.specs.Answers.{startRefusal, startAnswer}
 use Rattle.model.specs.Statuses.{numberStatus, numberValues}
 use Rattle.model.specs.declared.Decoded.{Decoded}
 use Rattle.model.specs.declared.NumberAnswer.{NumberAnswer}
 use Rattle.model.specs.declared.NumberAnswer.the-variants.{Number, Refused}
 use Rattle.code_theory.proofs.Refusals.{refused-by-card}
 use Rattle.linear_code.specs.DecodedFrom.{DecodedFrom}
-use Rattle.depot.proofs.Statuses.{Told, start-told, millimetres-told}
+use Rattle.depot.proofs.Statuses.{Told, start-told}
 
--- what the contracts say of the answers
+-- what the contract says of the answer
 abbrev StartMeets : (card : List ℕ) (block : ℕ) → NumberAnswer → Type 0
 StartMeets card block answer =
     (answer ≡ startAnswer card block)
@@ -27,27 +26,12 @@ StartMeets card block answer =
 start-meets : (card : List ℕ) (block : ℕ) (answer : NumberAnswer) → answer ≡ startAnswer card block → StartMeets card block answer
 start-meets card block answer e = rw e (refl, start-told card block)
 
-abbrev MillimetresMeets : (card : List ℕ) (position : ℕ) → NumberAnswer → Type 0
-MillimetresMeets card position answer =
-    (answer ≡ millimetresAnswer card position)
-    × Told numberStatus numberValues (millimetresRefusal card position) (millimetresOf position ∷ []) answer
-
-millimetres-meets : (card : List ℕ) (position : ℕ) (answer : NumberAnswer) → answer ≡ millimetresAnswer card position
-    → MillimetresMeets card position answer
-millimetres-meets card position answer e = rw e (refl, millimetres-told card position)
-
 -- a card that is refused
 module _ (card : List ℕ) (decoded : Decoded) (from : DecodedFrom card decoded) (refused : decoded .refusal ≡ 0 → ⊥) where
   pub start-refused : (block : ℕ) → StartMeets card block (Refused (decoded .refusal))
   unfolding startAnswer startRefusal
   start-refused block =
       start-meets card block (Refused (decoded .refusal))
-      (rw (← (from .refusal)) (sym (refused-by-card (decoded .refusal) _ _ _ refused)))
-
-  pub millimetres-refused : (position : ℕ) → MillimetresMeets card position (Refused (decoded .refusal))
-  unfolding millimetresAnswer millimetresRefusal
-  millimetres-refused position =
-      millimetres-meets card position (Refused (decoded .refusal))
       (rw (← (from .refusal)) (sym (refused-by-card (decoded .refusal) _ _ _ refused)))
 
 -- a sound card
@@ -67,17 +51,3 @@ module _ (card : List ℕ) (decoded : Decoded) (from : DecodedFrom card decoded)
   start-within last block answer is h e =
       start-meets card block (Number answer)
       (rw (eq-eqb (cardRefusal card) 0 is-sound, ← (from .code sound), ← is, ← e, le-ltb last block h))
-
-  pub millimetres-above : (last position : ℕ) → last ≡ lastPosition (meaning (decoded .code)) → last < position
-      → MillimetresMeets card position (Refused 7)
-  unfolding millimetresAnswer millimetresRefusal firstRefusal unlessRefused
-  millimetres-above last position is h =
-      millimetres-meets card position (Refused 7)
-      (rw (eq-eqb (cardRefusal card) 0 is-sound, ← (from .code sound), ← is, lt-ltb last position h))
-
-  pub millimetres-within : (last position : ℕ) → last ≡ lastPosition (meaning (decoded .code)) → position ≤ last
-      → MillimetresMeets card position (Number (millimetresOf position))
-  unfolding millimetresAnswer millimetresRefusal firstRefusal unlessRefused
-  millimetres-within last position is h =
-      millimetres-meets card position (Number (millimetresOf position))
-      (rw (eq-eqb (cardRefusal card) 0 is-sound, ← (from .code sound), ← is, le-ltb last position h))

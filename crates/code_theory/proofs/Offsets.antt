@@ -1,0 +1,91 @@
+-- What the offset leaves as it was. Zero bytes are the offset 0, which is within its range and adds nothing; and the tests for unused
+-- bytes from 100 on and from 104 on agree where the four between are zero. A card's code, and so all but its distances, goes by its
+-- first 100 bytes. Assumes nothing.
+use mathlib.Core.Path.{_≡_, refl, fun-ext}
+use mathlib.Core.Bool.{Bool, false, not, _||_}
+use mathlib.Core.List.{List}
+use mathlib.Core.Logic.{⊎-elim}
+use Prim.Native.Nat.{ℕ, zero, suc, _+_, _*_, _≤_, _<_}
+use native.Mathlib.Nat.{zero-add}
+use native.Mathlib.Omega.{arith}
+use borrow.Author.Tests.{eq-eqb, ne-eqb, lt-ltb, le-ltb}
+use lib.Dec.{eqb}
+use lib.IntN.{pos}
+use Rattle.bits.specs.Searches.{anyBelow}
+use Rattle.bits.proofs.Numbers.{lt-or-le, eq-or-ne}
+use Rattle.bits.proofs.Searches.{any-none, any-split}
+use Rattle.model.specs.Refusals.{firstRefusal, unlessRefused}
+use Rattle.model.specs.Card.{byte, highFirst, trackOf, rowOf, twosComplement, offsetOf, unusedByteSet, misplaced, offsetOutside}
+use Rattle.model.specs.Card.{cardRefusal, codeOf}
+use Rattle.model.specs.Words.{millimetresOf}
+use Rattle.model.specs.Answers.{summaryOf, cardAnswer, writeRefusal, writeAnswer, lentAfterWrite, readRefusal, readAnswer}
+use Rattle.model.specs.Answers.{startRefusal, startAnswer, millimetresRefusal, millimetresAnswer}
+use Rattle.model.specs.declared.NumberAnswer.the-variants.{Number, Refused as NumberRefused}
+use Rattle.model.specs.declared.MillimetresAnswer.the-variants.{Millimetres, Refused as MillimetresRefused}
+use Rattle.code_theory.specs.Offsets.{OldCard, oldMisplaced, oldRefusal, oldCardAnswer, oldDistance, asSigned}
+use Rattle.code_theory.specs.Offsets.{CheckedAsBefore, DistanceAsBefore, SameFields, AnsweredAlike}
+
+-- ---- old cards
+
+pub old-offset : (b : List ℕ) → OldCard b → offsetOf b ≡ pos 0
+unfolding OldCard offsetOf twosComplement highFirst
+old-offset b old = rw (old 0 (omega arith), old 1 (omega arith), old 2 (omega arith), old 3 (omega arith))
+
+old-misplaced : (b : List ℕ) → OldCard b → misplaced b ≡ oldMisplaced b
+unfolding OldCard misplaced oldMisplaced unusedByteSet
+old-misplaced b old =
+    let set : ℕ → Bool = λ i. not (eqb (byte b (100 + i)) 0) in
+    let none : anyBelow set 4 ≡ false = any-none set 4 (λ i l. rw (old i l)) in
+    let place : (i : ℕ) → 100 + (4 + i) ≡ 104 + i = λ i. omega arith in
+    rw (any-split set 4 406, none) (simp place)
+
+pub old-refusal : (b : List ℕ) → OldCard b → cardRefusal b ≡ oldRefusal b
+unfolding cardRefusal oldRefusal firstRefusal offsetOutside
+old-refusal b old = rw (old-misplaced b old, old-offset b old)
+
+pub checked-as-before : (card : List ℕ) → CheckedAsBefore card (cardAnswer card)
+unfolding CheckedAsBefore cardAnswer oldCardAnswer
+checked-as-before card old = rw (old-refusal card old)
+
+-- an answer with a number, made signed, is the answer with the signed number
+signed-unless-refused : (refusal distance : ℕ)
+    → unlessRefused refusal MillimetresRefused (Millimetres (pos distance)) ≡ asSigned (unlessRefused refusal NumberRefused (Number distance))
+unfolding unlessRefused asSigned
+signed-unless-refused refusal distance =
+    ⊎-elim (λ e. rw (eq-eqb refusal 0 e)) (λ ne. rw (ne-eqb refusal 0 ne)) (eq-or-ne refusal 0)
+
+pub distance-as-before : (card : List ℕ) (position : ℕ) → DistanceAsBefore card position (millimetresAnswer card position)
+unfolding DistanceAsBefore millimetresAnswer millimetresRefusal millimetresOf oldDistance
+distance-as-before card position old =
+    rw (old-refusal card old, old-offset card old, zero-add (50 * position)) (signed-unless-refused _ (50 * position))
+
+-- ---- two cards with different offsets
+
+module _ (b b′ : List ℕ) (same : SameFields b b′) where
+  same-number : (i m : ℕ) → i + m ≤ 100 → highFirst b i m ≡ highFirst b′ i m
+  unfolding SameFields highFirst
+  same-number i zero h = refl
+  same-number i (suc m) h = rw (same-number i m (omega arith), same (i + m) (omega arith))
+
+  same-rows : rowOf b ≡ rowOf b′
+  unfolding rowOf
+  same-rows =
+      fun-ext
+      (λ z. ⊎-elim (λ l. rw (lt-ltb z 12 l, same-number (4 + 8 * z) 8 (omega arith))) (λ h. rw (le-ltb z 12 h)) (lt-or-le z 12))
+
+  same-code : codeOf b ≡ codeOf b′
+  unfolding SameFields codeOf
+  same-code = rw (same 0 (omega arith), same 1 (omega arith), same-rows)
+
+  -- where the two are refused alike, as where both are sound
+  pub alike-but-distances : cardRefusal b ≡ cardRefusal b′ → AnsweredAlike b b′
+  unfolding cardAnswer summaryOf trackOf writeRefusal writeAnswer lentAfterWrite readRefusal readAnswer startRefusal startAnswer
+  alike-but-distances alike =
+      record {
+        code = same-code;
+        checked = rw (alike, same-code, same-number 2 2 (omega arith));
+        written = λ position lent. rw (alike, same-code);
+        left = λ position lent. rw (alike, same-code);
+        read = λ received. rw (alike, same-code);
+        started = λ block. rw (alike, same-code);
+      }

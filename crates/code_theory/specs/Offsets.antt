@@ -1,0 +1,86 @@
+-- Document 02, P2, "The strip doesn't begin at the buffer face": what the offset leaves as it was. An old card, one whose bytes 100 to
+-- 103 are zero, is refused or sound, and gives distances, as document 01 alone has it; and two cards that differ in their offsets are
+-- answered alike in all but the distances. Assumes nothing.
+use mathlib.Core.Path.{_≡_}
+use mathlib.Core.Bool.{Bool, not, _||_}
+use mathlib.Core.List.{List, [], _∷_}
+use Prim.Native.Nat.{ℕ, _+_, _*_, _<_}
+use lib.Dec.{ltb, eqb}
+use lib.IntN.{pos}
+use lib.ListN.{length}
+use Rattle.bits.specs.Searches.{anyBelow}
+use Rattle.model.specs.Refusals.{refuses, refusedAs, firstRefusal, unlessRefused}
+use Rattle.model.specs.Card.{byte, lengthOf, rowCountOf, rowOf, storedCheck, computedCheck, codeOf}
+use Rattle.model.specs.Card.{withinLimits, rowTooWide, unusedRowSet, dependent}
+use Rattle.model.specs.Order.{lastPosition}
+use Rattle.model.specs.Answers.{summaryOf, cardAnswer, writeAnswer, lentAfterWrite, readAnswer, startAnswer}
+use Rattle.model.specs.declared.CardAnswer.{CardAnswer}
+use Rattle.model.specs.declared.CardAnswer.the-variants.{Sound, Refused as CardRefused}
+use Rattle.model.specs.declared.NumberAnswer.{NumberAnswer}
+use Rattle.model.specs.declared.NumberAnswer.the-variants.{Number, Refused as NumberRefused}
+use Rattle.model.specs.declared.MillimetresAnswer.{MillimetresAnswer}
+use Rattle.model.specs.declared.MillimetresAnswer.the-variants.{Millimetres, Refused as MillimetresRefused}
+
+-- ---- old cards
+
+-- bytes 100 to 103 are zero, as document 01 alone asks of every card
+unfoldable pub OldCard : List ℕ → Type 0
+OldCard b = (i : ℕ) → i < 4 → byte b (100 + i) ≡ 0
+
+-- document 01's refusal 4: a bit at n or above in a row, or an unused row or byte 100 to 509 not zero
+unfoldable pub oldMisplaced : List ℕ → Bool
+oldMisplaced b =
+    rowTooWide (lengthOf b) (rowOf b) || unusedRowSet (rowCountOf b) (rowOf b)
+    || anyBelow (λ i. not (eqb (byte b (100 + i)) 0)) 410
+
+-- document 01's refusals of a card, 1 to 5
+unfoldable pub oldRefusal : List ℕ → ℕ
+oldRefusal b =
+    firstRefusal
+    (refuses 1 (not (eqb (length b) 512))
+    ∷ refuses 2 (not (eqb (storedCheck b) (computedCheck b)))
+    ∷ refuses 3 (not (withinLimits (lengthOf b) (rowCountOf b)))
+    ∷ refuses 4 (oldMisplaced b)
+    ∷ refuses 5 (dependent (rowCountOf b) (rowOf b))
+    ∷ [])
+
+-- document 01's answer to a check of a card
+unfoldable pub oldCardAnswer : List ℕ → CardAnswer
+oldCardAnswer b = unlessRefused (oldRefusal b) CardRefused (Sound (summaryOf b))
+
+-- document 01's distance of a position from the buffer face: 50 mm × position
+unfoldable pub oldDistance : (card : List ℕ) (position : ℕ) → NumberAnswer
+oldDistance card position =
+    unlessRefused
+    (firstRefusal (refusedAs (oldRefusal card) ∷ refuses 7 (ltb (lastPosition (codeOf card)) position) ∷ []))
+    NumberRefused (Number (50 * position))
+
+-- that answer with its number as a signed one
+unfoldable pub asSigned : NumberAnswer → MillimetresAnswer
+asSigned (Number distance) = Millimetres (pos distance)
+asSigned (NumberRefused refusal) = MillimetresRefused refusal
+
+-- the answer to a check of a card, where it is an old one, is document 01's
+unfoldable pub CheckedAsBefore : (card : List ℕ) → CardAnswer → Type 0
+CheckedAsBefore card answer = OldCard card → answer ≡ oldCardAnswer card
+
+-- the answer to a call for a distance, where the card is an old one, is document 01's
+unfoldable pub DistanceAsBefore : (card : List ℕ) (position : ℕ) → MillimetresAnswer → Type 0
+DistanceAsBefore card position answer = OldCard card → answer ≡ asSigned (oldDistance card position)
+
+-- ---- two cards with different offsets
+
+-- the bytes 0 to 99, n, k, track and rows, are the same
+unfoldable pub SameFields : (b b′ : List ℕ) → Type 0
+SameFields b b′ = (i : ℕ) → i < 100 → byte b i ≡ byte b′ i
+
+-- all but the distances is the same
+pub record AnsweredAlike (b b′ : List ℕ) : Type 0 where
+  -- the code: its least distance, the word of each position, the start of each block and what each word reads as go by it
+  pub code : codeOf b ≡ codeOf b′
+  -- and each call's answer, for every position, lent word, received word and block
+  pub checked : cardAnswer b ≡ cardAnswer b′
+  pub written : (position : ℕ) (lent : List ℕ) → writeAnswer b position lent ≡ writeAnswer b′ position lent
+  pub left : (position : ℕ) (lent : List ℕ) → lentAfterWrite b position lent ≡ lentAfterWrite b′ position lent
+  pub read : (received : List ℕ) → readAnswer b received ≡ readAnswer b′ received
+  pub started : (block : ℕ) → startAnswer b block ≡ startAnswer b′ block

@@ -1,0 +1,87 @@
+-- What the call that asks for a distance answers, one law for each way out of the code, from what decoding the card gave; the status and
+-- the values are those of the answer that the definition gives, and of an old card it is the answer that it had. And the signed sum: an
+-- offset of at most 20,000 and 50 mm for each step of the longest track fit 32 bits. Assumes nothing.
+use mathlib.Core.Path.{_≡_, refl, sym, _∙_}
+use mathlib.Core.List.{List, [], _∷_}
+use Prim.Native.Nat.{ℕ, suc, _+_, _≤_, _<_}
+use native.Mathlib.Omega.{arith}
+use borrow.Author.Tests.{eq-eqb, lt-ltb, le-ltb}
+use lib.Dec.{ltb}
+use lib.IntN.{ℤ, pos, negsuc, _+ℤ_}
+use lib.Signed.{mag}
+use mir.Syntax.{w32}
+use mir.Val.{SFits}
+use Rattle.bits.proofs.Numbers.{by-test}
+use Rattle.model.specs.Refusals.{firstRefusal, unlessRefused}
+use Rattle.model.specs.Card.{cardRefusal, codeOf, offsetOf, SoundCard}
+use Rattle.model.specs.Decoded.{meaning}
+use Rattle.model.specs.Order.{lastPosition}
+use Rattle.model.specs.Words.{millimetresOf}
+use Rattle.model.specs.Answers.{millimetresRefusal, millimetresAnswer}
+use Rattle.model.specs.Statuses.{ifServed, millimetresStatus, millimetresValues}
+use Rattle.model.specs.declared.Decoded.{Decoded}
+use Rattle.model.specs.declared.MillimetresAnswer.{MillimetresAnswer}
+use Rattle.model.specs.declared.MillimetresAnswer.the-variants.{Millimetres, Refused}
+use Rattle.code_theory.specs.Offsets.{DistanceAsBefore}
+use Rattle.code_theory.proofs.Offsets.{distance-as-before}
+use Rattle.code_theory.proofs.Refusals.{refused-by-card}
+use Rattle.code_theory.proofs.SoundCard.{card-tests, offset-of-test}
+use Rattle.linear_code.specs.DecodedFrom.{DecodedFrom}
+use Rattle.depot.proofs.Statuses.{millimetres-told}
+
+-- ---- the signed sum
+
+-- a sum is no greater in magnitude than its parts together
+magnitude-of-sum : (z : ℤ) (x : ℕ) → mag (z +ℤ pos x) ≤ mag z + x
+magnitude-of-sum (pos y) x = omega arith
+magnitude-of-sum (negsuc y) x =
+    by-test (λ (sum : ℤ). mag sum ≤ y + x) (ltb x (suc y)) (λ below. omega arith) (λ above. omega arith)
+
+pub sum-fits : (z : ℤ) (x : ℕ) → mag z ≤ 20000 → x ≤ 65520000 → SFits w32 (z +ℤ pos x)
+sum-fits z x h k = record { sfits = omega (arith, magnitude-of-sum z x) }
+
+-- ---- the answers
+
+-- what the contract says of the answer
+abbrev MillimetresMeets : (card : List ℕ) (position : ℕ) → MillimetresAnswer → Type 0
+MillimetresMeets card position answer =
+    let distance : ℤ = millimetresOf (offsetOf card) position in
+    (answer ≡ millimetresAnswer card position)
+    × ((millimetresStatus answer ≡ millimetresRefusal card position)
+    × ((millimetresValues answer ≡ ifServed (millimetresStatus answer) (distance ∷ [])) × DistanceAsBefore card position answer))
+
+millimetres-meets : (card : List ℕ) (position : ℕ) (answer : MillimetresAnswer) → answer ≡ millimetresAnswer card position
+    → MillimetresMeets card position answer
+millimetres-meets card position answer e =
+    let (status, values) = millimetres-told card position in
+    rw e (refl, (status, (values, distance-as-before card position)))
+
+module _ (card : List ℕ) (decoded : Decoded) (from : DecodedFrom card decoded) where
+  -- a card that is refused
+  pub millimetres-refused : (decoded .refusal ≡ 0 → ⊥) → (position : ℕ) → MillimetresMeets card position (Refused (decoded .refusal))
+  unfolding millimetresAnswer millimetresRefusal
+  millimetres-refused refused position =
+      millimetres-meets card position (Refused (decoded .refusal))
+      (rw (← (from .refusal)) (sym (refused-by-card (decoded .refusal) _ _ _ refused)))
+
+  -- a sound card
+  module _ (sound : decoded .refusal ≡ 0) where
+    is-sound : SoundCard card
+    is-sound = sym (from .refusal) ∙ sound
+
+    pub offset-within : mag (decoded .offset) ≤ 20000
+    offset-within = rw (from .offset sound) (offset-of-test (offsetOf card) (card-tests card is-sound .offset-within))
+
+    module _ (last position : ℕ) (is : last ≡ lastPosition (meaning (decoded .code))) where
+      pub millimetres-above : last < position → MillimetresMeets card position (Refused 7)
+      unfolding millimetresAnswer millimetresRefusal firstRefusal unlessRefused
+      millimetres-above h =
+          millimetres-meets card position (Refused 7)
+          (rw (eq-eqb (cardRefusal card) 0 is-sound, ← (from .code sound), ← is, lt-ltb last position h))
+
+      pub millimetres-within : position ≤ last → (distance : ℤ) → distance ≡ millimetresOf (decoded .offset) position
+          → MillimetresMeets card position (Millimetres distance)
+      unfolding millimetresAnswer millimetresRefusal firstRefusal unlessRefused
+      millimetres-within h distance summed =
+          millimetres-meets card position (Millimetres distance)
+          (rw (eq-eqb (cardRefusal card) 0 is-sound, ← (from .code sound), ← is, le-ltb last position h, ← (from .offset sound), ← summed))
