@@ -8,7 +8,7 @@ use super::say;
 const ALL_CALLS: u64 = 0x4_00_00000200;
 
 // A card a line, in hexadecimal: n, k, rows 0 and 1, and one more byte, its place and its value.
-const REFUSED: [u64; 22] = [
+const REFUSED: [u64; 26] = [
     // refusal 3: n 0, 65 and 255
     0x00_01_01_00_0014_00,
     0x41_01_01_00_0014_00,
@@ -27,17 +27,22 @@ const REFUSED: [u64; 22] = [
     0x03_01_07_01_0014_00,
     0x03_01_07_00_0063_01,
     // the first and the last unused byte not zero
-    0x03_01_07_00_0064_01,
+    0x03_01_07_00_0068_01,
     0x03_01_07_00_01fd_01,
+    // refusal 14: an offset of 16,777,216 mm
+    0x03_01_07_00_0064_01,
     // refusal 5: two rows alike, a row that is zero, three rows that sum to zero
     0x03_02_03_03_0014_00,
     0x03_01_00_00_0014_00,
     0x03_03_03_05_001b_06,
-    // two faults at once: 3 before 4, and 4 before 5
+    // two faults at once: 3 before 4, 4 before 5, and 14 after 3 and 4 and before 5
     0x41_01_01_00_01fd_01,
     0x01_02_02_01_0014_00,
     0x03_02_08_08_0014_00,
     0x03_01_00_00_01fd_01,
+    0x41_01_01_00_0064_01,
+    0x03_01_08_00_0064_01,
+    0x03_02_03_03_0064_01,
 ];
 
 // Byte j of a line, the last being 0.
@@ -79,7 +84,7 @@ fn describe(line: u64) {
 // The cards of the table.
 pub fn refused() {
     let mut i: usize = 0;
-    while i < 22 {
+    while i < 26 {
         line(REFUSED[i]);
         i += 1;
     }

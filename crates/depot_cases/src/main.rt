@@ -1,6 +1,6 @@
-// Tries the five public calls that take a card on the cases of document 01, on bad input of every kind, each refusal from 1 to 12 and
-// two faults at once for their order, and on the ends of every range. The file stdout is written by hand, a line a case, from
-// document 01's cards, table and rules; it is never taken from what the program writes.
+// Tries the five public calls that take a card on the cases of document 01, on bad input of every kind, each refusal from 1 to 12 and 14
+// and two faults at once for their order, and on the ends of every range, document 02's offsets among them. The file stdout is
+// written by hand, a line a case, from the documents' cards, tables and rules; it is never taken from what the program writes.
 mod bad_cards;
 mod calls;
 mod cards;
@@ -272,9 +272,101 @@ const SIZES: [u64; 82] = [
     0x9_04_01300006,
 ];
 
+// Document 02's offsets: their ends, and past them.
+const OFFSETS: [u64; 82] = [
+    // card B at the least offset, ff ff b1 e0
+    0x0_00_00000011,
+    0x1_00_00000000,
+    0x2_00_00000003,
+    0x2_00_00000101,
+    0x2_00_0000030e,
+    0x2_00_00000b07,
+    0x2_00_000064ff,
+    0x2_00_000065ff,
+    0x2_00_000066b1,
+    0x2_00_000067e0,
+    0x3_00_00000000,
+    0x5_00_00000000,
+    0x7_00_00000000,
+    0x7_00_00000001,
+    0x7_00_0000000f,
+    0x7_00_00000010,
+    // position 10 stands at the face, 9 before it and 11 behind it
+    0x0_00_00000012,
+    0x1_00_00000000,
+    0x2_00_00000003,
+    0x2_00_00000101,
+    0x2_00_0000030e,
+    0x2_00_00000b07,
+    0x2_00_000064ff,
+    0x2_00_000065ff,
+    0x2_00_000066fe,
+    0x2_00_0000670c,
+    0x3_00_00000000,
+    0x7_00_00000009,
+    0x7_00_0000000a,
+    0x7_00_0000000b,
+    // ff ff ff ff
+    0x0_00_00000013,
+    0x1_00_00000000,
+    0x2_00_00000003,
+    0x2_00_00000101,
+    0x2_00_0000030e,
+    0x2_00_00000b07,
+    0x2_00_000064ff,
+    0x2_00_000065ff,
+    0x2_00_000066ff,
+    0x2_00_000067ff,
+    0x3_00_00000000,
+    0x7_00_00000000,
+    0x7_00_0000000f,
+    // the greatest, 00 00 4e 20; words are those of card B
+    0x0_00_00000014,
+    0x1_00_00000000,
+    0x2_00_00000003,
+    0x2_00_00000101,
+    0x2_00_0000030e,
+    0x2_00_00000b07,
+    0x2_00_00006400,
+    0x2_00_00006500,
+    0x2_00_0000664e,
+    0x2_00_00006720,
+    0x3_00_00000000,
+    0x7_00_00000000,
+    0x7_00_0000000f,
+    0x8_02_00000007,
+    0x9_02_5f000000,
+    // refusal 14, by every call: one past either end
+    0x0_00_00000015,
+    0x1_00_00000000,
+    0x2_00_00000003,
+    0x2_00_00000101,
+    0x2_00_0000030e,
+    0x2_00_00000b07,
+    0x2_00_000064ff,
+    0x2_00_000065ff,
+    0x2_00_000066b1,
+    0x2_00_000067df,
+    0x3_00_00000000,
+    0x4_00_00000200,
+    0x0_00_00000016,
+    0x1_00_00000000,
+    0x2_00_00000003,
+    0x2_00_00000101,
+    0x2_00_0000030e,
+    0x2_00_00000b07,
+    0x2_00_00006400,
+    0x2_00_00006500,
+    0x2_00_0000664e,
+    0x2_00_00006721,
+    0x3_00_00000000,
+    0x4_00_00000200,
+];
+
 fn main() {
     calls::run(&OF_DOCUMENT_01);
     calls::run(&WRONG_CHECK);
     bad_cards::refused();
     calls::run(&SIZES);
+    calls::run(&OFFSETS);
 }

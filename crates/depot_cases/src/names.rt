@@ -20,7 +20,13 @@ n 0 and no check\n\
 n 1\n\
 n 5\n\
 n 64\n\
-k 12\n",
+k 12\n\
+card B at -20,000 mm\n\
+card B at -500 mm\n\
+card B at -1 mm\n\
+card B at 20,000 mm\n\
+card B at -20,001 mm\n\
+card B at 20,001 mm\n",
         line,
     );
 }

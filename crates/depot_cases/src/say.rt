@@ -1,6 +1,7 @@
 // What a call answers, written out. Bytes are written in hexadecimal.
 use libc::STDOUT_FILENO;
 use model::CardAnswer;
+use model::MillimetresAnswer;
 use model::NumberAnswer;
 use model::ReadAnswer;
 use model::WriteAnswer;
@@ -11,6 +12,16 @@ pub fn say(text: &[u8]) {
 
 fn say_plain(n: u32) {
     io::print_decimal(STDOUT_FILENO, n as u64);
+}
+
+// A number below zero is written as the number that is one more than what it is short of -1, so that none is too far below.
+fn say_signed(n: i32) {
+    if 0 <= n {
+        say_plain(n as u32);
+        return;
+    }
+    say(b"-");
+    say_plain((-1 - n) as u32 + 1);
 }
 
 // A text, and a number after it.
@@ -94,7 +105,7 @@ pub fn read(card: &[u8], word: &[u8]) {
     }
 }
 
-fn number(answer: NumberAnswer) {
+fn start(answer: NumberAnswer) {
     match answer {
         NumberAnswer::Number(n) => {
             say_number(b" ", n);
@@ -105,10 +116,22 @@ fn number(answer: NumberAnswer) {
     }
 }
 
+fn distance(answer: MillimetresAnswer) {
+    match answer {
+        MillimetresAnswer::Millimetres(n) => {
+            say(b" ");
+            say_signed(n);
+        }
+        MillimetresAnswer::Refused(refusal) => {
+            say_refusal(refusal);
+        }
+    }
+}
+
 // A number as a block, whose start is asked for, and as a position, whose distance is.
 pub fn numbers(card: &[u8], n: u32) {
     say(b" start");
-    number(depot::block_start(card, n));
+    start(depot::block_start(card, n));
     say(b"; millimetres");
-    number(depot::millimetres(card, n));
+    distance(depot::millimetres(card, n));
 }

@@ -5,10 +5,10 @@ use Rattle.depot_cases.proofs.bad_cards.refused.Statement.{statement}
 use Rattle.depot_cases.proofs.bad_cards.refused.Tie as tie
 
 abbrev Inv-loop : tie.InvT-loop
-Inv-loop i₀ i = i ≤ 22
+Inv-loop i₀ i = i ≤ 26
 
 abbrev μ-loop : tie.MeasureT-loop
-μ-loop i₀ i = 22 - i
+μ-loop i₀ i = 26 - i
 
 pub refused-spec : {M : Type 1} → statement M
 refused-spec =
