@@ -1,4 +1,4 @@
-//! The card: its 512 bytes decoded, with refusals 1 to 5, and made.
+//! The card: its 512 bytes decoded, with refusals 1 to 5 and 14, and made.
 use crate::code::Code;
 use crate::Refusal;
 
@@ -7,10 +7,12 @@ use crate::Refusal;
 pub struct Card {
     pub track: u32,
     pub code: Code,
+    /// Position 0's distance from the buffer face in millimetres, from -20,000 to 20,000: request P2.
+    pub offset: i32,
 }
 
 impl Card {
-    /// Decodes a card and checks it, in the order of document 01's table.
+    /// Decodes a card and checks it, in the order of document 01's table, with request P2's 14 between 4 and 5.
     pub fn checked(bytes: &[u8]) -> Result<Card, Refusal> {
         if bytes.len() != 512 {
             return Err(1);
@@ -26,12 +28,16 @@ impl Card {
         let (used, unused) = rows.split_at(k);
         if used.iter().any(|&row| reaches(row, n))
             || unused.iter().any(|&row| row != 0)
-            || bytes[100..510].iter().any(|&b| b != 0)
+            || bytes[104..510].iter().any(|&b| b != 0)
         {
             return Err(4);
         }
+        let offset = signed_number(&bytes[100..104]);
+        if !(-20_000..=20_000).contains(&offset) {
+            return Err(14);
+        }
         let code = Code::of_rows(n, used).ok_or(5u32)?;
-        Ok(Card { track: number(&bytes[2..4]) as u32, code })
+        Ok(Card { track: number(&bytes[2..4]) as u32, code, offset: offset as i32 })
     }
 
     /// The card's 512 bytes.
@@ -43,6 +49,7 @@ impl Card {
         for (place, &row) in bytes[4..100].chunks_mut(8).zip(&self.code.rows) {
             put(place, row);
         }
+        put_signed(&mut bytes[100..104], self.offset.into());
         let check = check_of(&bytes[..510]);
         put(&mut bytes[510..], check);
         bytes
@@ -59,6 +66,22 @@ fn put(bytes: &mut [u8], number: u64) {
     for (place, byte) in bytes.iter_mut().rev().enumerate() {
         *byte = (number >> (8 * place)) as u8;
     }
+}
+
+/// Four bytes as a number in two's complement, high byte first: what they hold, less 2^32 where that is 2^31 or more.
+fn signed_number(bytes: &[u8]) -> i64 {
+    let held = number(bytes) as i64;
+    if held < 1 << 31 {
+        held
+    } else {
+        held - (1 << 32)
+    }
+}
+
+/// Puts a number into four bytes in two's complement, high byte first: one below 0 is held as itself plus 2^32.
+fn put_signed(bytes: &mut [u8], number: i64) {
+    let held = if number < 0 { number + (1 << 32) } else { number };
+    put(bytes, held as u64);
 }
 
 /// The check of a card's first 510 bytes: the sum of (place + 1) × byte, modulo 65,521.

@@ -1,5 +1,5 @@
 //! A second reader of robust Gray position words: cards, words, positions and readings, written from the words of document 01 and
-//! of request P1 by plain search, to be compared with the library.
+//! of requests P1 and P2 by plain search, to be compared with the library.
 //!
 //! Words are single bits, made by walking from position 0 and turning one bit a step; block starts add up the places in which one
 //! whole word and the next differ; the least distance is found by summing every set of rows, a chunk's codeword by trying all, and
@@ -29,7 +29,7 @@ pub use track::Facts;
 use track::Track;
 use walk::Walk;
 
-/// Why a call is turned down: the number in document 01's table, or request P1's 13.
+/// Why a call is turned down: the number in document 01's table, request P1's 13 or request P2's 14.
 pub type Refusal = u32;
 
 /// Checks a card.
@@ -60,15 +60,16 @@ pub fn block_start(card: &[u8], block: u32) -> Result<u32, Refusal> {
     Track::of_card(card)?.starts.get(block as usize).copied().ok_or(7)
 }
 
-/// A position's distance from the buffer face in millimetres.
-pub fn millimetres(card: &[u8], position: u32) -> Result<u32, Refusal> {
-    Track::of_card(card)?.holds(position)?;
-    Ok(50 * position)
+/// A position's distance from the buffer face in millimetres, offset + 50 × position, which may be negative.
+pub fn millimetres(card: &[u8], position: u32) -> Result<i32, Refusal> {
+    let track = Track::of_card(card)?;
+    track.holds(position)?;
+    Ok(track.card.offset + 50 * position as i32)
 }
 
-/// The 512 bytes of the card of a Reed-Muller code.
+/// The 512 bytes of the card of a Reed-Muller code, with offset 0.
 pub fn make_card(track: u16, r: u32, m: u32) -> Result<[u8; 512], Refusal> {
-    Ok(Card { track: track.into(), code: ReedMuller::of_order(r, m)?.code }.bytes())
+    Ok(Card { track: track.into(), code: ReedMuller::of_order(r, m)?.code, offset: 0 }.bytes())
 }
 
 /// What a chunk of a Reed-Muller code reads as.
