@@ -50,6 +50,12 @@ any-some f zero i l t = absurd (omega arith)
 any-some f (suc m) i l t =
     ⊎-elim (λ e. or-true-right (anyBelow f m) (f m) (rw e at t)) (λ k. rw (any-some f m i k t)) (last-or-below l)
 
+-- tests that agree
+pub any-ext : (f g : ℕ → Bool) (m : ℕ) → ((i : ℕ) → i < m → f i ≡ g i) → anyBelow f m ≡ anyBelow g m
+unfolding anyBelow
+any-ext f g zero h = refl
+any-ext f g (suc m) h = rw (any-ext f g m (λ i l. h i (le-step l)), h m (lt-suc-self m))
+
 -- among the first a numbers, or among the m after them
 pub any-split : (f : ℕ → Bool) (a m : ℕ) → anyBelow f (a + m) ≡ (anyBelow f a || anyBelow (λ i. f (a + i)) m)
 unfolding anyBelow

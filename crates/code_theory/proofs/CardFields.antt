@@ -79,10 +79,15 @@ length-padded l a spare e = rw (length-append, e, length-replicate)
 padded-zero : (l : List ℕ) (a spare i : ℕ) → length l ≡ a → byte (l ++ replicate spare 0) (a + i) ≡ 0
 padded-zero l a spare i e = rw (← e) (getD-append-add l (replicate spare 0) i 0 ∙ zero-byte spare i)
 
--- where the 100 bytes of the fields have zeros behind them, no unused byte is set
-pub unused-padded : (l : List ℕ) (spare : ℕ) → length l ≡ 100 → unusedByteSet (l ++ replicate spare 0) ≡ false
+-- where bytes 100 to 509 are zero, no unused byte is set
+none-unused : (b : List ℕ) → ((i : ℕ) → i < 410 → byte b (100 + i) ≡ 0) → unusedByteSet b ≡ false
 unfolding unusedByteSet
-unused-padded l spare e = any-none _ 406 (λ i h. let here : 104 + i ≡ 100 + (4 + i) = omega arith in rw (here, padded-zero l 100 spare (4 + i) e))
+none-unused b zeros =
+    any-none _ 406 (λ i l. let here : 104 + i ≡ 100 + (4 + i) = omega arith in rw (here, zeros (4 + i) (omega arith)))
+
+-- so it is where the 100 bytes of the fields have zeros behind them
+pub unused-padded : (l : List ℕ) (spare : ℕ) → length l ≡ 100 → unusedByteSet (l ++ replicate spare 0) ≡ false
+unused-padded l spare e = none-unused (l ++ replicate spare 0) (λ i h. padded-zero l 100 spare i e)
 
 -- what stands behind the 510 bytes is no part of their check
 pub check-of-front : (body after : List ℕ) → length body ≡ 510 → computedCheck (body ++ after) ≡ computedCheck body
@@ -143,8 +148,7 @@ module _ (n k track : ℕ) (row : ℕ → ℕ) where
       (byte-sealed _ length-body (100 + i) (omega arith) ∙ padded-zero fields 100 410 i (length-fields n k track row 12))
 
   pub unused-of-written : unusedByteSet (cardOf n k track row) ≡ false
-  unfolding unusedByteSet
-  unused-of-written = any-none _ 406 (λ i l. let here : 104 + i ≡ 100 + (4 + i) = omega arith in rw (here, zero-past-rows (4 + i) (omega arith)))
+  unused-of-written = none-unused (cardOf n k track row) zero-past-rows
 
   pub offset-of-written : offsetOf (cardOf n k track row) ≡ pos 0
   unfolding OldCard

@@ -1,11 +1,11 @@
 -- What the offset leaves as it was. Zero bytes are the offset 0, which is within its range and adds nothing; and the tests for unused
--- bytes from 100 on and from 104 on agree where the four between are zero. A card's code, and so all but its distances, goes by its
--- first 100 bytes. Assumes nothing.
+-- bytes from 100 on and from 104 on agree where the four between are zero. A card's code goes by its first 100 bytes, and but for the
+-- check and 14 so do its refusals and the unused bytes. Assumes nothing.
 use mathlib.Core.Path.{_≡_, refl, fun-ext}
-use mathlib.Core.Bool.{Bool, false, not, _||_}
+use mathlib.Core.Bool.{Bool, false, not}
 use mathlib.Core.List.{List}
 use mathlib.Core.Logic.{⊎-elim}
-use Prim.Native.Nat.{ℕ, zero, suc, _+_, _*_, _≤_, _<_}
+use Prim.Native.Nat.{ℕ, zero, suc, _+_, _*_, _≤_}
 use native.Mathlib.Nat.{zero-add}
 use native.Mathlib.Omega.{arith}
 use borrow.Author.Tests.{eq-eqb, ne-eqb, lt-ltb, le-ltb}
@@ -13,17 +13,17 @@ use lib.Dec.{eqb}
 use lib.IntN.{pos}
 use Rattle.bits.specs.Searches.{anyBelow}
 use Rattle.bits.proofs.Numbers.{lt-or-le, eq-or-ne}
-use Rattle.bits.proofs.Searches.{any-none, any-split}
+use Rattle.bits.proofs.Searches.{any-none, any-split, any-ext}
 use Rattle.model.specs.Refusals.{firstRefusal, unlessRefused}
-use Rattle.model.specs.Card.{byte, highFirst, trackOf, rowOf, twosComplement, offsetOf, unusedByteSet, misplaced, offsetOutside}
-use Rattle.model.specs.Card.{cardRefusal, codeOf}
+use Rattle.model.specs.Card.{byte, highFirst, lengthOf, rowCountOf, trackOf, rowOf, twosComplement, offsetOf, unusedByteSet}
+use Rattle.model.specs.Card.{misplaced, offsetOutside, cardRefusal, codeOf}
 use Rattle.model.specs.Words.{millimetresOf}
 use Rattle.model.specs.Answers.{summaryOf, cardAnswer, writeRefusal, writeAnswer, lentAfterWrite, readRefusal, readAnswer}
 use Rattle.model.specs.Answers.{startRefusal, startAnswer, millimetresRefusal, millimetresAnswer}
 use Rattle.model.specs.declared.NumberAnswer.the-variants.{Number, Refused as NumberRefused}
 use Rattle.model.specs.declared.MillimetresAnswer.the-variants.{Millimetres, Refused as MillimetresRefused}
-use Rattle.code_theory.specs.Offsets.{OldCard, oldMisplaced, oldRefusal, oldCardAnswer, oldDistance, asSigned}
-use Rattle.code_theory.specs.Offsets.{CheckedAsBefore, DistanceAsBefore, SameFields, AnsweredAlike}
+use Rattle.code_theory.specs.Offsets.{OldCard, oldMisplaced, oldCardRefusal, oldCardAnswer, oldMillimetresAnswer, asSigned}
+use Rattle.code_theory.specs.Offsets.{CheckedAsBefore, DistanceAsBefore, SameButOffset, AnsweredAlike}
 
 -- ---- old cards
 
@@ -39,8 +39,8 @@ old-misplaced b old =
     let place : (i : ℕ) → 100 + (4 + i) ≡ 104 + i = λ i. omega arith in
     rw (any-split set 4 406, none) (simp place)
 
-pub old-refusal : (b : List ℕ) → OldCard b → cardRefusal b ≡ oldRefusal b
-unfolding cardRefusal oldRefusal firstRefusal offsetOutside
+pub old-refusal : (b : List ℕ) → OldCard b → cardRefusal b ≡ oldCardRefusal b
+unfolding cardRefusal oldCardRefusal firstRefusal offsetOutside
 old-refusal b old = rw (old-misplaced b old, old-offset b old)
 
 pub checked-as-before : (card : List ℕ) → CheckedAsBefore card (cardAnswer card)
@@ -55,17 +55,17 @@ signed-unless-refused refusal distance =
     ⊎-elim (λ e. rw (eq-eqb refusal 0 e)) (λ ne. rw (ne-eqb refusal 0 ne)) (eq-or-ne refusal 0)
 
 pub distance-as-before : (card : List ℕ) (position : ℕ) → DistanceAsBefore card position (millimetresAnswer card position)
-unfolding DistanceAsBefore millimetresAnswer millimetresRefusal millimetresOf oldDistance
+unfolding DistanceAsBefore millimetresAnswer millimetresRefusal millimetresOf oldMillimetresAnswer
 distance-as-before card position old =
     rw (old-refusal card old, old-offset card old, zero-add (50 * position)) (signed-unless-refused _ (50 * position))
 
 -- ---- two cards with different offsets
 
-module _ (b b′ : List ℕ) (same : SameFields b b′) where
+module _ (b b′ : List ℕ) (same : SameButOffset b b′) where
   same-number : (i m : ℕ) → i + m ≤ 100 → highFirst b i m ≡ highFirst b′ i m
-  unfolding SameFields highFirst
+  unfolding highFirst
   same-number i zero h = refl
-  same-number i (suc m) h = rw (same-number i m (omega arith), same (i + m) (omega arith))
+  same-number i (suc m) h = rw (same-number i m (omega arith), same .fields (i + m) (omega arith))
 
   same-rows : rowOf b ≡ rowOf b′
   unfolding rowOf
@@ -73,19 +73,47 @@ module _ (b b′ : List ℕ) (same : SameFields b b′) where
       fun-ext
       (λ z. ⊎-elim (λ l. rw (lt-ltb z 12 l, same-number (4 + 8 * z) 8 (omega arith))) (λ h. rw (le-ltb z 12 h)) (lt-or-le z 12))
 
-  same-code : codeOf b ≡ codeOf b′
-  unfolding SameFields codeOf
-  same-code = rw (same 0 (omega arith), same 1 (omega arith), same-rows)
+  same-n : lengthOf b ≡ lengthOf b′
+  same-n = same .fields 0 (omega arith)
 
-  -- where the two are refused alike, as where both are sound
-  pub alike-but-distances : cardRefusal b ≡ cardRefusal b′ → AnsweredAlike b b′
+  same-k : rowCountOf b ≡ rowCountOf b′
+  same-k = same .fields 1 (omega arith)
+
+  same-code : codeOf b ≡ codeOf b′
+  unfolding codeOf
+  same-code = rw (same-n, same-k, same-rows)
+
+  same-misplaced : misplaced b ≡ misplaced b′
+  unfolding misplaced unusedByteSet
+  same-misplaced =
+      let bytes : anyBelow (λ i. not (eqb (byte b (104 + i)) 0)) 406 ≡ anyBelow (λ i. not (eqb (byte b′ (104 + i)) 0)) 406 =
+      any-ext _ _ 406 (λ i l. rw (same .unused i l)) in
+      rw (same-n, same-k, same-rows, bytes)
+
+  same-refusal : cardRefusal b ≡ cardRefusal b′
+  unfolding cardRefusal firstRefusal
+  same-refusal =
+      rw (
+        same .size,
+        eq-eqb _ _ (same .check),
+        eq-eqb _ _ (same .check′),
+        same-n,
+        same-k,
+        same-rows,
+        same-misplaced,
+        same .within,
+        same .within′,
+      )
+
+  pub alike-but-distances : AnsweredAlike b b′
   unfolding cardAnswer summaryOf trackOf writeRefusal writeAnswer lentAfterWrite readRefusal readAnswer startRefusal startAnswer
-  alike-but-distances alike =
+  alike-but-distances =
       record {
+        refused = same-refusal;
         code = same-code;
-        checked = rw (alike, same-code, same-number 2 2 (omega arith));
-        written = λ position lent. rw (alike, same-code);
-        left = λ position lent. rw (alike, same-code);
-        read = λ received. rw (alike, same-code);
-        started = λ block. rw (alike, same-code);
+        checked = rw (same-refusal, same-code, same-number 2 2 (omega arith));
+        written = λ position lent. rw (same-refusal, same-code);
+        left = λ position lent. rw (same-refusal, same-code);
+        read = λ received. rw (same-refusal, same-code);
+        started = λ block. rw (same-refusal, same-code);
       }

@@ -71,7 +71,7 @@ test-of-unused k row unused =
     any-none (λ z. leb k z && not (eqb (row z) 0)) 12
     (λ z l. ⊎-elim (λ h. rw (lt-leb k z h)) (λ h. rw (le-leb k z h, unused z h l)) (lt-or-le z k))
 
--- an offset that is not outside its range is at most 20,000 in magnitude
+-- an offset that is not outside its range is at most 20,000 in magnitude (`mag` is x of x and also of -(x + 1))
 pub offset-of-test : (offset : ℤ) → offsetOutside offset ≡ false → mag offset ≤ 20000
 unfolding offsetOutside
 offset-of-test (pos x) e = ltb-false 20000 x e

@@ -1,8 +1,8 @@
 -- Document 02, P2, "The strip doesn't begin at the buffer face": what the offset leaves as it was. An old card, one whose bytes 100 to
--- 103 are zero, is refused or sound, and gives distances, as document 01 alone has it; and two cards that differ in their offsets are
--- answered alike in all but the distances. Assumes nothing.
+-- 103 are zero, is refused or sound, and gives distances, as document 01 alone has it; and two cards that differ in their offsets
+-- alone, both within the range, are answered alike in all but the distances. Assumes nothing.
 use mathlib.Core.Path.{_≡_}
-use mathlib.Core.Bool.{Bool, not, _||_}
+use mathlib.Core.Bool.{Bool, false, not, _||_}
 use mathlib.Core.List.{List, [], _∷_}
 use Prim.Native.Nat.{ℕ, _+_, _*_, _<_}
 use lib.Dec.{ltb, eqb}
@@ -10,8 +10,8 @@ use lib.IntN.{pos}
 use lib.ListN.{length}
 use Rattle.bits.specs.Searches.{anyBelow}
 use Rattle.model.specs.Refusals.{refuses, refusedAs, firstRefusal, unlessRefused}
-use Rattle.model.specs.Card.{byte, lengthOf, rowCountOf, rowOf, storedCheck, computedCheck, codeOf}
-use Rattle.model.specs.Card.{withinLimits, rowTooWide, unusedRowSet, dependent}
+use Rattle.model.specs.Card.{byte, lengthOf, rowCountOf, rowOf, offsetOf, storedCheck, computedCheck, codeOf}
+use Rattle.model.specs.Card.{withinLimits, rowTooWide, unusedRowSet, offsetOutside, dependent, cardRefusal}
 use Rattle.model.specs.Order.{lastPosition}
 use Rattle.model.specs.Answers.{summaryOf, cardAnswer, writeAnswer, lentAfterWrite, readAnswer, startAnswer}
 use Rattle.model.specs.declared.CardAnswer.{CardAnswer}
@@ -34,8 +34,8 @@ oldMisplaced b =
     || anyBelow (λ i. not (eqb (byte b (100 + i)) 0)) 410
 
 -- document 01's refusals of a card, 1 to 5
-unfoldable pub oldRefusal : List ℕ → ℕ
-oldRefusal b =
+unfoldable pub oldCardRefusal : List ℕ → ℕ
+oldCardRefusal b =
     firstRefusal
     (refuses 1 (not (eqb (length b) 512))
     ∷ refuses 2 (not (eqb (storedCheck b) (computedCheck b)))
@@ -46,13 +46,13 @@ oldRefusal b =
 
 -- document 01's answer to a check of a card
 unfoldable pub oldCardAnswer : List ℕ → CardAnswer
-oldCardAnswer b = unlessRefused (oldRefusal b) CardRefused (Sound (summaryOf b))
+oldCardAnswer b = unlessRefused (oldCardRefusal b) CardRefused (Sound (summaryOf b))
 
 -- document 01's distance of a position from the buffer face: 50 mm × position
-unfoldable pub oldDistance : (card : List ℕ) (position : ℕ) → NumberAnswer
-oldDistance card position =
+unfoldable pub oldMillimetresAnswer : (card : List ℕ) (position : ℕ) → NumberAnswer
+oldMillimetresAnswer card position =
     unlessRefused
-    (firstRefusal (refusedAs (oldRefusal card) ∷ refuses 7 (ltb (lastPosition (codeOf card)) position) ∷ []))
+    (firstRefusal (refusedAs (oldCardRefusal card) ∷ refuses 7 (ltb (lastPosition (codeOf card)) position) ∷ []))
     NumberRefused (Number (50 * position))
 
 -- that answer with its number as a signed one
@@ -66,16 +66,25 @@ CheckedAsBefore card answer = OldCard card → answer ≡ oldCardAnswer card
 
 -- the answer to a call for a distance, where the card is an old one, is document 01's
 unfoldable pub DistanceAsBefore : (card : List ℕ) (position : ℕ) → MillimetresAnswer → Type 0
-DistanceAsBefore card position answer = OldCard card → answer ≡ asSigned (oldDistance card position)
+DistanceAsBefore card position answer = OldCard card → answer ≡ asSigned (oldMillimetresAnswer card position)
 
 -- ---- two cards with different offsets
 
--- the bytes 0 to 99, n, k, track and rows, are the same
-unfoldable pub SameFields : (b b′ : List ℕ) → Type 0
-SameFields b b′ = (i : ℕ) → i < 100 → byte b i ≡ byte b′ i
+-- all bytes but those of the offset and of the check are the same, each card carries the check that it should, and each offset is
+-- within its range
+pub record SameButOffset (b b′ : List ℕ) : Type 0 where
+  pub size : length b ≡ length b′
+  pub fields : (i : ℕ) → i < 100 → byte b i ≡ byte b′ i
+  pub unused : (i : ℕ) → i < 406 → byte b (104 + i) ≡ byte b′ (104 + i)
+  pub check : storedCheck b ≡ computedCheck b
+  pub check′ : storedCheck b′ ≡ computedCheck b′
+  pub within : offsetOutside (offsetOf b) ≡ false
+  pub within′ : offsetOutside (offsetOf b′) ≡ false
 
 -- all but the distances is the same
 pub record AnsweredAlike (b b′ : List ℕ) : Type 0 where
+  -- both are sound, or refused by the same number
+  pub refused : cardRefusal b ≡ cardRefusal b′
   -- the code: its least distance, the word of each position, the start of each block and what each word reads as go by it
   pub code : codeOf b ≡ codeOf b′
   -- and each call's answer, for every position, lent word, received word and block

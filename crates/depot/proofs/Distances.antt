@@ -1,7 +1,8 @@
 -- What the call that asks for a distance answers, one law for each way out of the code, from what decoding the card gave; the status and
--- the values are those of the answer that the definition gives, and of an old card it is the answer that it had. And the signed sum: an
--- offset of at most 20,000 and 50 mm for each step of the longest track fit 32 bits. Assumes nothing.
+-- the values are those of the answer that the definition gives, and of an old card it is document 01's. And the signed sum: an offset
+-- within its range and 50 mm for each step of the longest track fit 32 bits. Assumes nothing.
 use mathlib.Core.Path.{_≡_, refl, sym, _∙_}
+use mathlib.Core.Bool.{false}
 use mathlib.Core.List.{List, [], _∷_}
 use Prim.Native.Nat.{ℕ, suc, _+_, _≤_, _<_}
 use native.Mathlib.Omega.{arith}
@@ -13,7 +14,7 @@ use mir.Syntax.{w32}
 use mir.Val.{SFits}
 use Rattle.bits.proofs.Numbers.{by-test}
 use Rattle.model.specs.Refusals.{firstRefusal, unlessRefused}
-use Rattle.model.specs.Card.{cardRefusal, codeOf, offsetOf, SoundCard}
+use Rattle.model.specs.Card.{cardRefusal, offsetOf, offsetOutside, SoundCard}
 use Rattle.model.specs.Decoded.{meaning}
 use Rattle.model.specs.Order.{lastPosition}
 use Rattle.model.specs.Words.{millimetresOf}
@@ -37,8 +38,11 @@ magnitude-of-sum (pos y) x = omega arith
 magnitude-of-sum (negsuc y) x =
     by-test (λ (sum : ℤ). mag sum ≤ y + x) (ltb x (suc y)) (λ below. omega arith) (λ above. omega arith)
 
-pub sum-fits : (z : ℤ) (x : ℕ) → mag z ≤ 20000 → x ≤ 65520000 → SFits w32 (z +ℤ pos x)
-sum-fits z x h k = record { sfits = omega (arith, magnitude-of-sum z x) }
+pub sum-fits : (offset : ℤ) (x : ℕ) → offsetOutside offset ≡ false → x ≤ 65520000 → SFits w32 (offset +ℤ pos x)
+sum-fits offset x within h = record { sfits = omega (arith, magnitude-of-sum offset x, offset-of-test offset within) }
+
+pub offset-fits : (offset : ℤ) → offsetOutside offset ≡ false → SFits w32 offset
+offset-fits offset within = record { sfits = omega (arith, offset-of-test offset within) }
 
 -- ---- the answers
 
@@ -69,8 +73,8 @@ module _ (card : List ℕ) (decoded : Decoded) (from : DecodedFrom card decoded)
     is-sound : SoundCard card
     is-sound = sym (from .refusal) ∙ sound
 
-    pub offset-within : mag (decoded .offset) ≤ 20000
-    offset-within = rw (from .offset sound) (offset-of-test (offsetOf card) (card-tests card is-sound .offset-within))
+    pub offset-within : offsetOutside (decoded .offset) ≡ false
+    offset-within = rw (from .offset sound) (card-tests card is-sound .offset-within)
 
     module _ (last position : ℕ) (is : last ≡ lastPosition (meaning (decoded .code))) where
       pub millimetres-above : last < position → MillimetresMeets card position (Refused 7)

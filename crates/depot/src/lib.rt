@@ -4,11 +4,10 @@
 // its values are those named, or none where it is refused. The call that makes a card answers the card's bytes instead, 512 zeros
 // where it is refused.
 ghost use mathlib.Core.Path.{_≡_};
-ghost use mathlib.Core.Bool.{true};
+ghost use mathlib.Core.Bool.{true, false};
 ghost use mathlib.Core.List.{[], _∷_};
 ghost use Prim.Native.Nat.{_≤_};
-ghost use lib.Signed.{mag};
-ghost use Rattle.model.specs.Card.{cardRefusal, codeOf, offsetOf};
+ghost use Rattle.model.specs.Card.{cardRefusal, codeOf, offsetOf, offsetOutside};
 ghost use Rattle.model.specs.Order.{start};
 ghost use Rattle.model.specs.Words.{millimetresOf};
 ghost use Rattle.model.specs.ReedMuller.{orderWithinLimits};
@@ -124,7 +123,7 @@ pub fn block_start(card: &[u8], block: u32) -> NumberAnswer
 
 // The distance of a position from the buffer face: the offset, and 50 mm for each step. Document 01 names the form: a signed sum.
 fn from_face(offset: i32, position: u32) -> i32
-    requires { ⌜ (mag offset ≤ 20000) × (position ≤ 1310400) ⌝ }
+    requires { ⌜ (offsetOutside offset ≡ false) × (position ≤ 1310400) ⌝ }
     ensures { λ r. ⌜ r ≡ millimetresOf offset position ⌝ }
 {
     offset + (50 * position) as i32

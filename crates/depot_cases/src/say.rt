@@ -14,7 +14,7 @@ fn say_plain(n: u32) {
     io::print_decimal(STDOUT_FILENO, n as u64);
 }
 
-// A number below zero is written as the number that is one more than what it is short of -1, so that none is too far below.
+// A signed number. Below zero it is a minus sign and (-1 - n) + 1, which fits even for the least i32.
 fn say_signed(n: i32) {
     if 0 <= n {
         say_plain(n as u32);

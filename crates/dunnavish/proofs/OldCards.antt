@@ -12,9 +12,9 @@ use Rattle.model.specs.declared.CardAnswer.{CardAnswer}
 use Rattle.model.specs.declared.NumberAnswer.{NumberAnswer}
 use Rattle.model.specs.declared.NumberAnswer.the-variants.{Number, Refused}
 use Rattle.model.specs.declared.MillimetresAnswer.{MillimetresAnswer}
-use Rattle.code_theory.specs.Offsets.{CheckedAsBefore, DistanceAsBefore, oldDistance, asSigned}
+use Rattle.code_theory.specs.Offsets.{CheckedAsBefore, DistanceAsBefore, oldMillimetresAnswer, asSigned}
 use Rattle.dunnavish.specs.Crossing.{cardCount, numberCount, statusFor, leftBy, UnchangedUnlessZero}
-use Rattle.dunnavish.specs.Demands.{OldCardServed, OldDistanceServed}
+use Rattle.dunnavish.specs.Demands.{CheckLeftAsBefore, DistanceLeftAsBefore}
 use Rattle.dunnavish.proofs.Lent.{Crosses}
 
 -- where the right count is lent, the status is the answer's
@@ -40,13 +40,13 @@ module _ (card lent : List ℕ) where
   CheckMeets status left =
       (status ≡ statusFor cardCount lent (cardStatus (cardAnswer card)))
       × ((left ≡ leftBy status (cardValues (cardAnswer card)) lent)
-      × (UnchangedUnlessZero lent status left × OldCardServed card lent status left))
+      × (UnchangedUnlessZero lent status left × CheckLeftAsBefore card lent status left))
 
   pub check-crosses : (answer : CardAnswer) → answer ≡ cardAnswer card → CheckedAsBefore card answer
       → (status : ℕ) (left : List ℕ) → Crosses cardCount lent (cardStatus answer) (cardValues answer) status left → CheckMeets status left
-  unfolding CheckedAsBefore OldCardServed
+  unfolding CheckedAsBefore CheckLeftAsBefore
   check-crosses answer is before status left (is-status, (is-left, unchanged)) =
-      let old : OldCardServed card lent status left =
+      let old : CheckLeftAsBefore card lent status left =
       λ alike old. rw (← (before old)) (served-status cardCount lent (cardStatus answer) status is-status alike, is-left) in
       rw (← is) (is-status, (is-left, (unchanged, old)))
 
@@ -56,15 +56,15 @@ module _ (card : List ℕ) (position : ℕ) (lent : List ℤ) where
   DistanceMeets status left =
       (status ≡ statusFor numberCount lent (millimetresStatus (millimetresAnswer card position)))
       × ((left ≡ leftBy status (millimetresValues (millimetresAnswer card position)) lent)
-      × (UnchangedUnlessZero lent status left × OldDistanceServed card position lent status left))
+      × (UnchangedUnlessZero lent status left × DistanceLeftAsBefore card position lent status left))
 
   pub distance-crosses : (answer : MillimetresAnswer) → answer ≡ millimetresAnswer card position → DistanceAsBefore card position answer
       → (status : ℕ) (left : List ℤ) → Crosses numberCount lent (millimetresStatus answer) (millimetresValues answer) status left
       → DistanceMeets status left
-  unfolding DistanceAsBefore OldDistanceServed
+  unfolding DistanceAsBefore DistanceLeftAsBefore
   distance-crosses answer is before status left (is-status, (is-left, unchanged)) =
-      let old : OldDistanceServed card position lent status left =
+      let old : DistanceLeftAsBefore card position lent status left =
       λ alike old.
-      rw (← (signed-status (oldDistance card position)), ← (signed-values (oldDistance card position)), ← (before old))
+      rw (← (signed-status (oldMillimetresAnswer card position)), ← (signed-values (oldMillimetresAnswer card position)), ← (before old))
       (served-status numberCount lent (millimetresStatus answer) status is-status alike, is-left) in
       rw (← is) (is-status, (is-left, (unchanged, old)))

@@ -14,7 +14,7 @@ use Rattle.model.specs.Reading.{chunkDistance, withinRadius, chunkReading}
 use Rattle.model.specs.ReedMuller.{reedMuller, reedMullerCard, orderWithinLimits}
 use Rattle.model.specs.Statuses.{chunkStatus, chunkValues, cardStatus, cardValues, numberStatus, numberValues}
 use Rattle.model.specs.declared.Chunk.{Chunk}
-use Rattle.code_theory.specs.Offsets.{OldCard, oldCardAnswer, oldDistance}
+use Rattle.code_theory.specs.Offsets.{OldCard, oldCardAnswer, oldMillimetresAnswer}
 use Rattle.position_theory.specs.Damage.{WithinRadius, turned}
 use Rattle.reed_muller_theory.specs.MadeCards.{IsReedMullerCard}
 use Rattle.dunnavish.specs.Crossing.{cardBytes, cardCount, numberCount, readCount, voteCount, leftBy}
@@ -75,13 +75,13 @@ VotedAsSearch r m chunk lent status left =
     (status ≡ chunkStatus read) × (left ≡ leftBy status (chunkValues read) lent)
 
 -- Document 02, P2, where seven numbers are lent: of an old card the status and the numbers left are those of document 01's answer
-unfoldable pub OldCardServed : (card lent : List ℕ) (status : ℕ) (left : List ℕ) → Type 0
-OldCardServed card lent status left =
+unfoldable pub CheckLeftAsBefore : (card lent : List ℕ) (status : ℕ) (left : List ℕ) → Type 0
+CheckLeftAsBefore card lent status left =
     length lent ≡ cardCount → OldCard card
     → (status ≡ cardStatus (oldCardAnswer card)) × (left ≡ leftBy status (cardValues (oldCardAnswer card)) lent)
 
 -- Document 02, P2, where one number is lent: the same of a distance, as a signed number
-unfoldable pub OldDistanceServed : (card : List ℕ) (position : ℕ) (lent : List ℤ) (status : ℕ) (left : List ℤ) → Type 0
-OldDistanceServed card position lent status left =
+unfoldable pub DistanceLeftAsBefore : (card : List ℕ) (position : ℕ) (lent : List ℤ) (status : ℕ) (left : List ℤ) → Type 0
+DistanceLeftAsBefore card position lent status left =
     length lent ≡ numberCount → OldCard card
-    → (status ≡ numberStatus (oldDistance card position)) × (left ≡ leftBy status (map pos (numberValues (oldDistance card position))) lent)
+    → (status ≡ numberStatus (oldMillimetresAnswer card position)) × (left ≡ leftBy status (map pos (numberValues (oldMillimetresAnswer card position))) lent)

@@ -10,7 +10,7 @@ ghost use Rattle.model.specs.Answers.{makeRefusal, makeAnswer, voteAnswer};
 ghost use Rattle.model.specs.Statuses.{cardStatus, cardValues, writeStatus, readStatus, readValues, numberStatus, numberValues};
 ghost use Rattle.model.specs.Statuses.{millimetresStatus, millimetresValues, voteStatus, voteValues};
 ghost use Rattle.dunnavish.specs.Crossing.{cardCount, readCount, numberCount, voteCount, cardBytes, statusFor, leftBy, UnchangedUnlessZero};
-ghost use Rattle.dunnavish.specs.Demands.{OldCardServed, OldDistanceServed};
+ghost use Rattle.dunnavish.specs.Demands.{CheckLeftAsBefore, DistanceLeftAsBefore};
 ghost use Rattle.dunnavish.specs.Demands.{ServedWithinTwiceTurned, ServedWithinTurnedAndResidual};
 ghost use Rattle.dunnavish.specs.Demands.{MadeWithinLimits, VotedAsPromised, VotedAsSearch};
 use model::CardAnswer;
@@ -30,7 +30,7 @@ pub extern "C" fn dunnavish_check_card(card: &[u8], values: &mut [u32]) -> u32
     ensures status { λ r. ⌜ r ≡ statusFor cardCount (now (values .entry)) (cardStatus (cardAnswer (now (card .entry)))) ⌝ }
     ensures left { λ r. ⌜ now (values .exit) ≡ leftBy r (cardValues (cardAnswer (now (card .entry)))) (now (values .entry)) ⌝ }
     ensures unchanged { λ r. ⌜ UnchangedUnlessZero (now (values .entry)) r (now (values .exit)) ⌝ }
-    ensures old_card { λ r. ⌜ OldCardServed (now (card .entry)) (now (values .entry)) r (now (values .exit)) ⌝ }
+    ensures old_card { λ r. ⌜ CheckLeftAsBefore (now (card .entry)) (now (values .entry)) r (now (values .exit)) ⌝ }
 {
     if values.len() != 7 {
         return WRONG_COUNT;
@@ -118,7 +118,7 @@ pub extern "C" fn dunnavish_millimetres(card: &[u8], position: u32, values: &mut
     ensures status { λ r. ⌜ r ≡ statusFor numberCount (now (values .entry)) (millimetresStatus (millimetresAnswer (now (card .entry)) position)) ⌝ }
     ensures left { λ r. ⌜ now (values .exit) ≡ leftBy r (millimetresValues (millimetresAnswer (now (card .entry)) position)) (now (values .entry)) ⌝ }
     ensures unchanged { λ r. ⌜ UnchangedUnlessZero (now (values .entry)) r (now (values .exit)) ⌝ }
-    ensures old_card { λ r. ⌜ OldDistanceServed (now (card .entry)) position (now (values .entry)) r (now (values .exit)) ⌝ }
+    ensures old_card { λ r. ⌜ DistanceLeftAsBefore (now (card .entry)) position (now (values .entry)) r (now (values .exit)) ⌝ }
 {
     if values.len() != 1 {
         return WRONG_COUNT;

@@ -41,13 +41,15 @@ bytes-fit v d j h k l =
 pub share-most : (p d : ℕ) → p < 510 → d < 256 → (p + 1) * d ≤ 130050
 share-most p d h k = mul-le-mul {n₁ = p + 1} {n₂ = 510} {m₂ = 255} (omega arith) (le-of-suc-le-suc k)
 
--- where no unused byte is set, the sum over all places ends at place 104
-pub ends-at-used : (b : List ℕ) → unusedByteSet b ≡ false → sumBelow (checkShare b) 510 ≡ sumBelow (checkShare b) 104
+-- where no unused byte is set, the sum over all places ends with that over the offset's
+pub ends-at-used : (b : List ℕ) → unusedByteSet b ≡ false
+    → sumBelow (checkShare b) 510 ≡ sumBelow (checkShare b) 100 + sumBelow (fromPlace 100 (checkShare b)) 4
 unfolding unusedByteSet
 ends-at-used b none =
     let zero : (p : ℕ) → p < 406 → byte b (104 + p) ≡ 0 =
     λ p h. eqb-true (byte b (104 + p)) 0 (not-false _ (none-of-any (λ i. not (eqb (byte b (104 + i)) 0)) 406 none p h)) in
-    omega (arith, sum-split (checkShare b) 104 406, sum-zero {f = fromPlace 104 (checkShare b)} 406 (λ p h. rw (zero p h) (mul-zero _)))
+    let past : sumBelow (fromPlace 104 (checkShare b)) 406 ≡ 0 = sum-zero {f = fromPlace 104 (checkShare b)} 406 (λ p h. rw (zero p h) (mul-zero _)) in
+    omega (arith, past, sum-split (checkShare b) 104 406, sum-split (checkShare b) 100 4)
 
 -- ---- bytes joined by or
 

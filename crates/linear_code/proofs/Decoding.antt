@@ -61,10 +61,10 @@ module _ (b : List ℕ) (limits : withinLimits (lengthOf b) (rowCountOf b) ≡ t
     pub refusal-14 : misplaced b ≡ false → offsetOutside (offsetOf b) ≡ true → cardRefusal b ≡ 14
     refusal-14 placed outside = rw (refusal-4-14-5-or-0 b whole checked limits, placed, outside)
 
-    module _ (placed : misplaced b ≡ false) (near : offsetOutside (offsetOf b) ≡ false) (distance : ℕ)
+    module _ (placed : misplaced b ≡ false) (in-range : offsetOutside (offsetOf b) ≡ false) (distance : ℕ)
         (is-least : Narrow (lengthOf b) (rowCountOf b) (rowOf b) → distance ≡ least b) where
       by-distance : cardRefusal b ≡ cond (eqb distance 0) 5 0
-      by-distance = rw (refusal-4-14-5-or-0 b whole checked limits, placed, near, dependent-if-zero placed, is-least (narrow placed))
+      by-distance = rw (refusal-4-14-5-or-0 b whole checked limits, placed, in-range, dependent-if-zero placed, is-least (narrow placed))
 
       pub refusal-5 : distance ≡ 0 → cardRefusal b ≡ 5
       refusal-5 zero = rw (by-distance, eq-eqb distance 0 zero)

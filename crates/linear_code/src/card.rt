@@ -1,10 +1,10 @@
 // The fields of a card, and what refusals 2, 3 and 4 test of them. The offset, and refusal 14, are in offset.rt.
 ghost use mathlib.Core.Path.{_≡_};
 ghost use mathlib.Core.Bool.{_||_};
-ghost use Prim.Native.Nat.{_+_, _^_, _≤_, _<_};
+ghost use Prim.Native.Nat.{_+_, _*_, _^_, _≤_, _<_};
 ghost use lib.Dec.{leb};
 ghost use lib.ListN.{length, getD};
-ghost use Rattle.bits.specs.Sums.{sumBelow};
+ghost use Rattle.bits.specs.Sums.{sumBelow, fromPlace};
 ghost use Rattle.model.specs.Card.{byte, checkShare, highFirst, rowOf, trackOf, storedCheck, computedCheck, withinLimits, rowTooWide, unusedRowSet, unusedByteSet};
 
 // A byte as a number of 64 bits.
@@ -55,7 +55,7 @@ pub fn stored_check(card: &[u8]) -> u32
 // The sum over the first `end` places of (place + 1) × byte.
 fn weighted_sum(card: &[u8], end: usize) -> u32
     requires { ⌜ (length (now card) ≡ 512) × (end ≤ 510) ⌝ }
-    ensures { λ r. ⌜ r ≡ sumBelow (checkShare (now (card .entry))) end ⌝ }
+    ensures { λ r. ⌜ (r ≡ sumBelow (checkShare (now (card .entry))) end) × (r ≤ 130050 * end) ⌝ }
 {
     let mut total: u32 = 0;
     let mut p: usize = 0;
@@ -66,8 +66,20 @@ fn weighted_sum(card: &[u8], end: usize) -> u32
     total
 }
 
+// The same sum over places 100 to 103 alone, the offset's.
+fn offset_share(card: &[u8]) -> u32
+    requires { ⌜ length (now card) ≡ 512 ⌝ }
+    ensures { λ r. ⌜ (r ≡ sumBelow (fromPlace 100 (checkShare (now (card .entry)))) 4) × (r ≤ 104550) ⌝ }
+{
+    101 * byte_at(card, 100)
+        + 102 * byte_at(card, 101)
+        + 103 * byte_at(card, 102)
+        + 104 * byte_at(card, 103)
+}
+
 // The check that the card should carry. Where no unused byte is set, the bytes from 104 on add nothing. Each sum's end is a
-// constant, so that the compiler knows the weights of the short one and takes many bytes in one step.
+// constant, so that the compiler knows the weights of the short one and takes many bytes in one step, which it does for 100 places
+// and not for 104.
 pub fn computed_check(card: &[u8], unused_set: bool) -> u32
     requires { ⌜ (length (now card) ≡ 512) × («unused_set» ≡ unusedByteSet (now card)) ⌝ }
     ensures { λ r. ⌜ r ≡ computedCheck (now (card .entry)) ⌝ }
@@ -75,7 +87,7 @@ pub fn computed_check(card: &[u8], unused_set: bool) -> u32
     let total = if unused_set {
         weighted_sum(card, 510)
     } else {
-        weighted_sum(card, 104)
+        weighted_sum(card, 100) + offset_share(card)
     };
     total % 65521
 }

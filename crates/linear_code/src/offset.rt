@@ -4,7 +4,7 @@ ghost use lib.ListN.{length};
 ghost use Rattle.model.specs.Card.{highFirst, twosComplement, offsetOf, offsetOutside};
 use super::card;
 
-// The number in bytes 100 to 103, high byte first.
+// The number in bytes 100 to 103, high byte first: two and two, in the 32 bits that the offset has.
 fn offset_bits(card: &[u8]) -> u32
     requires { ⌜ length (now card) ≡ 512 ⌝ }
     ensures { λ r. ⌜ r ≡ highFirst (now (card .entry)) 100 4 ⌝ }

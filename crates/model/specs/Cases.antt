@@ -199,6 +199,7 @@ starredCases =
     ∷ case (carriedOffset (cardBFrom100 (0x7f ∷ 0xff ∷ 0xff ∷ 0xff ∷ []))) (2147483647 ∷ [])
     -- distances of the first and the last position; one above is refusal 7. No sound card has a position above 1,310,400
     ∷ signed (distance (cardBFrom100 lowest) 0) (pos 0 ∷ minus 20000 ∷ [])
+    ∷ signed (distance (cardBFrom100 lowest) 15) (pos 0 ∷ minus 19250 ∷ [])
     ∷ case (distance (cardBFrom100 minusOne) 15) (0 ∷ 749 ∷ [])
     ∷ case (distance cardB 15) (0 ∷ 750 ∷ [])
     ∷ case (distance (cardBFrom100 highest) 15) (0 ∷ 20750 ∷ [])
@@ -211,7 +212,7 @@ starredCases =
     ∷ case (checkCard (cardBFrom100 (tooHigh ++ (1 ∷ [])))) (4 ∷ [])
     ∷ case (checkCard (cardFrom100 3 2 0 (3 ∷ 3 ∷ []) tooHigh)) (14 ∷ [])
     ∷ case (checkCard (cardFrom100 3 2 0 (3 ∷ 3 ∷ []) highest)) (5 ∷ [])
-    -- all other answers are card B's, and a made card carries offset 0
+    -- a check answers as of card B, and a made card carries offset 0
     ∷ case (checkCard (cardBFrom100 lowest)) (0 ∷ 3 ∷ 1 ∷ 14 ∷ 3 ∷ 1 ∷ 15 ∷ 15 ∷ [])
     ∷ case (carriedOffset (makeAnswer 14 1 2 .bytes)) (0 ∷ [])
     ∷ []

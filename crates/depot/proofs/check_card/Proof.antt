@@ -1,5 +1,5 @@
 -- `depot::check_card` meets its contract: `card_answer` answers for every card that decodes to its argument, and this card does.
--- The status and the values are those of that answer, which of an old card is the one that it had. Assumes nothing.
+-- The status and the values are those of that answer, which of an old card is document 01's. Assumes nothing.
 use mathlib.Core.Path.{refl}
 use borrow.Author.Needs.{needs}
 use Rattle.code_theory.proofs.Offsets.{checked-as-before}

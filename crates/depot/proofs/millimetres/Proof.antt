@@ -1,6 +1,6 @@
 -- `depot::millimetres` meets its contract: one law for each way out, of a card that is refused, a position above the last, and one on
--- the track. The last position of a sound code is at most 1,310,400, and its card's offset at most 20,000 in magnitude, as the sum
--- asks. Assumes nothing.
+-- the track. The last position of a sound code is at most 1,310,400, and its card's offset within the range, as the sum asks.
+-- Assumes nothing.
 use mathlib.Core.Path.{_≡_, _∙_}
 use borrow.Author.Needs.{needs}
 use native.Mathlib.Omega.{arith}
@@ -10,7 +10,7 @@ use mir.Val.{toZ, ofZ}
 use Rattle.model.specs.Decoded.{meaning}
 use Rattle.code_theory.specs.Promise.{Sound}
 use Rattle.code_theory.proofs.Starts.{last-position-bound}
-use Rattle.depot.proofs.Distances.{offset-within, millimetres-refused, millimetres-above, millimetres-within}
+use Rattle.depot.proofs.Distances.{offset-fits, offset-within, millimetres-refused, millimetres-above, millimetres-within}
 use Rattle.depot.proofs.millimetres.Statement.{statement}
 use Rattle.depot.proofs.millimetres.Tie as tie
 
@@ -33,7 +33,7 @@ returns-2 c =
 is-offset : (c : tie.Else2) → let offset = c .before .before .before .before .decode .result .offset in toZ w32 (ofZ w32 offset) ≡ offset
 is-offset c =
     let passed = c .before .before in
-    toZ-ofZ (record { sfits = omega (arith, offset-within _ _ (passed .before .before .decode .ensures) (passed .if1 .left)) })
+    toZ-ofZ (offset-fits _ (offset-within _ _ (passed .before .before .decode .ensures) (passed .if1 .left)))
 
 from-face-requires : tie.Need-from-face-requires
 from-face-requires c κs =

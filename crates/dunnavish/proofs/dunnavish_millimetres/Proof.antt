@@ -1,5 +1,5 @@
 -- `dunnavish::dunnavish_millimetres` meets its contract: the count of the lent numbers, then what the library answered, which of an old
--- card is what it had answered. Assumes nothing.
+-- card is document 01's answer. Assumes nothing.
 use mathlib.Core.Path.{refl}
 use mathlib.Core.List.{[], _∷_}
 use borrow.Author.Needs.{needs}

@@ -1,5 +1,5 @@
--- `linear_code::card::computed_check` meets its contract: the sum over all places ends at place 104 where no unused byte is set.
--- Assumes nothing.
+-- `linear_code::card::computed_check` meets its contract: the sum over all places ends with that over the offset's where no unused
+-- byte is set. Assumes nothing.
 use mathlib.Core.Path.{sym, _∙_}
 use mathlib.Core.Logic.{⊎-elim}
 use borrow.Author.Needs.{needs}
@@ -14,9 +14,10 @@ returns c =
     let first = c .before .before .before in
     let card = first .args .card .now in
     ⊎-elim
-    (λ w. rw (w .2, w .1 .ensures))
-    (λ w. rw (w .2, w .1 .ensures, ends-at-used card (sym (first .pre .1) ∙ w .0 .left)))
+    (λ w. rw (w .2, w .1 .ensures .0))
+    (λ w. rw (w .3, w .1 .ensures .0, w .2 .ensures .0, ends-at-used card (sym (first .pre .1) ∙ w .0 .left)))
     (c .before .if1 .came)
 
 pub computed-check-spec : {M : Type 1} → statement M
-computed-check-spec = tie.close (tie.spec (λ c κs. search needs) (λ c κs. search needs) returns)
+computed-check-spec =
+    tie.close (tie.spec (λ c κs. search needs) (λ c κs. search needs) (λ c κs. search needs) (λ c. search needs) returns)

@@ -40,7 +40,7 @@ returns : tie.Need-returns Inv-loop μ-loop
 returns c =
     let loop = c .before .loop in
     let all : loop .p ≡ c .before .before .before .args .end = omega arith in
-    rw (← all, loop .inv .1)
+    rw (← all) (loop .inv .1, loop .inv .2)
 
 pub weighted-sum-spec : {M : Type 1} → statement M
 weighted-sum-spec =

@@ -95,8 +95,8 @@ is-least c =
     least-of-card _ _ _ _ _ (is-n limited) (is-k limited) (fourth .before .before .rows-of .ensures) (c .least-weight .ensures)
 
 -- past the fifth test
-near : (c : tie.Else5) → offsetOutside (offsetOf (card₄ (fourth-passed (c .before)))) ≡ false
-near c = sym (is-outside (c .before .before)) ∙ c .if5 .left
+in-range : (c : tie.Else5) → offsetOutside (offsetOf (card₄ (fourth-passed (c .before)))) ≡ false
+in-range c = sym (is-outside (c .before .before)) ∙ c .if5 .left
 
 returns : tie.Need-returns
 returns c = refused-from _ _ 1 (c .refused .ensures) (refusal-1 _ (c .before .if1 .taken)) (λ e. omega arith)
@@ -149,7 +149,7 @@ returns-6 c =
     let third = third-passed fourth in
     let second = second-passed third in
     refused-from _ _ 5 (c .refused6 .ensures)
-    (refusal-5 _ (within third) (whole second) (checked second) (placed fourth) (near fifth) _ (is-least weighed) (c .before .if6 .taken))
+    (refusal-5 _ (within third) (whole second) (checked second) (placed fourth) (in-range fifth) _ (is-least weighed) (c .before .if6 .taken))
     (λ e. omega arith)
 
 returns-7 : tie.Need-returns-7
@@ -161,7 +161,7 @@ returns-7 c =
     let second = second-passed third in
     let rows = fourth .before .before .rows-of in
     let sound =
-    not-refused _ (within third) (whole second) (checked second) (placed fourth) (near fifth) _ (is-least weighed) (c .before .if6 .left) in
+    not-refused _ (within third) (whole second) (checked second) (placed fourth) (in-range fifth) _ (is-least weighed) (c .before .if6 .left) in
     decoded-from _ _ sound refl (c .track-of .ensures) (is-offset (weighed .before .before))
     (code-of-least _ sound _ _ _ (rows .result) (is-n (third .before)) (is-k (third .before)) (rows .ensures) (is-least weighed))
 

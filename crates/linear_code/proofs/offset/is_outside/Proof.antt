@@ -1,6 +1,5 @@
 -- `linear_code::offset::is_outside` meets its contract: the two tests of the definition, of the number that the offset's bits stand for.
 -- Assumes nothing.
-use borrow.Author.Needs.{needs}
 use mir.Facts.{toZ-ofZ}
 use Rattle.model.specs.Card.{offsetOutside}
 use Rattle.linear_code.proofs.offset.is_outside.Statement.{statement}
