@@ -22,7 +22,7 @@
  *   exactly DUNNAVISH_CARD_BYTES.
  *   No pointer may be NULL, not even with a count of 0: pass the address of any object then. An array that a call writes
  *   (`values`, the word of dunnavish_write_word, the card of dunnavish_make_card) may not overlap another one of the same call.
- *   Pointers to numbers are aligned as uint32_t is. These are the only things that a call cannot check.
+ *   Pointers to numbers are aligned as uint32_t and int32_t are. These are the only things that a call cannot check.
  *
  * Who owns what
  *   The caller owns every array, before, during and after the call. The library keeps no pointer, allocates nothing and frees
@@ -49,9 +49,9 @@ extern "C" {
 
 /* The version of this header and its archive. */
 #define DUNNAVISH_VERSION_MAJOR 0
-#define DUNNAVISH_VERSION_MINOR 1
+#define DUNNAVISH_VERSION_MINOR 2
 #define DUNNAVISH_VERSION_PATCH 0
-#define DUNNAVISH_VERSION "0.1.0"
+#define DUNNAVISH_VERSION "0.2.0"
 
 /* The bytes of a card, and of the widest word. */
 #define DUNNAVISH_CARD_BYTES 512
@@ -64,15 +64,15 @@ static inline size_t dunnavish_word_bytes(uint32_t bits)
 }
 
 /*
- * The status of a call. The reasons are tested in the order of their numbers, except that 100 comes before all others and 13
- * before 8 and 10; the first that holds is the answer.
+ * The status of a call. The reasons are tested in the order of their numbers, except that 100 comes before all others, 14 between
+ * 4 and 5, and 13 before 8 and 10; the first that holds is the answer.
  */
 enum dunnavish_status {
     DUNNAVISH_OK = 0,
     DUNNAVISH_CARD_LENGTH = 1,      /* card: not 512 bytes */
     DUNNAVISH_CARD_CHECK = 2,       /* card: the check in bytes 510 to 511 differs from the bytes before it */
     DUNNAVISH_CARD_LIMITS = 3,      /* card: n outside 1 to 64, or k outside 1 to 12 or above n */
-    DUNNAVISH_CARD_STRAY_BITS = 4,  /* card: a row has a bit at n or above, or an unused row or byte 100 to 509 is not zero */
+    DUNNAVISH_CARD_STRAY_BITS = 4,  /* card: a row has a bit at n or above, or an unused row or byte 104 to 509 is not zero */
     DUNNAVISH_CARD_DEPENDENT = 5,   /* card: some nonempty set of rows sums to zero */
     DUNNAVISH_WORD_LENGTH = 6,      /* word: not exactly the bytes of this card's words */
     DUNNAVISH_OFF_THE_TRACK = 7,    /* position above the last one, or block above 2^k - 1 */
@@ -82,6 +82,7 @@ enum dunnavish_status {
     DUNNAVISH_CHUNKS_DIFFER = 11,   /* received word: rule 3, and the two code chunks read differently */
     DUNNAVISH_NO_BLOCK = 12,        /* received word: rule 1 before the first block, or rule 2 after the last */
     DUNNAVISH_CODE_LIMITS = 13,     /* Reed-Muller code: m outside 1 to 6, r above m, or k above 12; tested before 8 and 10 */
+    DUNNAVISH_CARD_OFFSET = 14,     /* card: offset, bytes 100 to 103, outside -20,000 to 20,000 mm; tested between 4 and 5 */
     DUNNAVISH_VALUE_COUNT = 100     /* `values`, or the card to be made, has not the call's count; tested before all the others */
 };
 
@@ -103,12 +104,13 @@ static inline const char *dunnavish_status_text(uint32_t status)
     case DUNNAVISH_CHUNKS_DIFFER: return "the separators are alike, and the two code chunks read differently";
     case DUNNAVISH_NO_BLOCK: return "the received word points to a block before the first or after the last";
     case DUNNAVISH_CODE_LIMITS: return "the Reed-Muller code's m is outside 1 to 6, its r above m, or its k above 12";
+    case DUNNAVISH_CARD_OFFSET: return "the card's offset is outside -20,000 to 20,000 mm";
     case DUNNAVISH_VALUE_COUNT: return "the count of values, or of a made card's bytes, is not the call's";
     default: return "a status that this version does not have";
     }
 }
 
-/* Check a card. Answers 0 to 5, or 100. On 0 the seven values are those of the indices below. */
+/* Check a card. Answers 0 to 5, 14, or 100. On 0 the seven values are those of the indices below. */
 enum dunnavish_card_value {
     DUNNAVISH_CARD_N = 0,        /* n, the code's length in bits */
     DUNNAVISH_CARD_K = 1,        /* k, the number of rows: there are 2^k codewords */
@@ -122,15 +124,15 @@ enum dunnavish_card_value {
 uint32_t dunnavish_check_card(const uint8_t *card, size_t card_bytes, uint32_t *values, size_t values_count);
 
 /*
- * Write the word of a position into `word`, which has exactly the bytes of a word. Answers 0 to 7. Only on 0 is `word` written,
- * all of it, spare bits zero; what it held before does not matter.
+ * Write the word of a position into `word`, which has exactly the bytes of a word. Answers 0 to 7, or 14. Only on 0 is `word`
+ * written, all of it, spare bits zero; what it held before does not matter.
  */
 uint32_t dunnavish_write_word(const uint8_t *card, size_t card_bytes, uint32_t position, uint8_t *word, size_t word_bytes);
 
 /*
- * Read a received word. Answers 0 to 6, 8 to 12, or 100. On 0 the three values are those of the indices below. If three values are
- * lent and each of the word's five chunks has at most t bits turned, the answer is 0 and the position is off by at most twice the
- * bits turned in all, and by at most the bits turned and the residual together.
+ * Read a received word. Answers 0 to 6, 8 to 12, 14, or 100. On 0 the three values are those of the indices below. If three
+ * values are lent and each of the word's five chunks has at most t bits turned, the answer is 0 and the position is off by at
+ * most twice the bits turned in all, and by at most the bits turned and the residual together.
  */
 enum dunnavish_read_value {
     DUNNAVISH_READ_POSITION = 0, /* the position, from 0 to the last */
@@ -141,20 +143,23 @@ enum dunnavish_read_value {
 uint32_t dunnavish_read_word(const uint8_t *card, size_t card_bytes, const uint8_t *word, size_t word_bytes, uint32_t *values,
                              size_t values_count);
 
-/* The count of `values` of the two calls below, which put their answer into values[0]. */
+/* The count of `values` of the two calls below, which put their answer into values[0]: a position, or a signed distance. */
 #define DUNNAVISH_NUMBER_VALUES 1
 
-/* The position at which block `block` starts; blocks are 0 to 2^k - 1. Answers 0 to 5, 7, or 100. */
+/* The position at which block `block` starts; blocks are 0 to 2^k - 1. Answers 0 to 5, 7, 14, or 100. */
 uint32_t dunnavish_block_start(const uint8_t *card, size_t card_bytes, uint32_t block, uint32_t *values, size_t values_count);
 
-/* The distance of a position from the buffer face in millimetres: 50 for each step. Answers 0 to 5, 7, or 100. */
-uint32_t dunnavish_millimetres(const uint8_t *card, size_t card_bytes, uint32_t position, uint32_t *values, size_t values_count);
+/*
+ * The distance of a position from the buffer face in millimetres: the card's offset, which is the distance of position 0, and 50
+ * for each step. It is negative where the position lies before the face. Answers 0 to 5, 7, 14, or 100.
+ */
+uint32_t dunnavish_millimetres(const uint8_t *card, size_t card_bytes, uint32_t position, int32_t *values, size_t values_count);
 
 /*
  * Make the card of a Reed-Muller code for a track, into `card`, which has exactly DUNNAVISH_CARD_BYTES bytes. Answers 0, 13, or
  * 100. Only on 0 is `card` written, all of it; what it held before does not matter. The code of order r in m variables has
  * n = 2^m, a row for each set of at most r variables, k in all, and D = 2^(m-r). m is 1 to 6, r is 0 to m, and k is at most 12:
- * these are sixteen codes.
+ * these are sixteen codes. The card's offset is 0.
  */
 uint32_t dunnavish_make_card(uint16_t track, uint32_t r, uint32_t m, uint8_t *card, size_t card_bytes);
 

@@ -1,10 +1,11 @@
 //! Position words of trams on stabling tracks.
 //!
-//! A tram reports where it stands by a coded word; a track's *card*, 512 bytes, says which code. Five calls here take a card:
-//! they check it, write the word of a position, read a received word, give the start of a block, and turn a position into
-//! millimetres. Two take the order and the number of variables of a Reed-Muller code instead: they make its card, and read a
-//! chunk of it by majority votes. All are thin and safe wrappers of a library that is proved: each call ends, answers every
-//! input, and keeps no state, so any number of threads may use it. No call allocates or panics.
+//! A tram reports where it stands by a coded word; a track's *card*, 512 bytes, says which code, and how far position 0 is from
+//! the buffer face. Five calls here take a card: they check it, write the word of a position, read a received word, give the
+//! start of a block, and turn a position into millimetres. Two take the order and the number of variables of a Reed-Muller code
+//! instead: they make its card, and read a chunk of it by majority votes. All are thin and safe wrappers of a library that is
+//! proved: each call ends, answers every input, and keeps no state, so any number of threads may use it. No call allocates or
+//! panics.
 //!
 //! `docs/FORMAT.md` of the repository says what a card and a word are, byte by byte, how a word is read, which card is made, and
 //! what each refusal means. The archive that is linked, `libdunnavish.a`, is the one that `rt staticlib dunnavish` writes to
@@ -31,6 +32,12 @@
 //!
 //! assert_eq!(dunnavish::write_word(&card, 16, &mut word), Err(dunnavish::Refusal::OffTheTrack));
 //!
+//! assert_eq!(dunnavish::millimetres(&card, 7)?, 350);
+//! // The same track laid with position 0 one metre before the buffer face: offset -1000 in bytes 100 to 103, check 14,841.
+//! card[100..104].copy_from_slice(&(-1000i32).to_be_bytes());
+//! card[510..].copy_from_slice(&14_841u16.to_be_bytes());
+//! assert_eq!(dunnavish::millimetres(&card, 7)?, -650);
+//!
 //! // The card of a Reed-Muller code: order 1 in 3 variables, rows FF, AA, CC and F0, for track 14.
 //! let made = dunnavish::make_card(14, 1, 3)?;
 //! assert_eq!(dunnavish::check_card(&made)?.distance, 4);
@@ -55,7 +62,8 @@ pub const WIDEST_WORD_BYTES: usize = 40;
 macro_rules! refusals {
     ($($name:ident = $number:literal: $reason:literal,)+) => {
         /// Why a call was turned down. A call reports the first that holds, in the order of their numbers, but
-        /// [`CodeLimits`](Refusal::CodeLimits) before any other.
+        /// [`CardOffset`](Refusal::CardOffset) between [`CardStrayBits`](Refusal::CardStrayBits) and
+        /// [`DependentRows`](Refusal::DependentRows), and [`CodeLimits`](Refusal::CodeLimits) before any other.
         ///
         /// Later versions of the library may know more reasons, so a `match` needs an arm for those.
         #[derive(Clone, Copy, Debug, PartialEq, Eq, PartialOrd, Ord, Hash)]
@@ -72,7 +80,7 @@ macro_rules! refusals {
             /// Every refusal that has a number, in the order of their numbers.
             pub const ALL: &'static [Refusal] = &[$(Refusal::$name,)+];
 
-            /// Its number in `docs/FORMAT.md`, 1 to 13; none for an unknown status or rule.
+            /// Its number in `docs/FORMAT.md`, 1 to 14; none for an unknown status or rule.
             pub fn number(self) -> Option<u32> {
                 match self {
                     $(Refusal::$name => Some($number),)+
@@ -107,6 +115,7 @@ refusals! {
     ChunksDiffer = 11: "the separators are alike, and the two code chunks read differently",
     NoBlock = 12: "the received word points to a block before the first or after the last",
     CodeLimits = 13: "the Reed-Muller code's m is outside 1 to 6, its r above m, or its k above 12",
+    CardOffset = 14: "the card's offset is outside -20,000 to 20,000 mm",
 }
 
 impl Refusal {
@@ -207,7 +216,7 @@ mod exported {
             count: usize,
         ) -> u32;
         pub fn dunnavish_block_start(card: *const u8, card_bytes: usize, block: u32, values: *mut u32, count: usize) -> u32;
-        pub fn dunnavish_millimetres(card: *const u8, card_bytes: usize, position: u32, values: *mut u32, count: usize) -> u32;
+        pub fn dunnavish_millimetres(card: *const u8, card_bytes: usize, position: u32, values: *mut i32, count: usize) -> u32;
         pub fn dunnavish_make_card(track: u16, r: u32, m: u32, card: *mut u8, card_bytes: usize) -> u32;
         pub fn dunnavish_vote_chunk(r: u32, m: u32, chunk: u64, values: *mut u32, count: usize) -> u32;
     }
@@ -233,7 +242,8 @@ fn reading([position, residual, rule]: [u32; 3]) -> Result<Reading, Refusal> {
 
 /// Checks a card.
 ///
-/// Refused: [`Refusal::CardLength`] to [`Refusal::DependentRows`].
+/// Refused: [`Refusal::CardLength`] to [`Refusal::DependentRows`], or [`Refusal::CardOffset`]. Where another call refuses the
+/// card, it does so by one of these.
 pub fn check_card(card: &[u8]) -> Result<CardSummary, Refusal> {
     let mut values = [0u32; 7];
     served(unsafe { exported::dunnavish_check_card(card.as_ptr(), card.len(), values.as_mut_ptr(), values.len()) })?;
@@ -272,17 +282,18 @@ pub fn block_start(card: &[u8], block: u32) -> Result<u32, Refusal> {
     Ok(values[0])
 }
 
-/// The distance of a position from the buffer face, in millimetres.
+/// The distance of a position from the buffer face, in millimetres: the card's offset, which is the distance of position 0, and
+/// 50 for each step. It is negative where the position lies before the face.
 ///
 /// Refused: the card, [`Refusal::OffTheTrack`].
-pub fn millimetres(card: &[u8], position: u32) -> Result<u32, Refusal> {
-    let mut values = [0u32; 1];
+pub fn millimetres(card: &[u8], position: u32) -> Result<i32, Refusal> {
+    let mut values = [0i32; 1];
     served(unsafe { exported::dunnavish_millimetres(card.as_ptr(), card.len(), position, values.as_mut_ptr(), values.len()) })?;
     Ok(values[0])
 }
 
 /// Makes the card of a Reed-Muller code, of order `r` in `m` variables, for a track. It is sound, with n = 2^m, D = 2^(m-r), and
-/// a row for each set of at most `r` variables: the smaller sets first, and sets of one size by their numbers.
+/// a row for each set of at most `r` variables: the smaller sets first, and sets of one size by their numbers. Its offset is 0.
 ///
 /// Refused: [`Refusal::CodeLimits`].
 pub fn make_card(track: u16, r: u32, m: u32) -> Result<[u8; CARD_BYTES], Refusal> {
@@ -313,7 +324,7 @@ mod tests {
         for refusal in Refusal::ALL {
             assert_eq!(served(refusal.number().unwrap()), Err(*refusal));
         }
-        for status in [14, 99, 100, 101, u32::MAX] {
+        for status in [15, 99, 100, 101, u32::MAX] {
             assert_eq!(served(status), Err(Refusal::UnknownStatus(status)));
             assert_eq!(Refusal::UnknownStatus(status).number(), None);
         }

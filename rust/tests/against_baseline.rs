@@ -1,5 +1,5 @@
-//! The library against the straightforward implementation of document 01 that the benchmark compares it with, written apart from it,
-//! on cards of every shape and words of every kind.
+//! The library against the straightforward implementation of document 01 and P2 that the benchmark compares it with, written
+//! apart from it, on cards of every shape, with offsets, and words of every kind.
 #[path = "../../bench/src/baseline.rs"]
 mod baseline;
 mod cards;
@@ -7,13 +7,13 @@ mod codes;
 mod random;
 
 use baseline::{decode, Code, Kept, Order as _};
-use cards::{card_of, seal};
+use cards::{card_of, offset_card, seal};
 use codes::{golay, reed_muller};
 use dunnavish::{block_start, check_card, make_card, millimetres, read_word, vote_chunk, write_word, Refusal};
 use random::Random;
 
 fn number<T>(answer: Result<T, Refusal>) -> Result<T, u32> {
-    answer.map_err(|refusal| refusal.number().expect("a refusal of document 01"))
+    answer.map_err(|refusal| refusal.number().expect("a refusal that has a number"))
 }
 
 /// Both check this card; what the baseline keeps of it, if it is sound.
@@ -121,12 +121,10 @@ fn every_call_refuses(card: &[u8]) {
 fn at_the_ends(card: &[u8], kept: &Kept) {
     let (last, top, bytes) = (kept.last(), kept.code().last_block(), kept.code().bytes());
     for block in [0, 1, top / 2, top, top + 1, u32::MAX as usize] {
-        let start = if block <= top { Ok(kept.start(block)) } else { Err(7) };
-        assert_eq!(number(block_start(card, block as u32)).map(|r| r as usize), start);
+        assert_eq!(number(block_start(card, block as u32)), baseline::block_start(kept, block as u32));
     }
     for position in [0, 1, last / 2, last, last + 1, u32::MAX as usize] {
-        let distance = if position <= last { Ok(50 * position) } else { Err(7) };
-        assert_eq!(number(millimetres(card, position as u32)).map(|mm| mm as usize), distance);
+        assert_eq!(number(millimetres(card, position as u32)), baseline::millimetres(kept, position as u32));
         both_write(card, kept, position, bytes);
     }
     for lent in [0, bytes - 1, bytes + 1, 41, 512] {
@@ -162,6 +160,15 @@ fn at_position(card: &[u8], kept: &Kept, random: &mut Random, position: usize) {
     }
 }
 
+/// An offset within its range: an end of it, one near 0, or any.
+fn any_offset(random: &mut Random) -> i32 {
+    match random.below(4) {
+        0 => [-20_000, 20_000][random.below(2)],
+        1 => random.below(601) as i32 - 300,
+        _ => random.below(40_001) as i32 - 20_000,
+    }
+}
+
 /// k rows below 2^n that have no pattern.
 fn any_rows(random: &mut Random, n: usize, k: usize) -> Vec<u64> {
     (0..k).map(|_| random.next() >> (64 - n)).collect()
@@ -185,7 +192,7 @@ fn every_shape() {
     for n in 1..=64 {
         for k in 1..=n.min(12) {
             let rows = independent_rows(&mut random, n, k);
-            let card = card_of(n as u8, k as u8, random.next() as u16, &rows);
+            let card = offset_card(any_offset(&mut random), n as u8, k as u8, random.next() as u16, &rows);
             assert!(check_card(&card).is_ok());
             both_answer(&card, &mut random, if k < 8 { 30 } else { 3 });
         }
@@ -199,7 +206,8 @@ fn small_codes_of_random_rows() {
         let n = 1 + random.below(16);
         let k = 1 + random.below(n.min(5));
         let rows = any_rows(&mut random, n, k);
-        both_answer(&card_of(n as u8, k as u8, random.next() as u16, &rows), &mut random, 8);
+        let offset = any_offset(&mut random);
+        both_answer(&offset_card(offset, n as u8, k as u8, random.next() as u16, &rows), &mut random, 8);
     }
 }
 
@@ -280,12 +288,12 @@ fn every_word_and_every_position_of_small_cards() {
 #[test]
 fn cards_that_are_not_sound() {
     let mut random = Random(5);
-    for round in 0..3000 {
+    for round in 0..4000 {
         let n = 1 + random.below(64);
         let k = 1 + random.below(n.min(12)).min(6);
         let rows = independent_rows(&mut random, n, k);
         let mut card = card_of(n as u8, k as u8, random.next() as u16, &rows);
-        match round % 6 {
+        match round % 8 {
             // any byte of any value, the check kept or made right again
             0 => card[random.below(512)] = random.next() as u8,
             1 => {
@@ -308,7 +316,21 @@ fn cards_that_are_not_sound() {
                 let mut rows = rows.clone();
                 let (to, from) = (random.below(k), random.below(k));
                 rows[to] = if to == from { 0 } else { rows[from] };
-                card = card_of(n as u8, k as u8, 9, &rows);
+                let offset = [0, -20_000, 20_001][random.below(3)];
+                card = offset_card(offset, n as u8, k as u8, 9, &rows);
+            }
+            // an offset around the ends of its range, with a stray bit behind it now and then
+            5 => {
+                let past = random.below(5) as i32 - 2;
+                card = offset_card([-20_000, 20_000][random.below(2)] + past, n as u8, k as u8, 9, &rows);
+                card[104] = [0, 0, 0, 1][random.below(4)];
+                seal(&mut card);
+            }
+            // any of its bytes of any value
+            6 => {
+                card[100 + random.below(4)] = random.next() as u8;
+                card[100 + random.below(4)] = random.next() as u8;
+                seal(&mut card);
             }
             _ => card.truncate(random.below(512)),
         }

@@ -7,7 +7,7 @@
 
 #include "dunnavish.h"
 
-#define KNOWN 15
+#define KNOWN 16
 
 static int failed = 0;
 
@@ -22,7 +22,7 @@ static void expect(int holds, const char *what, unsigned long number)
 /* Every status has a text of its own, and every other number the same one, which is none of them. */
 static void status_texts(void)
 {
-    static const uint32_t known[KNOWN] = {0, 1, 2, 3, 4, 5, 6, 7, 8, 9, 10, 11, 12, 13, 100};
+    static const uint32_t known[KNOWN] = {0, 1, 2, 3, 4, 5, 6, 7, 8, 9, 10, 11, 12, 13, 14, 100};
     const char *unknown = dunnavish_status_text(UINT32_MAX);
     uint32_t status;
     int i, j;
@@ -34,7 +34,7 @@ static void status_texts(void)
         for (j = 0; j < i; j++)
             expect(strcmp(text, dunnavish_status_text(known[j])) != 0, "the text of another for status", known[i]);
     }
-    for (status = 14; status < 100000; status++)
+    for (status = 15; status < 100000; status++)
         if (status != 100)
             expect(strcmp(dunnavish_status_text(status), unknown) == 0, "a text for the unknown status", status);
 }
@@ -82,6 +82,32 @@ static void made_card(void)
     expect(dunnavish_make_card(14, 0, 2, card, 511) == DUNNAVISH_VALUE_COUNT, "card of bytes", 511);
 }
 
+/*
+ * The card of order 0 in 2 variables for track 14 has offset 0, and check 1 * 4 + 2 * 1 + 4 * 14 + 12 * 15 = 242. Offset -1 is
+ * four bytes of 255: check 242 + 255 * (101 + 102 + 103 + 104) - 65521 = 39271 = 153 * 256 + 103. With 127 for the first of them
+ * it is 2147483647: check 39271 - 128 * 101 = 26343 = 102 * 256 + 231.
+ */
+static void offsets(void)
+{
+    uint8_t card[DUNNAVISH_CARD_BYTES];
+    int32_t mm[DUNNAVISH_NUMBER_VALUES] = {0};
+
+    expect(dunnavish_make_card(14, 0, 2, card, sizeof card) == DUNNAVISH_OK, "no card of order", 0);
+    expect(card[510] == 0 && card[511] == 242, "made card's check", 242);
+    expect(dunnavish_millimetres(card, sizeof card, 1, mm, DUNNAVISH_NUMBER_VALUES) == DUNNAVISH_OK, "no distance of", 1);
+    expect(mm[0] == 50, "distance of", 1);
+    memset(card + 100, 255, 4);
+    card[510] = 153;
+    card[511] = 103;
+    expect(dunnavish_millimetres(card, sizeof card, 0, mm, DUNNAVISH_NUMBER_VALUES) == DUNNAVISH_OK, "no distance of", 0);
+    expect(mm[0] == -1, "distance of", 0);
+    card[100] = 127;
+    card[510] = 102;
+    card[511] = 231;
+    expect(dunnavish_millimetres(card, sizeof card, 0, mm, DUNNAVISH_NUMBER_VALUES) == DUNNAVISH_CARD_OFFSET, "no refusal", 14);
+    expect(mm[0] == -1, "a number changed by refusal", 14);
+}
+
 int main(int argc, char **argv)
 {
     char version[32];
@@ -91,5 +117,6 @@ int main(int argc, char **argv)
     status_texts();
     bytes_of_words(argc > 1 ? argv[1] : "examples/cardB");
     made_card();
+    offsets();
     return failed;
 }

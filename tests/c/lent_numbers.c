@@ -1,7 +1,7 @@
 /*
- * Lends the calls numbers of every count from 0 to 9, and the call that makes a card bytes of many counts: only the call's own
- * count is served, any other is answered 100 before anything else is looked at, and nothing is written then, nor past the values
- * or the card. A refused call changes nothing either.
+ * Lends the calls numbers of every count from 0 to 9, signed ones for a distance, and the call that makes a card bytes of many
+ * counts: only the call's own count is served, any other is answered 100 before anything else is looked at, and nothing is
+ * written then, nor past the values or the card. A refused call changes nothing either.
  */
 #include <stdio.h>
 #include <string.h>
@@ -10,24 +10,26 @@
 
 #define LENT 16
 #define MARK 0xA5A5A5A5u
+#define SIGNED_MARK (-1515870811) /* the same bytes as MARK */
 #define LENT_BYTES 1024
 #define MARKED_BYTE 0xA5
 #define COUNT_OF(list) (sizeof(list) / sizeof *(list))
 
-enum { CHECK, READ, START, MILLIMETRES, VOTE, CALLS };
+enum { CHECK, READ, START, VOTE, CALLS };
 static const size_t counts[CALLS] = {DUNNAVISH_CARD_VALUES, DUNNAVISH_READ_VALUES, DUNNAVISH_NUMBER_VALUES,
-                                     DUNNAVISH_NUMBER_VALUES, DUNNAVISH_VOTE_VALUES};
+                                     DUNNAVISH_VOTE_VALUES};
 
-/* Card B: n 3, k 1, track 14, row 7, check 145. */
+/* Card B: n 3, k 1, track 14, row 7; its check is 145 where the offset is 0. */
 static uint8_t card[DUNNAVISH_CARD_BYTES];
 static const uint8_t word[2] = {0x7F, 0x00};
 static uint32_t values[LENT];
 static int failed = 0;
 
-/* A call: on card B, of which `card_bytes` are lent, or of a vote on a chunk of the code of order r in m variables. */
+/* A call: on card B with an offset, `card_bytes` of it lent, or of a vote on a chunk of the code of order r in m variables. */
 struct trial {
     int which;
     size_t card_bytes;
+    int32_t offset;
     uint32_t r, m;
     uint64_t chunk;
     uint32_t status;                          /* what is answered where the count is the call's */
@@ -36,36 +38,63 @@ struct trial {
 
 /* Order 1 in 3 variables has rows FF, AA, CC, F0, D 4 and t 1: AB is one bit from AA, number 3; 03 is two bits from 00. */
 static const struct trial trials[] = {
-    {CHECK, 512, 0, 0, 0, 0, {3, 1, 14, 3, 1, 15, 15}},
-    {CHECK, 511, 0, 0, 0, 1, {0}},
-    {READ, 512, 0, 0, 0, 0, {7, 0, 2}},
-    {READ, 511, 0, 0, 0, 1, {0}},
-    {START, 512, 0, 0, 0, 0, {15}},
-    {START, 511, 0, 0, 0, 1, {0}},
-    {MILLIMETRES, 512, 0, 0, 0, 0, {350}},
-    {MILLIMETRES, 511, 0, 0, 0, 1, {0}},
-    {VOTE, 0, 1, 3, 0xAA, 0, {3, 0}},
-    {VOTE, 0, 1, 3, 0xAB, 0, {3, 1}},
-    {VOTE, 0, 1, 3, 0x03, 10, {0}},
+    {CHECK, 512, 0, 0, 0, 0, 0, {3, 1, 14, 3, 1, 15, 15}},
+    {CHECK, 511, 0, 0, 0, 0, 1, {0}},
+    {READ, 512, 0, 0, 0, 0, 0, {7, 0, 2}},
+    {READ, 511, 0, 0, 0, 0, 1, {0}},
+    {START, 512, 0, 0, 0, 0, 0, {15}},
+    {START, 511, 0, 0, 0, 0, 1, {0}},
+    /* with an offset the answers are the same; outside its range it is refused, unless a reason before it holds */
+    {CHECK, 512, -20000, 0, 0, 0, 0, {3, 1, 14, 3, 1, 15, 15}},
+    {CHECK, 512, 20001, 0, 0, 0, 14, {0}},
+    {CHECK, 511, 20001, 0, 0, 0, 1, {0}},
+    {READ, 512, -20000, 0, 0, 0, 0, {7, 0, 2}},
+    {READ, 512, -20001, 0, 0, 0, 14, {0}},
+    {START, 512, 20000, 0, 0, 0, 0, {15}},
+    {START, 512, INT32_MIN, 0, 0, 0, 14, {0}},
+    {VOTE, 0, 0, 1, 3, 0xAA, 0, {3, 0}},
+    {VOTE, 0, 0, 1, 3, 0xAB, 0, {3, 1}},
+    {VOTE, 0, 0, 1, 3, 0x03, 10, {0}},
     /* a bit at n or above: with a chunk that is read without it, and with one that is not */
-    {VOTE, 0, 1, 3, 0x1AA, 8, {0}},
-    {VOTE, 0, 1, 3, 0x103, 8, {0}},
-    {VOTE, 0, 1, 3, 0x80000000000000AA, 8, {0}},
-    {VOTE, 0, 0, 6, UINT64_MAX, 0, {1, 0}},
+    {VOTE, 0, 0, 1, 3, 0x1AA, 8, {0}},
+    {VOTE, 0, 0, 1, 3, 0x103, 8, {0}},
+    {VOTE, 0, 0, 1, 3, 0x80000000000000AA, 8, {0}},
+    {VOTE, 0, 0, 0, 6, UINT64_MAX, 0, {1, 0}},
     /* m 0 and 7, r above m, k 15, and numbers that no shift may meet; with a chunk that has every bit set, too */
-    {VOTE, 0, 0, 0, 0, 13, {0}},
-    {VOTE, 0, 1, 7, 0, 13, {0}},
-    {VOTE, 0, 4, 3, 0xAA, 13, {0}},
-    {VOTE, 0, 3, 4, UINT64_MAX, 13, {0}},
-    {VOTE, 0, 1, 64, UINT64_MAX, 13, {0}},
-    {VOTE, 0, UINT32_MAX, UINT32_MAX, UINT64_MAX, 13, {0}},
+    {VOTE, 0, 0, 0, 0, 0, 13, {0}},
+    {VOTE, 0, 0, 1, 7, 0, 13, {0}},
+    {VOTE, 0, 0, 4, 3, 0xAA, 13, {0}},
+    {VOTE, 0, 0, 3, 4, UINT64_MAX, 13, {0}},
+    {VOTE, 0, 0, 1, 64, UINT64_MAX, 13, {0}},
+    {VOTE, 0, 0, UINT32_MAX, UINT32_MAX, UINT64_MAX, 13, {0}},
 };
+
+/* Makes the card: card B with an offset, which is in bytes 100 to 103, two's complement, high byte first; and its check. */
+static void make_card_b(int32_t offset)
+{
+    static const uint32_t others = 1 * 3 + 2 * 1 + 4 * 14 + 12 * 7;
+    uint32_t bytes = (uint32_t)offset, check = others, i;
+
+    memset(card, 0, sizeof card);
+    card[0] = 3;
+    card[1] = 1;
+    card[3] = 14;
+    card[11] = 7;
+    for (i = 0; i < 4; i++) {
+        card[100 + i] = (uint8_t)(bytes >> (24 - 8 * i));
+        check += (101 + i) * card[100 + i];
+    }
+    check %= 65521;
+    card[510] = (uint8_t)(check / 256);
+    card[511] = (uint8_t)(check % 256);
+}
 
 /* One call on marked numbers, of which `count` are lent. */
 static uint32_t call(const struct trial *trial, size_t count)
 {
     size_t i;
 
+    make_card_b(trial->offset);
     for (i = 0; i < LENT; i++)
         values[i] = MARK;
     switch (trial->which) {
@@ -75,8 +104,6 @@ static uint32_t call(const struct trial *trial, size_t count)
         return dunnavish_read_word(card, trial->card_bytes, word, sizeof word, values, count);
     case START:
         return dunnavish_block_start(card, trial->card_bytes, 1, values, count);
-    case MILLIMETRES:
-        return dunnavish_millimetres(card, trial->card_bytes, 7, values, count);
     default:
         return dunnavish_vote_chunk(trial->r, trial->m, trial->chunk, values, count);
     }
@@ -110,6 +137,61 @@ static void numbers(void)
                 failed = 1;
             }
         }
+}
+
+/* The distance of a position on card B with an offset, `card_bytes` of it lent. */
+static const struct distance {
+    int32_t offset;
+    size_t card_bytes;
+    uint32_t position;
+    uint32_t status;  /* what is answered where one number is lent */
+    int32_t expected; /* and the distance where that is 0 */
+} distances[] = {
+    {0, 512, 7, 0, 350},
+    {0, 511, 7, 1, 0},
+    {-20000, 512, 0, 0, -20000},
+    {-20000, 512, 15, 0, -19250},
+    {-351, 512, 7, 0, -1},
+    {-350, 512, 7, 0, 0},
+    {-1, 512, 0, 0, -1},
+    {1, 512, 0, 0, 1},
+    {20000, 512, 15, 0, 20750},
+    {-20000, 512, 16, 7, 0},
+    {20000, 512, UINT32_MAX, 7, 0},
+    {-20001, 512, 0, 14, 0},
+    {20001, 512, 16, 14, 0},
+    {INT32_MIN, 512, 0, 14, 0},
+    {INT32_MAX, 512, 0, 14, 0},
+    {INT32_MIN, 511, 0, 1, 0},
+};
+
+/* Asks for a distance in `count` of some marked numbers: the first is to be the distance or stay, the others stay. */
+static void distance_in(const struct distance *trial, size_t count)
+{
+    uint32_t expected = count == DUNNAVISH_NUMBER_VALUES ? trial->status : 100, status;
+    int32_t lent[LENT], left[LENT];
+    size_t i;
+
+    for (i = 0; i < LENT; i++)
+        lent[i] = left[i] = SIGNED_MARK;
+    if (expected == 0)
+        left[0] = trial->expected;
+    make_card_b(trial->offset);
+    status = dunnavish_millimetres(card, trial->card_bytes, trial->position, lent, count);
+    if (status != expected || memcmp(lent, left, sizeof lent) != 0) {
+        printf("lent_numbers: offset %d, position %u, count %zu: status %u, first number %d\n", (int)trial->offset,
+               (unsigned)trial->position, count, (unsigned)status, (int)lent[0]);
+        failed = 1;
+    }
+}
+
+static void signed_numbers(void)
+{
+    size_t i, count;
+
+    for (i = 0; i < COUNT_OF(distances); i++)
+        for (count = 0; count < 10; count++)
+            distance_in(&distances[i], count);
 }
 
 /* Makes the card of a code for track 270 in `count` lent bytes: the status is to be `expected`, and what they hold `left`. */
@@ -162,12 +244,8 @@ static void cards(void)
 
 int main(void)
 {
-    card[0] = 3;
-    card[1] = 1;
-    card[3] = 14;
-    card[11] = 7;
-    card[511] = 145;
     numbers();
+    signed_numbers();
     cards();
     return failed;
 }

@@ -1,8 +1,8 @@
 /*
  * Measures the stack that a call takes, and fails if it is not below what include/dunnavish.h promises. Each call runs on a
  * thread whose stack is painted first; a thread that calls nothing is subtracted. Cards of every length n, and of the fewest and
- * the most rows, and positions over the whole track; every Reed-Muller code that has a card. Linked with -Wl,-z,now, so that
- * memcpy and memset are bound before the calls.
+ * the most rows, with offsets, and positions over the whole track; every Reed-Muller code that has a card. Linked with
+ * -Wl,-z,now, so that memcpy and memset are bound before the calls.
  */
 #include <pthread.h>
 #include <stdio.h>
@@ -27,6 +27,7 @@ static uint8_t card[DUNNAVISH_CARD_BYTES];
 static uint8_t word[DUNNAVISH_WIDEST_WORD_BYTES];
 static size_t word_bytes;
 static uint32_t values[DUNNAVISH_CARD_VALUES];
+static int32_t distance[DUNNAVISH_NUMBER_VALUES];
 static uint32_t position, r, m, status;
 static uint64_t chunk;
 static unsigned char *stack;
@@ -57,7 +58,7 @@ static void *called(void *which)
         status = dunnavish_block_start(card, sizeof card, 1, values, DUNNAVISH_NUMBER_VALUES);
         break;
     case MILLIMETRES:
-        status = dunnavish_millimetres(card, sizeof card, position, values, DUNNAVISH_NUMBER_VALUES);
+        status = dunnavish_millimetres(card, sizeof card, position, distance, DUNNAVISH_NUMBER_VALUES);
         break;
     case MAKE:
         status = dunnavish_make_card(14, r, m, card, sizeof card);
@@ -104,9 +105,10 @@ static void measure(int which)
         most[which] = used;
 }
 
-/* A card of independent rows: row z has bit z set, and of the bits below k no other. */
+/* A card of independent rows: row z has bit z set, and of the bits below k no other. The offset is any within its range. */
 static void make_card(int n, int k)
 {
+    uint32_t offset = (uint32_t)(next_random() % 40001) - 20000;
     unsigned sum = 0;
     int z, i;
 
@@ -121,6 +123,8 @@ static void make_card(int n, int k)
         for (i = 0; i < 8; i++)
             card[4 + 8 * z + i] = (uint8_t)(row >> (56 - 8 * i));
     }
+    for (i = 0; i < 4; i++)
+        card[100 + i] = (uint8_t)(offset >> (24 - 8 * i));
     for (i = 0; i < 510; i++)
         sum = (sum + (unsigned)(i + 1) * card[i]) % 65521;
     card[510] = (uint8_t)(sum / 256);

@@ -6,8 +6,13 @@ pub fn check_of(bytes: &[u8]) -> u32 {
     (sum % 65_521) as u32
 }
 
-/// A card with these rows and the right check, sound or not.
+/// A card with these rows, offset 0 and the right check, sound or not.
 pub fn card_of(n: u8, k: u8, track: u16, rows: &[u64]) -> Vec<u8> {
+    offset_card(0, n, k, track, rows)
+}
+
+/// A card with this offset, these rows and the right check, sound or not.
+pub fn offset_card(offset: i32, n: u8, k: u8, track: u16, rows: &[u64]) -> Vec<u8> {
     let mut bytes = vec![0u8; 512];
     bytes[0] = n;
     bytes[1] = k;
@@ -15,6 +20,7 @@ pub fn card_of(n: u8, k: u8, track: u16, rows: &[u64]) -> Vec<u8> {
     for (z, row) in rows.iter().enumerate() {
         bytes[4 + 8 * z..12 + 8 * z].copy_from_slice(&row.to_be_bytes());
     }
+    bytes[100..104].copy_from_slice(&offset.to_be_bytes());
     seal(&mut bytes);
     bytes
 }
