@@ -14,7 +14,7 @@ pub type Lent = [u8; LENT];
 fn answered<T>(tally: &mut Tally, calls: &str, served: &str, second: Result<T, Refusal>, unlike: bool) {
     match second {
         Ok(_) => tally.add(served, true),
-        Err(1..=5) if calls != CARDS => tally.add(&format!("{calls} on refused cards"), true),
+        Err(1..=5 | 14) if calls != CARDS => tally.add(&format!("{calls} on refused cards"), true),
         Err(refusal) => tally.add(&format!("{calls} refused {refusal}"), true),
     }
     tally.add("answers compared", true);
@@ -28,14 +28,22 @@ pub fn check(tally: &mut Tally, card: &[u8], second: Result<Facts, Refusal>) {
 }
 
 /// A block start or a distance.
-pub fn number(tally: &mut Tally, answer: Result<u32, Refusal>, second: Result<u32, Refusal>) {
-    answered(tally, "starts and distances", "starts and distances", second, answer != second);
+pub fn number<T: PartialEq>(tally: &mut Tally, answer: Result<T, Refusal>, second: Result<T, Refusal>) {
+    let unlike = answer != second;
+    answered(tally, "starts and distances", "starts and distances", second, unlike);
+}
+
+/// The distance of a position.
+pub fn distance(tally: &mut Tally, card: &[u8], position: u32) {
+    let second = second_reader::millimetres(card, position);
+    number(tally, library::millimetres(card, position), second);
+    tally.add("distances below 0", second.map_or(false, |distance| distance < 0));
 }
 
 /// A number as a block, whose start is asked for, and as a position, whose distance is.
 pub fn numbers(tally: &mut Tally, card: &[u8], x: u32) {
     number(tally, library::block_start(card, x), second_reader::block_start(card, x));
-    number(tally, library::millimetres(card, x), second_reader::millimetres(card, x));
+    distance(tally, card, x);
 }
 
 /// A write into `len` bytes.

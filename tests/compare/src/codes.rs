@@ -37,7 +37,7 @@ fn pairs() -> impl Iterator<Item = (u32, u32)> {
 /// none, 512 zeros stand for it, which are no sound card.
 fn cards(tally: &mut Tally, r: u32, m: u32, reed_muller: &ReedMuller) {
     for track in TRACKS {
-        let made = Card { track: track.into(), code: reed_muller.code.clone() }.bytes();
+        let made = Card { track: track.into(), code: reed_muller.code.clone(), offset: 0 }.bytes();
         calls::make(tally, track, r, m, Ok(made));
         let facts = second_reader::check_card(&made).expect("the second reader makes sound cards");
         assert_eq!(facts, figures(r, m, track, facts.last), "the second reader's figures of order {r} in {m} variables");
@@ -59,7 +59,7 @@ fn choose(m: u32, size: u32) -> u32 {
 
 /// Chunks of n bits, readable and not, by the library's votes and, in a word, by its search.
 fn chunks_of_n_bits(tally: &mut Tally, r: u32, m: u32, reed_muller: &ReedMuller) {
-    let made = Card { track: 14, code: reed_muller.code.clone() }.bytes();
+    let made = Card { track: 14, code: reed_muller.code.clone(), offset: 0 }.bytes();
     let track = Track::of_card(&made).expect("the second reader makes sound cards");
     for chunk in chunks::of_code(reed_muller) {
         let (answer, second) = (library::vote_chunk(r, m, chunk), reed_muller.read_chunk(chunk));

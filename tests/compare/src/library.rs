@@ -32,7 +32,7 @@ pub fn block_start(card: &[u8], block: u32) -> Result<u32, Refusal> {
     dunnavish::block_start(card, block).map_err(number)
 }
 
-pub fn millimetres(card: &[u8], position: u32) -> Result<u32, Refusal> {
+pub fn millimetres(card: &[u8], position: u32) -> Result<i32, Refusal> {
     dunnavish::millimetres(card, position).map_err(number)
 }
 

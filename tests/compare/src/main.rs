@@ -1,6 +1,6 @@
-//! Compares the library's public calls with the second reader, on cards of every shape and with faults, on words damaged in many
-//! ways, and on the Reed-Muller codes and their chunks, and prints counts. A call is compared in `calls.rs`, a count is a line of
-//! `tally.rs`, and what is tried stands in `trials`.
+//! Compares the library's public calls with the second reader, on cards of every shape, with faults and with offsets, on words
+//! damaged in many ways, and on the Reed-Muller codes and their chunks, and prints counts. A call is compared in `calls.rs`, a
+//! count is a line of `tally.rs`, and what is tried stands in `trials`.
 //!
 //! How the file `expected` was made: every count but the last nine follows from how the cards, words and chunks are made and from
 //! what the second reader answers, and none of them from the library. The last nine are of the library, and are 0 where it is
@@ -15,10 +15,19 @@ mod trials;
 
 use second_reader::track::Track;
 use tally::Tally;
-use trials::{cards, faults, shapes};
+use trials::shapes::{self, Shape};
+use trials::{cards, faults, offsets};
 
 /// The shapes whose cards are also tried with every two faults at once.
 const WITH_FAULTS: [usize; 4] = [63, 65, 77, 90];
+
+/// The shapes of card B (n 3, k 1, D 3) and of the largest card (n 64, k 12).
+const CARD_B: usize = 2;
+const LARGEST: usize = 267;
+
+/// The shapes whose cards are also tried with offsets at the borders: card B's, that of the widest words, two with several rows,
+/// and one with rows that are dependent.
+const WITH_OFFSETS: [usize; 5] = [CARD_B, 63, 77, 90, 199];
 
 fn main() {
     let mut tally = Tally::new();
@@ -32,8 +41,29 @@ fn main() {
             card(&mut tally, &faults::faulty(right, a, b), shapes.len() as u64);
         }
     }
+    with_offsets(&mut tally, &shapes);
     codes::all(&mut tally);
     tally.print();
+}
+
+/// Cards of some shapes with offsets at the borders, and the largest with those at the ends of the range. Then every offset on
+/// card B: its check, and the distances at both ends of its track.
+fn with_offsets(tally: &mut Tally, shapes: &[Shape]) {
+    let laid = |i: usize, offset| cards::sealed(cards::with_offset(cards::of_shape(&shapes[i], i as u16), offset));
+    for i in WITH_OFFSETS {
+        for (id, offset) in (shapes.len() as u64..).zip(offsets::ENDS.into_iter().chain(offsets::BORDERS)) {
+            card(tally, &laid(i, offset), id);
+        }
+    }
+    for offset in offsets::ENDS {
+        card(tally, &laid(LARGEST, offset), shapes.len() as u64);
+    }
+    for offset in offsets::every() {
+        let card = laid(CARD_B, offset);
+        calls::check(tally, &card, second_reader::check_card(&card));
+        calls::distance(tally, &card, 0);
+        calls::distance(tally, &card, 15);
+    }
 }
 
 /// A card of any bytes. What is tried of it is chosen by `id`.

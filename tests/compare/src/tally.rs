@@ -1,7 +1,7 @@
 //! The counts that the program prints.
 
 /// The printed lines in their order: a name each, under which something is counted.
-const LINES: [&str; 49] = [
+const LINES: [&str; 51] = [
     // What the second reader answered, call by call.
     "cards sound",
     "cards refused 1",
@@ -9,11 +9,13 @@ const LINES: [&str; 49] = [
     "cards refused 3",
     "cards refused 4",
     "cards refused 5",
+    "cards refused 14",
     "positions written",
     "writes on refused cards",
     "writes refused 6",
     "writes refused 7",
     "starts and distances",
+    "distances below 0",
     "starts and distances on refused cards",
     "starts and distances refused 6",
     "starts and distances refused 7",

@@ -1,9 +1,9 @@
-//! The bytes of a card of a shape, and its check.
+//! The bytes of a card of a shape, its offset and its check.
 use super::shapes::Shape;
 
 pub type Card = [u8; 512];
 
-/// A card of a shape for some track, with no check yet.
+/// A card of a shape for some track, with offset 0 and no check yet.
 pub fn of_shape(shape: &Shape, track: u16) -> Card {
     let mut card = [0; 512];
     card[0] = shape.n as u8;
@@ -12,6 +12,12 @@ pub fn of_shape(shape: &Shape, track: u16) -> Card {
     for (z, row) in (0..shape.k).zip(card[4..100].chunks_mut(8)) {
         row.copy_from_slice(&shape.row(z).to_be_bytes());
     }
+    card
+}
+
+/// The card with an offset: bytes 100 to 103, two's complement, high byte first.
+pub fn with_offset(mut card: Card, offset: i32) -> Card {
+    card[100..104].copy_from_slice(&offset.to_be_bytes());
     card
 }
 

@@ -1,5 +1,5 @@
 //! Cards with faults.
-use super::cards::{sealed, Card};
+use super::cards::{sealed, with_offset, Card};
 
 #[derive(Clone, Copy)]
 pub enum Fault {
@@ -14,7 +14,7 @@ pub enum Fault {
 
 use Fault::{Bytes, Check, Length};
 
-const FAULTS: [Fault; 17] = [
+const FAULTS: [Fault; 21] = [
     Fault::None,
     Length(511),
     Length(513),
@@ -30,8 +30,13 @@ const FAULTS: [Fault; 17] = [
     // a bit at place 63; an unused row, the first and the last unused byte not zero
     Bytes(|card| card[4] |= 0x80),
     Bytes(|card| card[99] = 1),
-    Bytes(|card| card[100] = 1),
+    Bytes(|card| card[104] = 1),
     Bytes(|card| card[509] = 255),
+    // offsets: one past either end of the range, and 16,777,216; then an end of the range, which is no fault itself
+    Bytes(|card| *card = with_offset(*card, 20_001)),
+    Bytes(|card| *card = with_offset(*card, -20_001)),
+    Bytes(|card| card[100] = 1),
+    Bytes(|card| *card = with_offset(*card, -20_000)),
     // row 0 zero, row 1 like row 0, where rows have at most eight bits
     Bytes(|card| card[11] = 0),
     Bytes(|card| card[19] = card[11]),
