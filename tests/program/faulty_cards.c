@@ -103,6 +103,8 @@ int main(int count, char **words)
         card[3] = (uint8_t)(numbers[0] / 256);
         set_check(card);
     }
+    if (has("an offset of 1") && refusal == 0)
+        set_offset(card, 1);
     card[CARD_BYTES] = '\n';
     if (refusal == 0 || has("zeros for a refused card"))
         put(card, has("a line feed after the card") ? CARD_BYTES + 1 : CARD_BYTES);

@@ -85,6 +85,34 @@ static int cut_off(void)
     return read_error != 0 && !has("the end after a failed read");
 }
 
+/* The offset of a card: bytes 100 to 103, in two's complement, high byte first. */
+static int32_t offset_of(const uint8_t *card)
+{
+    return (int32_t)((uint32_t)card[100] << 24 | (uint32_t)card[101] << 16 | (uint32_t)card[102] << 8 | card[103]);
+}
+
+/* What the second reader answers for a card, or what a fault makes of its offset. */
+static uint32_t check_card(uint8_t *card, size_t count)
+{
+    uint32_t refusal = second_check_card(card, count, card_values, CARD_VALUES);
+    int32_t offset = count == CARD_BYTES ? offset_of(card) : 0;
+
+    if (offset == 0 || refusal == 2 || refusal == 3)
+        return refusal;
+    if (has("an offset is refused 4"))
+        return 4;
+    if ((has("20,000 is outside the range") && offset == 20000) || (has("-20,000 is outside the range") && offset == -20000))
+        return 14;
+    if (has("14 before 4") && (offset < -20000 || offset > 20000))
+        return 14;
+    if (refusal == 14 && (has("14 after 5") || has("no refusal 14"))) {
+        set_offset(card, 0);
+        refusal = second_check_card(card, count, card_values, CARD_VALUES);
+        return refusal == 0 && has("14 after 5") ? 14 : refusal;
+    }
+    return refusal;
+}
+
 /* Reads the card and prints its line. Answers 0 where it is refused. */
 static int card_line(void)
 {
@@ -97,7 +125,7 @@ static int card_line(void)
         return 0;
     if (has("a card of any length"))
         held_bytes = held_bytes < CARD_BYTES ? CARD_BYTES : held_bytes;
-    refusal = second_check_card(held, held_bytes < CARD_BYTES ? held_bytes : CARD_BYTES, card_values, CARD_VALUES);
+    refusal = check_card(held, held_bytes < CARD_BYTES ? held_bytes : CARD_BYTES);
     if (refusal != 0) {
         line("card refused %u\n", has("every card is refused 2") ? 2 : refusal);
         if (has("a last line after a refused card"))
@@ -125,6 +153,8 @@ static void word_line(const uint8_t *card, const uint8_t *word, size_t width)
         return;
     }
     words_read++;
+    if (has("the offset moves positions"))
+        v[0] += (uint32_t)(offset_of(card) / 50);
     line("%zu at %u residual %u rule %u\n", number, v[0], has("no residual") ? 0 : v[1],
          has("rule 1 as 2") && v[2] == 1 ? 2 : v[2]);
 }

@@ -2,7 +2,7 @@
  * What tramcard writes. Request P1 is silent on the program; what is held is this:
  *
  *   - Three arguments, TRACK, R and M, each a number in decimal with or without leading zeros, of a code within the limits: the
- *     card's 512 bytes on standard output, as the second reader makes them, and not a word on standard error.
+ *     card's 512 bytes on standard output, as the second reader makes them, with offset 0, and not a word on standard error.
  *   - Anything else: one line on standard error, and nothing on standard output. The line tells the first thing that is wrong:
  *     the count of the arguments; TRACK, R or M, which is empty, has a character that is no digit, or does not fit; refusal 13.
  *   - A write that fails: one line on standard error that ends in the reason, in the C library's words. An interrupted write is
@@ -78,9 +78,12 @@ static void hold_card(uint16_t track, uint32_t r, uint32_t m, const char *form)
 {
     char texts[3][30];
     const char *const arguments[] = {texts[0], texts[1], texts[2], NULL};
+    static const uint8_t no_offset[4];
     uint8_t card[CARD_BYTES];
     uint32_t refusal = second_make_card(track, r, m, card, CARD_BYTES);
 
+    if (refusal == 0 && memcmp(card + 100, no_offset, sizeof no_offset) != 0)
+        give_up("the offset of the second reader's card");
     snprintf(texts[0], sizeof texts[0], form, (unsigned)track);
     snprintf(texts[1], sizeof texts[1], form, (unsigned)r);
     snprintf(texts[2], sizeof texts[2], form, (unsigned)m);

@@ -1,11 +1,12 @@
 /*
  * What tramread prints, byte for byte, on inputs that arrive in one piece and in many: no input; inputs that end inside the card;
  * a card alone; every refused card, with and without bytes after it; every count of bytes short of a word; more words than any
- * buffer holds; cards of many shapes with words of all kinds.
+ * buffer holds; cards of many shapes with words of all kinds; cards with offsets.
  *
  * The expected text is document 01's: its example as it stands there, what it says of single words, its numbers of refused cards,
- * and its form of the lines. What a card and a word are answered otherwise comes from the second reader (tracks.h). Nothing is
- * taken from the program itself. That every rule and every refusal of a word has been met is counted.
+ * with P2's 14, and its form of the lines. What a card and a word are answered otherwise comes from the second reader (tracks.h),
+ * and with an offset it is what they are answered without. Nothing is taken from the program itself. That every rule and every
+ * refusal of a word has been met is counted.
  *
  *     text PROGRAM [MOST]     stops after MOST differences (20)
  *
@@ -182,7 +183,7 @@ static void tails(const struct track *t)
             hold("a tail", t, CARD_BYTES + words[i] * t->width + tail, WAYS(every_way));
 }
 
-/* A refused card, alone and followed by bytes; `number` is the number that document 01 gives it. */
+/* A refused card, alone and followed by bytes; `number` is the number that document 01 or P2 gives it. */
 static void refused_card(const uint8_t *card, uint32_t number)
 {
     static const size_t after[] = {0, 2, 600};
@@ -223,7 +224,17 @@ static void refused_byte(size_t place, uint8_t byte, int check_again, uint32_t n
     refused_card(card, number);
 }
 
-/* Refusals 2 to 5, and of two reasons the first. Refusal 1 is an input that ends inside the card. */
+/* A card of these fields with an offset. */
+static void refused_offset(const struct fields *f, int32_t offset, uint32_t number)
+{
+    uint8_t card[CARD_BYTES];
+
+    card_of(f, card);
+    set_offset(card, offset);
+    refused_card(card, number);
+}
+
+/* Refusals 2 to 5, and of two reasons the first. Refusal 1 is an input that ends inside the card; 14 has cards of its own. */
 static void refused_cards(void)
 {
     uint8_t card[CARD_BYTES];
@@ -245,11 +256,63 @@ static void refused_cards(void)
     refused_fields((struct fields){3, 1, 14, {8}}, 4);
     refused_fields((struct fields){3, 1, 14, {7, 1}}, 4);
     refused_fields((struct fields){3, 2, 14, {3, 3, 0, 0, 0, 0, 0, 0, 0, 0, 0, 1}}, 4);
-    refused_byte(100, 1, 1, 4);
+    refused_byte(104, 1, 1, 4);
     refused_byte(509, 255, 1, 4);
     refused_fields((struct fields){3, 1, 14, {0}}, 5);
     refused_fields((struct fields){3, 2, 14, {3, 3}}, 5);
     refused_fields((struct fields){3, 3, 14, {3, 5, 6}}, 5);
+}
+
+/* A track, whose card has offset 0, with other offsets: the text is the same. */
+static void hold_with_offsets(const char *name, const struct track *t, size_t count)
+{
+    static const int32_t within[] = {-20000, -19999, -256, -1, 1, 255, 256, 19999, 20000};
+    size_t i;
+
+    for (i = 0; i < sizeof within / sizeof *within; i++) {
+        set_offset(t->bytes, within[i]);
+        hold(name, t, count, WAYS(quick_ways));
+    }
+    set_offset(t->bytes, 0);
+}
+
+static void sound_offsets(const struct track *few)
+{
+    struct track wide = answered(&widest, 30);
+
+    hold_with_offsets("card B with an offset", few, CARD_BYTES + 40 * few->width + 1);
+    hold_with_offsets("the widest words with an offset", &wide, wide.count);
+    drop(&wide);
+}
+
+/*
+ * Refusal 14, and of it and another reason the first: 14 comes after 4 and before 5. The offsets outside are the first past
+ * either end of the range, the furthest, and three whose lower two bytes are those of one within.
+ */
+static void refused_offsets(void)
+{
+    static const struct fields limits = {65, 1, 14, {7}}, stray = {3, 1, 14, {8}}, dependent = {3, 2, 14, {3, 3}};
+    static const int32_t outside[] = {-20001, 20001, INT32_MIN, INT32_MAX, 65536, 65536 - 20000, 20000 - 65536};
+    uint8_t card[CARD_BYTES];
+    size_t i;
+
+    for (i = 0; i < sizeof outside / sizeof *outside; i++)
+        refused_offset(&card_b, outside[i], 14);
+    for (i = 100; i < 103; i++)
+        refused_byte(i, 128, 1, 14);
+    for (i = 0; i < 2; i++) {
+        refused_offset(&limits, outside[i], 3);
+        refused_offset(&stray, outside[i], 4);
+        refused_offset(&dependent, outside[i], 14);
+    }
+    refused_offset(&dependent, -20000, 5);
+    refused_offset(&dependent, 20000, 5);
+    card_of(&card_b, card);
+    card[104] = 1;
+    set_offset(card, 20001);
+    refused_card(card, 4);
+    card[511] ^= 1;
+    refused_card(card, 2);
 }
 
 /* More than 1,600 of the widest words, and inputs that end at, before and after the sizes that buffers have. */
@@ -284,7 +347,7 @@ static void draw_rows(struct fields *f)
     } while (second_check_card(card, CARD_BYTES, values, CARD_VALUES) == 5);
 }
 
-/* A card of n and k with random rows, and words of all kinds; then the same input with its last bytes cut off. */
+/* A card of n and k with random rows, and words of all kinds; then the same with an offset, and its last bytes cut off. */
 static void random_card(unsigned n, unsigned k, size_t words)
 {
     struct fields f = {n, k, (unsigned)below(65536), {0}};
@@ -295,6 +358,7 @@ static void random_card(unsigned n, unsigned k, size_t words)
     t = answered(&f, words);
     snprintf(name, sizeof name, "a card of n %u, k %u, D %u", n, k, t.card[DISTANCE]);
     hold(name, &t, t.count, WAYS(large_ways));
+    set_offset(t.bytes, (int32_t)below(40001) - 20000);
     if (k == 1)
         hold(name, &t, t.count - below(t.width + 1), WAYS(every_way));
     else
@@ -357,6 +421,8 @@ int main(int count, char **words)
     tails(&few);
     hold("1,700 words of two bytes", &few, few.count, WAYS(every_way));
     refused_cards();
+    sound_offsets(&few);
+    refused_offsets();
     narrow = answered(&card_b, 70000);
     hold("70,000 words of two bytes", &narrow, narrow.count, WAYS(large_ways));
     wide = answered(&widest, 3500);

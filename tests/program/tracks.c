@@ -40,6 +40,17 @@ void set_check(uint8_t *card)
     card[511] = (uint8_t)(sum & 255);
 }
 
+/* Bytes 100 to 103, in two's complement, high byte first. */
+void set_offset(uint8_t *card, int32_t offset)
+{
+    uint32_t bytes = (uint32_t)offset;
+    unsigned i;
+
+    for (i = 0; i < 4; i++)
+        card[100 + i] = (uint8_t)(bytes >> (24 - 8 * i));
+    set_check(card);
+}
+
 void card_of(const struct fields *f, uint8_t *card)
 {
     unsigned z, j;

@@ -49,6 +49,9 @@ struct fields {
 void card_of(const struct fields *f, uint8_t *card);
 void set_check(uint8_t *card);
 
+/* Puts an offset in millimetres on a card (card_of makes it 0), and sets the check again. */
+void set_offset(uint8_t *card, int32_t offset);
+
 /* Numbers that look random and are the same in each run. */
 uint64_t next_number(void);
 uint64_t below(uint64_t limit);
