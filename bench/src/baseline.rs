@@ -1,16 +1,17 @@
-//! Document 01's rules in straightforward Rust, written apart from the library, with words as five 64-bit numbers and counts by
-//! `count_ones`: the baseline of the benchmark, and what the tests of the Rust crate hold the library against. `Kept` holds every
-//! codeword and start of a card that was decoded once.
+//! Document 01's rules, and P2's offset, in straightforward Rust, written apart from the library, with words as five 64-bit
+//! numbers and counts by `count_ones`: the baseline of the benchmark, and what the tests of the Rust crate hold the library
+//! against. `Kept` holds every codeword and start of a card that was decoded once.
 
 /// A word: place p is bit p % 64 of number p / 64.
 pub type Word = [u64; 5];
 
-/// A sound card's code.
+/// A sound card's code, and beside it the track and the offset in millimetres.
 #[derive(Clone, Copy)]
 pub struct Code {
     pub n: usize,
     pub k: usize,
     pub track: u32,
+    pub offset: i32,
     pub distance: usize,
     pub radius: usize,
     pub rows: [u64; 12],
@@ -44,9 +45,13 @@ pub fn decode(card: &[u8]) -> Result<Code, u32> {
     let outside = if n == 64 { 0 } else { u64::MAX << n };
     if rows.iter().any(|row| row & outside != 0)
         || rows[k..].iter().any(|&row| row != 0)
-        || card[100..510].iter().any(|&byte| byte != 0)
+        || card[104..510].iter().any(|&byte| byte != 0)
     {
         return Err(4);
+    }
+    let offset = i32::from_be_bytes(card[100..104].try_into().unwrap());
+    if !(-20_000..=20_000).contains(&offset) {
+        return Err(14);
     }
     let mut distance = u32::MAX;
     let mut word = 0u64;
@@ -59,7 +64,7 @@ pub fn decode(card: &[u8]) -> Result<Code, u32> {
     }
     let distance = distance as usize;
     let track = u32::from(card[2]) * 256 + u32::from(card[3]);
-    Ok(Code { n, k, track, distance, radius: (distance - 1) / 2, rows })
+    Ok(Code { n, k, track, offset, distance, radius: (distance - 1) / 2, rows })
 }
 
 impl Code {
@@ -225,6 +230,22 @@ pub fn write(order: &impl Order, position: u32, lent: &mut [u8]) -> Result<(), u
         bytes.copy_from_slice(&bits.to_le_bytes()[..length]);
     }
     Ok(())
+}
+
+/// The start of a block.
+pub fn block_start(order: &impl Order, block: u32) -> Result<u32, u32> {
+    if block as usize > order.code().last_block() {
+        return Err(7);
+    }
+    Ok(order.start(block as usize) as u32)
+}
+
+/// The distance of a position from the buffer face, in millimetres.
+pub fn millimetres(order: &impl Order, position: u32) -> Result<i32, u32> {
+    if position as usize > order.last() {
+        return Err(7);
+    }
+    Ok(order.code().offset + 50 * position as i32)
 }
 
 /// A position and its residual.

@@ -1,13 +1,18 @@
-//! The calls that are measured, by the library and by the baselines, on the same words.
-use crate::baseline::{self, decode, Kept};
+//! The calls on a card that are measured, by the library and by the baselines, on the same words and positions.
+use crate::baseline::{self, decode, Kept, Order};
 use crate::inputs;
 use crate::nested::{EachCall, KeptNested};
 use std::hint::black_box;
 use std::time::Instant;
 
-/// Each call with its ways, the library's first.
-pub const CALLS: [(&str, &[&str]); 2] =
-    [("read", &["library", "kept", "kept-nested", "each-call"]), ("write", &["library", "kept", "each-call"])];
+/// Each call with its ways, the library's first. A baseline that keeps its card has nothing to check.
+pub const CALLS: [(&str, &[&str]); 5] = [
+    ("check", &["library", "each-call"]),
+    ("read", &["library", "kept", "kept-nested", "each-call"]),
+    ("write", &["library", "kept", "each-call"]),
+    ("start", &["library", "kept", "each-call"]),
+    ("millimetres", &["library", "kept", "each-call"]),
+];
 
 /// Calls of several kinds, each of which can be made in several ways.
 pub trait Calls {
@@ -50,11 +55,23 @@ impl Work {
         Work { card, positions, words, kept: Kept::new(code), nested: KeptNested(Kept::new(code)) }
     }
 
+    fn check_card(&self, way: &str) -> u64 {
+        let card = black_box(&self.card[..]);
+        let figures = match way {
+            "library" => dunnavish::check_card(card)
+                .map(|card| [card.length, card.rows, card.track, card.distance, card.radius, card.word_bits, card.last])
+                .map_err(number),
+            "kept" => Ok(figures(&self.kept)),
+            _ => decode(card).map(|code| figures(&EachCall(code))),
+        };
+        figures.map_or_else(refused, |figures| figures.into_iter().fold(0, |sum, figure| sum * 31 + u64::from(figure)))
+    }
+
     fn read(&self, way: &str, word: &[u8]) -> u64 {
         one_number(match way {
             "library" => dunnavish::read_word(&self.card, word)
                 .map(|r| baseline::Read { position: r.position, residual: r.residual, rule: r.rule.number() })
-                .map_err(|refusal| refusal.number().unwrap()),
+                .map_err(number),
             "kept" => baseline::read(&self.kept, word),
             "kept-nested" => baseline::read(&self.nested, word),
             _ => decode(&self.card).and_then(|code| baseline::read(&EachCall(code), word)),
@@ -63,11 +80,31 @@ impl Work {
 
     fn write(&self, way: &str, position: u32, word: &mut [u8]) -> u64 {
         let answer = match way {
-            "library" => dunnavish::write_word(&self.card, position, word).map_err(|refusal| refusal.number().unwrap()),
+            "library" => dunnavish::write_word(&self.card, position, word).map_err(number),
             "kept" => baseline::write(&self.kept, position, word),
             _ => decode(&self.card).and_then(|code| baseline::write(&EachCall(code), position, word)),
         };
         answer.map_or_else(u64::from, |()| 0)
+    }
+
+    fn block_start(&self, way: &str, block: u32) -> u64 {
+        let card = black_box(&self.card[..]);
+        let start = match way {
+            "library" => dunnavish::block_start(card, block).map_err(number),
+            "kept" => baseline::block_start(&self.kept, block),
+            _ => decode(card).and_then(|code| baseline::block_start(&EachCall(code), block)),
+        };
+        start.map_or_else(refused, u64::from)
+    }
+
+    fn millimetres(&self, way: &str, position: u32) -> u64 {
+        let card = black_box(&self.card[..]);
+        let distance = match way {
+            "library" => dunnavish::millimetres(card, position).map_err(number),
+            "kept" => baseline::millimetres(&self.kept, position),
+            _ => decode(card).and_then(|code| baseline::millimetres(&EachCall(code), position)),
+        };
+        distance.map_or_else(refused, |distance| u64::from(distance as u32))
     }
 
     /// Fails unless a way answers as the baseline that keeps its card does.
@@ -83,26 +120,49 @@ impl Calls for Work {
     }
 
     fn all(&self, call: &str, way: &str, count: usize) -> u64 {
-        let mut sum = 0u64;
-        if call == "read" {
-            for word in &self.words[..count] {
-                sum = sum.rotate_left(1) ^ self.read(way, black_box(word));
-            }
-        } else {
-            let mut word = vec![0; self.words[0].len()];
-            for &position in &self.positions[..count] {
-                let answer = self.write(way, black_box(position), &mut word);
-                sum = word.iter().fold(sum.rotate_left(1) ^ answer, |sum, &byte| sum.wrapping_mul(31) ^ u64::from(byte));
-            }
-        }
-        black_box(sum)
+        let positions = self.positions[..count].iter().map(|&position| black_box(position));
+        let last_block = self.kept.code().last_block() as u32;
+        let mut word = vec![0; self.words[0].len()];
+        black_box(match call {
+            "check" => mixed(positions.map(|_| self.check_card(way))),
+            "read" => mixed(self.words[..count].iter().map(|word| self.read(way, black_box(word)))),
+            "write" => mixed(positions.map(|position| {
+                let answer = self.write(way, position, &mut word);
+                word.iter().fold(answer, |sum, &byte| sum.wrapping_mul(31) ^ u64::from(byte))
+            })),
+            "start" => mixed(positions.map(|position| self.block_start(way, position & last_block))),
+            "millimetres" => mixed(positions.map(|position| self.millimetres(way, position))),
+            _ => panic!("no call {call}"),
+        })
     }
 }
 
-/// A read's answer in one number, so that answers are compared and not optimized away.
+/// Answers mixed into one number, so that they are compared and not optimized away.
+pub fn mixed(answers: impl Iterator<Item = u64>) -> u64 {
+    answers.fold(0, |sum: u64, answer| sum.rotate_left(1) ^ answer)
+}
+
+/// What a sound card is answered with.
+fn figures(order: &impl Order) -> [u32; 7] {
+    let code = order.code();
+    let [n, k, distance, radius] = [code.n, code.k, code.distance, code.radius].map(|figure| figure as u32);
+    [n, k, code.track, distance, radius, code.bits() as u32, order.last() as u32]
+}
+
+/// The number of the library's refusal.
+fn number(refusal: dunnavish::Refusal) -> u32 {
+    refusal.number().unwrap()
+}
+
+/// A refusal as a number that is no answer's.
+fn refused(refusal: u32) -> u64 {
+    u64::MAX - u64::from(refusal)
+}
+
+/// A read's answer in one number.
 fn one_number(answer: Result<baseline::Read, u32>) -> u64 {
     match answer {
         Ok(read) => u64::from(read.position) << 32 | u64::from(read.residual) << 8 | u64::from(read.rule),
-        Err(refusal) => u64::MAX - u64::from(refusal),
+        Err(refusal) => refused(refusal),
     }
 }

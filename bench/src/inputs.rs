@@ -1,10 +1,13 @@
-//! What is measured on: five cards, positions of their tracks, and words with damage within the radius; three Reed-Muller codes,
-//! and chunks of them without a codeword within the radius. They are the same in every run.
+//! What is measured on: five cards with a negative offset, positions of their tracks, and words with damage within the radius;
+//! three Reed-Muller codes, and chunks of them without a codeword within the radius. They are the same in every run.
 use crate::baseline::{self, decode, Code, Kept, Order as _};
-use crate::cards::card_of;
+use crate::cards::offset_card;
 use crate::codes::{golay, reed_muller};
 
 pub const CARDS: [&str; 5] = ["B", "rm16", "rm64", "random64", "golay24"];
+
+/// The cards' offset in millimetres.
+const OFFSET: i32 = -12_345;
 
 /// Reed-Muller codes: a name, the order r and the number of variables m.
 pub const CODES: [(&str, u32, u32); 3] = [("rm-2-4", 2, 4), ("rm-1-5", 1, 5), ("rm-1-6", 1, 6)];
@@ -36,7 +39,7 @@ pub fn card(name: &str) -> Vec<u8> {
         "golay24" => (24, golay()),
         _ => panic!("no card {name}: {CARDS:?}"),
     };
-    card_of(n, rows.len() as u8, 14, &rows)
+    offset_card(OFFSET, n, rows.len() as u8, 14, &rows)
 }
 
 /// Whether a card has so many codewords (k is 12) that fewer of its words are measured.

@@ -1,7 +1,7 @@
 //! The calls on a Reed-Muller code that are measured, by the library and by a baseline: its card is made, and chunks are read
 //! that have no codeword within the radius, by votes and, in a word, by the library's search.
 use crate::baseline::{decode, Kept, Order as _};
-use crate::calls::Calls;
+use crate::calls::{mixed, Calls};
 use crate::cards::card_of;
 use crate::codes::reed_muller;
 use crate::inputs::{unreadable_chunks, word_of, CODES};
@@ -84,9 +84,4 @@ fn last_byte(card: &[u8]) -> u64 {
 /// Whether a call was refused. By which number is looked at once, by `check`.
 fn refused<T>(answer: Result<T, Refusal>) -> u64 {
     u64::from(answer.is_err())
-}
-
-/// Answers mixed into one number, so that they are not optimized away.
-fn mixed(answers: impl Iterator<Item = u64>) -> u64 {
-    answers.fold(0, |sum: u64, answer| sum.rotate_left(1) ^ answer)
 }

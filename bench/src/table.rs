@@ -1,5 +1,5 @@
-//! The tables: what each way takes for a word or a call, and the library's cost divided by it. The ways of a call are first seen
-//! to answer alike.
+//! The tables: what each way takes for a call, or for a word of tramread's, and the library's cost divided by it. The ways of a
+//! call are first seen to answer alike.
 use crate::calls::{Calls, Work, CALLS};
 use crate::inputs::{card_and_words, is_large, CARDS, CODES};
 use crate::made::Made;
@@ -9,7 +9,7 @@ use std::path::Path;
 use std::process::{Command, Stdio};
 use std::time::Instant;
 
-/// What a way takes for a word or a call: seconds, and instructions where there is valgrind to count them.
+/// What a way takes for a call, or a word of tramread's: seconds, and instructions where there is valgrind to count them.
 #[derive(Clone, Copy)]
 struct Cost {
     seconds: f64,
@@ -28,23 +28,22 @@ impl Cost {
 pub fn print(tramread: &str) {
     let me = env::current_exe().unwrap();
     let me = me.to_str().unwrap();
-    head("card", "word");
+    head("card");
     for card in CARDS {
         calls(card, me);
         programs(card, tramread, me);
     }
     println!();
-    head("code", "call");
+    head("code");
     for (name, _, _) in CODES {
         made(name, me);
     }
 }
 
-/// The first two lines of a table with these names, of which a row tells the cost of one `what`.
-fn head(names: &str, what: &str) {
+/// The first two lines of a table with these names, of which a row tells the cost of one call, or of one word of tramread's.
+fn head(names: &str) {
     println!(
-        "| {names} | call | by | instructions a {what} | library's instructions / this | {what}s a second | library's time \
-         / this |"
+        "| {names} | call | by | instructions a call | library's instructions / this | calls a second | library's time / this |"
     );
     println!("|---|---|---|---|---|---|---|");
 }
