@@ -14,6 +14,7 @@ use Rattle.model.specs.Reading.{chunkDistance, withinRadius, chunkReading}
 use Rattle.model.specs.ReedMuller.{reedMuller, reedMullerCard, orderWithinLimits}
 use Rattle.model.specs.Statuses.{chunkStatus, chunkValues, cardStatus, cardValues, numberStatus, numberValues}
 use Rattle.model.specs.declared.Chunk.{Chunk}
+use Rattle.model.specs.declared.NumberAnswer.{NumberAnswer}
 use Rattle.code_theory.specs.Offsets.{OldCard, oldCardAnswer, oldMillimetresAnswer}
 use Rattle.position_theory.specs.Damage.{WithinRadius, turned}
 use Rattle.reed_muller_theory.specs.MadeCards.{IsReedMullerCard}
@@ -84,4 +85,5 @@ CheckLeftAsBefore card lent status left =
 unfoldable pub DistanceLeftAsBefore : (card : List ℕ) (position : ℕ) (lent : List ℤ) (status : ℕ) (left : List ℤ) → Type 0
 DistanceLeftAsBefore card position lent status left =
     length lent ≡ numberCount → OldCard card
-    → (status ≡ numberStatus (oldMillimetresAnswer card position)) × (left ≡ leftBy status (map pos (numberValues (oldMillimetresAnswer card position))) lent)
+    → let answer : NumberAnswer = oldMillimetresAnswer card position in
+    (status ≡ numberStatus answer) × (left ≡ leftBy status (map pos (numberValues answer)) lent)

@@ -48,7 +48,8 @@ unfolding unusedByteSet
 ends-at-used b none =
     let zero : (p : ℕ) → p < 406 → byte b (104 + p) ≡ 0 =
     λ p h. eqb-true (byte b (104 + p)) 0 (not-false _ (none-of-any (λ i. not (eqb (byte b (104 + i)) 0)) 406 none p h)) in
-    let past : sumBelow (fromPlace 104 (checkShare b)) 406 ≡ 0 = sum-zero {f = fromPlace 104 (checkShare b)} 406 (λ p h. rw (zero p h) (mul-zero _)) in
+    let past : sumBelow (fromPlace 104 (checkShare b)) 406 ≡ 0 =
+    sum-zero {f = fromPlace 104 (checkShare b)} 406 (λ p h. rw (zero p h) (mul-zero _)) in
     omega (arith, past, sum-split (checkShare b) 104 406, sum-split (checkShare b) 100 4)
 
 -- ---- bytes joined by or
