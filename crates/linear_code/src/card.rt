@@ -78,8 +78,8 @@ fn offset_share(card: &[u8]) -> u32
 }
 
 // The check that the card should carry. Where no unused byte is set, the bytes from 104 on add nothing. Each sum's end is a
-// constant, so that the compiler knows the weights of the short one and takes many bytes in one step, which it does for 100 places
-// and not for 104.
+// constant, so that the compiler knows the weights of the short one and takes many bytes in one step. It unrolls a sum over 100 places
+// and keeps a loop for 104, so the offset's four are added apart.
 pub fn computed_check(card: &[u8], unused_set: bool) -> u32
     requires { ⌜ (length (now card) ≡ 512) × («unused_set» ≡ unusedByteSet (now card)) ⌝ }
     ensures { λ r. ⌜ r ≡ computedCheck (now (card .entry)) ⌝ }
