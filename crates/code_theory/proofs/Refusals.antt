@@ -4,9 +4,11 @@
 use mathlib.Core.Path.{_≡_, refl}
 use mathlib.Core.Bool.{Bool, true, false, cond, false≢true}
 use mathlib.Core.List.{List, [], _∷_, _++_}
+use mathlib.Core.Logic.{⊎-elim}
 use Prim.Native.Nat.{ℕ}
 use borrow.Author.Tests.{eq-eqb, ne-eqb}
 use lib.Dec.{eqb}
+use Rattle.bits.proofs.Numbers.{eq-or-ne}
 use Rattle.model.specs.Refusals.{Row, refusedAs, firstRefusal, unlessRefused}
 
 -- none of the rows holds
@@ -66,3 +68,10 @@ module _ {A : Type 0} (card : ℕ) (rows : List Row) (refused : ℕ → A) (serv
   pub past-card : card ≡ 0 → unlessRefused (firstRefusal (refusedAs card ∷ rows)) refused served ≡ unlessRefused (firstRefusal rows) refused served
   unfolding firstRefusal
   past-card e = rw (eq-eqb card 0 e)
+
+-- where such a call is not refused, neither is the card, nor by the call's own rows
+pub none-past-card : (card : ℕ) (rows : List Row) → firstRefusal (refusedAs card ∷ rows) ≡ 0 → (card ≡ 0) × (firstRefusal rows ≡ 0)
+unfolding firstRefusal
+none-past-card card rows none =
+    ⊎-elim (λ (e : card ≡ 0). (e, rw (eq-eqb card 0 e) at none))
+    (λ (ne : card ≡ 0 → ⊥). absurd (ne (rw (ne-eqb card 0 ne) at none))) (eq-or-ne card 0)

@@ -1,5 +1,5 @@
 -- What a read answers, one law for each way out of the code; the status and the values are those of the answer that the
--- definition gives, and the theorems of demands 2 and 3 hold of it. Assumes nothing.
+-- definition gives, and the theorems of demands 2 and 3 and of P3 hold of it. Assumes nothing.
 use mathlib.Core.Path.{_≡_, refl, sym, _∙_}
 use mathlib.Core.List.{List}
 use Prim.Native.Nat.{ℕ}
@@ -12,6 +12,8 @@ use Rattle.model.specs.declared.ReadAnswer.the-variants.{Refused}
 use Rattle.code_theory.proofs.Refusals.{refused-by-card}
 use Rattle.position_theory.specs.Demands.{NearestOfAllowed, OffByAtMostTwiceTurned, OffByAtMostTurnedAndResidual}
 use Rattle.position_theory.proofs.Demands.{read-sound, nearest-of-allowed, off-by-at-most-twice-turned, off-by-at-most-turned-and-residual}
+use Rattle.position_theory.specs.ChunkBits.{TellsBitsOfChunks}
+use Rattle.position_theory.proofs.ChunkBits.{tells-bits-of-chunks}
 use Rattle.linear_code.specs.DecodedFrom.{DecodedFrom}
 use Rattle.depot.proofs.Statuses.{read-told}
 
@@ -23,7 +25,8 @@ module _ (card received : List ℕ) where
       × ((readStatus answer ≡ readRefusal card received)
       × ((readValues answer ≡ ifServed (readStatus answer) (readFigures card received))
       × (OffByAtMostTwiceTurned card received answer
-      × (OffByAtMostTurnedAndResidual card received answer × NearestOfAllowed card received answer))))
+      × (OffByAtMostTurnedAndResidual card received answer
+      × (NearestOfAllowed card received answer × TellsBitsOfChunks card received answer)))))
 
   read-meets : (answer : ReadAnswer) → answer ≡ readAnswer card received → ReadMeets answer
   read-meets answer e =
@@ -36,7 +39,10 @@ module _ (card received : List ℕ) where
             values,
             (
               off-by-at-most-twice-turned card received,
-              (off-by-at-most-turned-and-residual card received, nearest-of-allowed card received),
+              (
+                off-by-at-most-turned-and-residual card received,
+                (nearest-of-allowed card received, tells-bits-of-chunks card received),
+              ),
             ),
           ),
         ),

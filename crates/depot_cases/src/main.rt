@@ -8,7 +8,7 @@ mod names;
 mod say;
 
 // Document 01's cards, their words and the ends of their ranges, each line as crate::calls has it.
-const OF_DOCUMENT_01: [u64; 104] = [
+const OF_DOCUMENT_01: [u64; 109] = [
     // card B: n 3, k 1, track 14, row 7
     0x0_00_00000000,
     0x1_00_00000000,
@@ -49,6 +49,12 @@ const OF_DOCUMENT_01: [u64; 104] = [
     0x9_02_01000000,
     0x9_02_ff3f0000,
     0x9_02_380e0000,
+    // one bit turned in a chunk that the rule names: rule 1, rule 2, and by rule 3 in chunk 1, in chunk 2 and in both
+    0x9_02_ef030000,
+    0x9_02_7f020000,
+    0x9_02_09000000,
+    0x9_02_01040000,
+    0x9_02_09040000,
     // refusal 6 of a write and of a read, and before 7 and 8
     0x8_00_0000000f,
     0x8_01_0000000f,

@@ -1,6 +1,7 @@
 // What a call answers, written out. Bytes are written in hexadecimal.
 use libc::STDOUT_FILENO;
 use model::CardAnswer;
+use model::ChunkBits;
 use model::MillimetresAnswer;
 use model::NumberAnswer;
 use model::ReadAnswer;
@@ -98,10 +99,24 @@ pub fn read(card: &[u8], word: &[u8]) {
                 b" at # residual # rule #",
                 &[read.position, read.residual, read.rule],
             );
+            let chunk1 = read.chunk1;
+            bits(chunk1);
+            let chunk2 = read.chunk2;
+            bits(chunk2);
         }
         ReadAnswer::Refused(refusal) => {
             say_refusal(refusal);
         }
+    }
+}
+
+// How many bits a code chunk needed, where it was read.
+fn bits(needed: ChunkBits) {
+    match needed {
+        ChunkBits::Differing(count) => {
+            say_number(b" ", count);
+        }
+        ChunkBits::NotRead => {}
     }
 }
 

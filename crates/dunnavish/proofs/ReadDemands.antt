@@ -1,20 +1,28 @@
--- Demand 3 of the library's reading call holds of the status and the numbers that the call for C leaves: an answer that is near a
--- position crosses with status 0, and the numbers left are its values. Where the count of the lent numbers is wrong, nothing is
--- claimed. Assumes nothing.
-use mathlib.Core.Path.{_≡_, refl, _∙_}
+-- Demand 3 and the bits of the chunks, of the library's reading call, hold of the status and the numbers that the call for C leaves: an
+-- answer that is near a position crosses with status 0, and the numbers left are its values. Where the count of the lent numbers is
+-- wrong, nothing is claimed. Assumes nothing.
+use mathlib.Core.Path.{_≡_, refl, sym, _∙_}
+use mathlib.Core.Bool.{Bool}
 use mathlib.Core.List.{List}
+use mathlib.Core.Logic.{⊎-elim}
 use Prim.Native.Nat.{ℕ}
+use native.Mathlib.Omega.{arith}
 use lib.ListN.{length}
-use borrow.Author.Tests.{eq-eqb}
-use Rattle.model.specs.Answers.{readAnswer}
-use Rattle.model.specs.Statuses.{readStatus, readValues}
+use borrow.Author.Tests.{eq-eqb, ne-eqb}
+use Rattle.bits.proofs.Numbers.{eq-or-ne}
+use Rattle.model.specs.Card.{Code}
+use Rattle.model.specs.Answers.{readFigures, readAnswer}
+use Rattle.model.specs.Statuses.{ifServed, bitsValue, readStatus, readValues}
+use Rattle.model.specs.declared.ChunkBits.{ChunkBits}
 use Rattle.model.specs.declared.ReadAnswer.{ReadAnswer}
 use Rattle.model.specs.declared.ReadAnswer.the-variants.{At, Refused}
 use Rattle.position_theory.specs.Damage.{Near, residualOf}
 use Rattle.position_theory.specs.Demands.{OffByAtMostTwiceTurned, OffByAtMostTurnedAndResidual}
+use Rattle.position_theory.specs.ChunkBits.{TellsBits, TellsBitsOfChunks}
 use Rattle.dunnavish.specs.Crossing.{readCount, wrongCount, statusFor, leftBy, UnchangedUnlessZero}
 use Rattle.dunnavish.specs.Demands.{residualLeft, ServedNear, ServedWithinTwiceTurned, ServedWithinTurnedAndResidual}
-use Rattle.dunnavish.proofs.Lent.{Crosses, wrong-count-changes-nothing}
+use Rattle.dunnavish.specs.Demands.{LeavesBits, LeavesBitsOfChunks}
+use Rattle.dunnavish.proofs.Lent.{Crosses, wrong-count-changes-nothing, refusal-nonzero}
 
 -- where the count is right, an answer near a position is served, and leaves its values: a position as near, and its residual
 near-crosses : (lent : List ℕ) → length lent ≡ readCount → (answer : ReadAnswer) (status : ℕ) (left : List ℕ)
@@ -26,7 +34,43 @@ near-crosses lent alike (At r) status left is-status is-left position e near =
     rw (is-left, served) ((refl, near .0, near .1), refl)
 near-crosses lent alike (Refused refusal) status left is-status is-left position e near = absurd near
 
+-- the bits that a chunk needed, as a number
+bits-cross : (C : Code) (named : Bool) (chunk : ℕ → ℕ) (p : ℕ) (answered : ChunkBits) → TellsBits C named chunk p answered
+    → LeavesBits C named chunk p (bitsValue answered)
+unfolding TellsBits LeavesBits bitsValue
+bits-cross C named chunk p answered tells = (
+  λ is. let (count, differing, counts) = tells .0 is in rw differing counts,
+  λ is. rw (tells .1 is),
+)
+
+-- a status of 0 is that of an answer that is served
+served-crosses : (lent : List ℕ) (answered : ℕ) → statusFor readCount lent answered ≡ 0 → answered ≡ 0
+unfolding statusFor
+served-crosses lent answered zero =
+    ⊎-elim (λ (alike : length lent ≡ readCount). rw (eq-eqb (length lent) readCount alike) at zero)
+    (λ (unlike : length lent ≡ readCount → ⊥).
+    let never : wrongCount ≡ 0 = rw (ne-eqb (length lent) readCount unlike) at zero in absurd (omega arith))
+    (eq-or-ne (length lent) readCount)
+
 module _ (card received lent : List ℕ) where
+  -- the numbers left by a read of status 0 are the values of a reading, whose bits cross
+  reading-crosses : (answer : ReadAnswer) → readValues answer ≡ ifServed (readStatus answer) (readFigures card received)
+      → TellsBitsOfChunks card received answer → (status : ℕ) (left : List ℕ) → status ≡ statusFor readCount lent (readStatus answer)
+      → left ≡ leftBy status (readValues answer) lent → LeavesBitsOfChunks card received status left
+  unfolding LeavesBitsOfChunks TellsBitsOfChunks leftBy readStatus readValues readFigures
+  reading-crosses (At r) values tells status left is-status is-left zero =
+      let bits = tells r refl in
+      let left-are : left ≡ readValues (At r) = is-left ∙ rw zero in
+      rw left-are (record {
+        p = bits .p;
+        in-code = bits .in-code;
+        allows = bits .allows;
+        first = bits-cross _ _ _ _ _ (bits .first);
+        second = bits-cross _ _ _ _ _ (bits .second);
+      })
+  reading-crosses (Refused refusal) values tells status left is-status is-left zero =
+      absurd (refusal-nonzero refusal _ _ values (served-crosses lent refusal (sym is-status ∙ zero)))
+
   -- what the contract of the read says of its status and of what it leaves
   abbrev ReadMeets : (status : ℕ) (left : List ℕ) → Type 0
   ReadMeets status left =
@@ -34,20 +78,25 @@ module _ (card received lent : List ℕ) where
       × ((left ≡ leftBy status (readValues (readAnswer card received)) lent)
       × (UnchangedUnlessZero lent status left
       × (ServedWithinTwiceTurned card received lent status left
-      × ServedWithinTurnedAndResidual card received lent status left)))
+      × (ServedWithinTurnedAndResidual card received lent status left × LeavesBitsOfChunks card received status left))))
 
   pub wrong-count-claims-nothing : (length lent ≡ readCount → ⊥) → ReadMeets wrongCount lent
-  unfolding ServedWithinTwiceTurned ServedWithinTurnedAndResidual
+  unfolding ServedWithinTwiceTurned ServedWithinTurnedAndResidual LeavesBitsOfChunks
   wrong-count-claims-nothing unlike =
       let crosses = wrong-count-changes-nothing readCount lent unlike _ _ in
-      (crosses .0, (crosses .1 .0, (crosses .1 .1, (λ alike. absurd (unlike alike), λ alike. absurd (unlike alike)))))
+      let no-read : wrongCount ≡ 0 → ⊥ = λ zero. omega arith in (
+        crosses .0,
+        (crosses .1 .0, (crosses .1 .1, (λ alike. absurd (unlike alike), (λ alike. absurd (unlike alike), λ zero. absurd (no-read zero))))),
+      )
 
-  pub bounds-cross : (answer : ReadAnswer) → answer ≡ readAnswer card received
+  pub demands-cross : (answer : ReadAnswer) → answer ≡ readAnswer card received
+      → readValues answer ≡ ifServed (readStatus answer) (readFigures card received)
       → OffByAtMostTwiceTurned card received answer → OffByAtMostTurnedAndResidual card received answer
+      → TellsBitsOfChunks card received answer
       → (status : ℕ) (left : List ℕ) → Crosses readCount lent (readStatus answer) (readValues answer) status left
       → ReadMeets status left
   unfolding OffByAtMostTwiceTurned OffByAtMostTurnedAndResidual ServedWithinTwiceTurned ServedWithinTurnedAndResidual
-  bounds-cross answer is bounded sharper status left (is-status, (is-left, unchanged)) =
+  demands-cross answer is values bounded sharper tells status left (is-status, (is-left, unchanged)) =
       rw (← is) (
         is-status,
         (
@@ -57,10 +106,13 @@ module _ (card received lent : List ℕ) where
             (
               λ alike position sound on-track within.
                   near-crosses lent alike answer status left is-status is-left position _ (bounded position sound on-track within) .0,
-              λ alike position sound on-track within.
-                  let (near, residual) =
-                  near-crosses lent alike answer status left is-status is-left position _ (sharper position sound on-track within) in
-                  rw residual near,
+              (
+                λ alike position sound on-track within.
+                    let (near, residual) =
+                    near-crosses lent alike answer status left is-status is-left position _ (sharper position sound on-track within) in
+                    rw residual near,
+                reading-crosses answer values tells status left is-status is-left,
+              ),
             ),
           ),
         ),

@@ -13,7 +13,7 @@ abbrev pub cardCount : ℕ
 cardCount = 7
 
 abbrev pub readCount : ℕ
-readCount = 3
+readCount = 5
 
 abbrev pub numberCount : ℕ
 numberCount = 1

@@ -1,37 +1,49 @@
--- Demand 3 of the reading call for C, over its status and the three numbers that it leaves: position, residual and rule. The
--- premises on card, position and word are those of the library's reading call; the caller lends three numbers besides. And what the
--- calls of document 02, P1, promise: a made card, and a vote; and what P2 promises of old cards. Assumes nothing.
+-- Demand 3 of the reading call for C, over its status and the five numbers that it leaves: position, residual, rule, and the bits that
+-- chunks 1 and 2 needed. The premises on card, position and word are those of the library's reading call; the caller lends five
+-- numbers besides. And what the calls of document 02, P1, promise: a made card, and a vote; what P2 promises of old cards; and what P3
+-- does of the bits of a chunk. Assumes nothing.
 use mathlib.Core.Path.{_≡_}
-use mathlib.Core.Bool.{true}
+use mathlib.Core.Bool.{Bool, true, false}
 use mathlib.Core.List.{List, [], _∷_, map}
 use Prim.Native.Nat.{ℕ, _+_, _*_, _^_, _≤_, _<_}
 use lib.IntN.{ℤ, pos}
 use lib.ListN.{length, getD}
-use Rattle.bits.specs.Places.{bit}
-use Rattle.model.specs.Card.{codeOf, SoundCard}
+use Rattle.bits.specs.Places.{bit, place}
+use Rattle.model.specs.Card.{Code, codeOf, SoundCard}
 use Rattle.model.specs.Order.{lastCodeword, lastPosition}
-use Rattle.model.specs.Reading.{chunkDistance, withinRadius, chunkReading}
+use Rattle.model.specs.Words.{chunk₁, chunk₂}
+use Rattle.model.specs.Reading.{chunkDistance, withinRadius, chunkReading, namesFirst, namesSecond, twoEnds, allowed}
 use Rattle.model.specs.ReedMuller.{reedMuller, reedMullerCard, orderWithinLimits}
-use Rattle.model.specs.Statuses.{chunkStatus, chunkValues, cardStatus, cardValues, numberStatus, numberValues}
+use Rattle.model.specs.Statuses.{chunkStatus, chunkValues, notRead, cardStatus, cardValues, numberStatus, numberValues}
 use Rattle.model.specs.declared.Chunk.{Chunk}
 use Rattle.model.specs.declared.NumberAnswer.{NumberAnswer}
 use Rattle.code_theory.specs.Offsets.{OldCard, oldCardAnswer, oldMillimetresAnswer}
 use Rattle.position_theory.specs.Damage.{WithinRadius, turned}
+use Rattle.position_theory.specs.ChunkBits.{CountsDiffering}
 use Rattle.reed_muller_theory.specs.MadeCards.{IsReedMullerCard}
 use Rattle.dunnavish.specs.Crossing.{cardBytes, cardCount, numberCount, readCount, voteCount, leftBy}
 
--- the position and the residual among the numbers that a read leaves
+-- the position, the residual, the rule and the bits of either code chunk among the numbers that a read leaves
 abbrev pub positionLeft : (left : List ℕ) → ℕ
 positionLeft left = getD left 0 0
 
 abbrev pub residualLeft : (left : List ℕ) → ℕ
 residualLeft left = getD left 1 0
 
+abbrev pub ruleLeft : (left : List ℕ) → ℕ
+ruleLeft left = getD left 2 0
+
+abbrev pub bits₁Left : (left : List ℕ) → ℕ
+bits₁Left left = getD left 3 0
+
+abbrev pub bits₂Left : (left : List ℕ) → ℕ
+bits₂Left left = getD left 4 0
+
 -- the status is 0, and the position left is at most e steps from this one
 unfoldable pub ServedNear : (status : ℕ) (left : List ℕ) (position e : ℕ) → Type 0
 ServedNear status left position e = (status ≡ 0) × (positionLeft left ≤ position + e) × (position ≤ positionLeft left + e)
 
--- Demand 3, where three numbers are lent: for a sound card, every position on its track and whichever bits of that position's
+-- Demand 3, where five numbers are lent: for a sound card, every position on its track and whichever bits of that position's
 -- word are turned, at most t in each of the five chunks: the status is 0, and the position left is no further off than twice the
 -- bits turned
 unfoldable pub ServedWithinTwiceTurned : (card received lent : List ℕ) (status : ℕ) (left : List ℕ) → Type 0
@@ -46,6 +58,24 @@ ServedWithinTurnedAndResidual card received lent status left =
     length lent ≡ readCount → (position : ℕ) → SoundCard card → position ≤ lastPosition (codeOf card)
     → WithinRadius (codeOf card) position received
     → ServedNear status left position (turned (codeOf card) position received + residualLeft left)
+
+-- what is left of a code chunk is, where the rule names it, the count of places in which it and c(p) differ, at most t, and where the
+-- rule does not, the number that is no count
+unfoldable pub LeavesBits : Code → (named : Bool) (chunk : ℕ → ℕ) (p left : ℕ) → Type 0
+LeavesBits C named chunk p left = (named ≡ true → CountsDiffering C chunk p left) × (named ≡ false → left ≡ notRead)
+
+-- The numbers left by the reading of the received word x: its rule's chunks read as one codeword c(p), by which positions are allowed,
+-- and the bits left are those of both chunks of x against that codeword.
+pub record BitsLeft (C : Code) (x : ℕ → ℕ) (left : List ℕ) : Type 0 where
+  pub p : ℕ
+  pub in-code : p ≤ lastCodeword C
+  pub allows : allowed C x ≡ twoEnds C .range (ruleLeft left) p
+  pub first : LeavesBits C (namesFirst (ruleLeft left)) (chunk₁ C x) p (bits₁Left left)
+  pub second : LeavesBits C (namesSecond (ruleLeft left)) (chunk₂ C x) p (bits₂Left left)
+
+-- Document 02, P3: of every word that is read, on every card
+unfoldable pub LeavesBitsOfChunks : (card received : List ℕ) (status : ℕ) (left : List ℕ) → Type 0
+LeavesBitsOfChunks card received status left = status ≡ 0 → BitsLeft (codeOf card) (place received) left
 
 -- Document 02, P1, where 512 bytes are lent: for every r and m within the limits the status is 0, and the bytes left are the card of the
 -- Reed-Muller code for the track

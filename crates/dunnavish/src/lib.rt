@@ -7,13 +7,14 @@ ghost use mathlib.Core.Path.{_≡_};
 ghost use lib.ListN.{length};
 ghost use Rattle.model.specs.Answers.{cardAnswer, writeAnswer, lentAfterWrite, readAnswer, startAnswer, millimetresAnswer};
 ghost use Rattle.model.specs.Answers.{makeRefusal, makeAnswer, voteAnswer};
-ghost use Rattle.model.specs.Statuses.{cardStatus, cardValues, writeStatus, readStatus, readValues, numberStatus, numberValues};
+ghost use Rattle.model.specs.Statuses.{cardStatus, cardValues, writeStatus, bitsValue, readStatus, readValues, numberStatus, numberValues};
 ghost use Rattle.model.specs.Statuses.{millimetresStatus, millimetresValues, voteStatus, voteValues};
 ghost use Rattle.dunnavish.specs.Crossing.{cardCount, readCount, numberCount, voteCount, cardBytes, statusFor, leftBy, UnchangedUnlessZero};
 ghost use Rattle.dunnavish.specs.Demands.{CheckLeftAsBefore, DistanceLeftAsBefore};
-ghost use Rattle.dunnavish.specs.Demands.{ServedWithinTwiceTurned, ServedWithinTurnedAndResidual};
+ghost use Rattle.dunnavish.specs.Demands.{ServedWithinTwiceTurned, ServedWithinTurnedAndResidual, LeavesBitsOfChunks};
 ghost use Rattle.dunnavish.specs.Demands.{MadeWithinLimits, VotedAsPromised, VotedAsSearch};
 use model::CardAnswer;
+use model::ChunkBits;
 use model::MillimetresAnswer;
 use model::NumberAnswer;
 use model::ReadAnswer;
@@ -22,6 +23,9 @@ use model::WriteAnswer;
 
 // The status of a call whose lent numbers, or bytes, are too few or too many.
 const WRONG_COUNT: u32 = 100;
+
+// The bits of a code chunk that was not read. A count of bits is at most t, so it is never this number.
+const NOT_READ: u32 = 4294967295;
 
 // Checks a card: n, k, track, D, t, d and last position into seven numbers. An old card, whose bytes 100 to 103 are zero, is answered
 // as document 01 alone has it.
@@ -65,9 +69,21 @@ pub extern "C" fn dunnavish_write_word(card: &[u8], position: u32, word: &mut [u
     }
 }
 
-// Reads a received word: position, residual and rule into three numbers. Of the word of any position on the track, with at most t
-// bits turned in each chunk, the status is 0 where three numbers are lent, and the position put into the first of them is at most
-// twice as many steps off as bits are turned, and at most as many as bits are turned and the residual, the second, together.
+// How many bits a code chunk needed, as a number.
+fn bits_value(bits: ChunkBits) -> u32
+    ensures { λ r. ⌜ r ≡ bitsValue bits ⌝ }
+{
+    match bits {
+        ChunkBits::Differing(count) => count,
+        ChunkBits::NotRead => NOT_READ,
+    }
+}
+
+// Reads a received word: position, residual, rule, and the bits that chunk 1 and chunk 2 needed, into five numbers. Of the word of any
+// position on the track, with at most t bits turned in each chunk, the status is 0 where five numbers are lent, and the position put
+// into the first of them is at most twice as many steps off as bits are turned, and at most as many as bits are turned and the
+// residual, the second, together. Of any word that is read, the bits of a chunk that the rule names are the count of places in which
+// that chunk of the word and the codeword that it reads as differ, at most t; those of any other chunk are NOT_READ.
 #[no_mangle]
 pub extern "C" fn dunnavish_read_word(card: &[u8], word: &[u8], values: &mut [u32]) -> u32
     ensures status { λ r. ⌜ r ≡ statusFor readCount (now (values .entry)) (readStatus (readAnswer (now (card .entry)) (now (word .entry)))) ⌝ }
@@ -75,17 +91,24 @@ pub extern "C" fn dunnavish_read_word(card: &[u8], word: &[u8], values: &mut [u3
     ensures unchanged { λ r. ⌜ UnchangedUnlessZero (now (values .entry)) r (now (values .exit)) ⌝ }
     ensures bounded { λ r. ⌜ ServedWithinTwiceTurned (now (card .entry)) (now (word .entry)) (now (values .entry)) r (now (values .exit)) ⌝ }
     ensures sharper { λ r. ⌜ ServedWithinTurnedAndResidual (now (card .entry)) (now (word .entry)) (now (values .entry)) r (now (values .exit)) ⌝ }
+    ensures bits { λ r. ⌜ LeavesBitsOfChunks (now (card .entry)) (now (word .entry)) r (now (values .exit)) ⌝ }
 {
-    if values.len() != 3 {
+    if values.len() != 5 {
         return WRONG_COUNT;
     }
     let answer = depot::read_word(card, word);
     match answer {
         ReadAnswer::Refused(refusal) => refusal,
         ReadAnswer::At(read) => {
+            let chunk1 = read.chunk1;
+            let chunk2 = read.chunk2;
+            let bits1 = bits_value(chunk1);
+            let bits2 = bits_value(chunk2);
             values[0] = read.position;
             values[1] = read.residual;
             values[2] = read.rule;
+            values[3] = bits1;
+            values[4] = bits2;
             0
         }
     }

@@ -12,14 +12,14 @@ use Rattle.model.specs.CardBytes.{bytesOf, rowBytes, sealed, cardOf}
 use Rattle.model.specs.Order.{gray, lastCodeword, codeword, changedRow, changedWeight, start, lastPosition}
 use Rattle.model.specs.Words.{fiveChunks, word, blockOf, wordAt, wordBytes, millimetresOf}
 use Rattle.model.specs.Reading.{majority, chunkDistance, withinRadius, readFirst, chunkReading, unreadable, numberRead, seen}
-use Rattle.model.specs.Reading.{ruleOf, numberBy, twoEnds, rowsSeen, ruleNamed, rowsOf, allowed, residual, nearestIn, nearest}
+use Rattle.model.specs.Reading.{ruleOf, numberBy, twoEnds, rowsSeen, ruleNamed, rowsOf, allowed, residual, nearestIn, bitsNeeded, nearest}
 use Rattle.model.specs.Answers.{summaryOf, cardAnswer, writeRefusal, writeAnswer, lentAfterWrite}
 use Rattle.model.specs.Answers.{spareSet, rowsOfWord, readRefusal, readAnswer, millimetresRefusal, millimetresAnswer}
 use Rattle.model.specs.Answers.{makeRefusal, makeAnswer, voteRefusal, voteAnswer}
 use Rattle.model.specs.ReedMuller.{product, those, setsOf, setsUpTo, countOfSets, productRow, productOf, reedMullerCard, orderWithinLimits}
 use Rattle.model.specs.ReedMuller.{classSum, classes, votesForOne, coefficient, round, afterRounds, voted, votedRows, votedNumber}
 use Rattle.model.specs.ReedMuller.{votedDistance, votedWithin}
-use Rattle.model.specs.Statuses.{cardStatus, cardValues, writeStatus, writeValues, readStatus, readValues}
+use Rattle.model.specs.Statuses.{cardStatus, cardValues, writeStatus, writeValues, bitsValue, readStatus, readValues}
 use Rattle.model.specs.Statuses.{millimetresStatus, millimetresValues, voteStatus, voteValues}
 use Rattle.model.specs.Cases.{Case, cardA, cardB, cardBFrom100, numbersOf, codewordPlaces, answerTo, starredCases}
 
@@ -33,11 +33,11 @@ unfolding sumBelow sumOver distance joinAt
     gray lastCodeword codeword changedRow changedWeight start lastPosition
     fiveChunks word blockOf wordAt wordBytes millimetresOf
     majority chunkDistance withinRadius readFirst chunkReading unreadable numberRead seen
-    ruleOf numberBy twoEnds rowsSeen ruleNamed rowsOf allowed residual nearestIn nearest
+    ruleOf numberBy twoEnds rowsSeen ruleNamed rowsOf allowed residual nearestIn bitsNeeded nearest
     summaryOf cardAnswer writeRefusal writeAnswer lentAfterWrite spareSet rowsOfWord readRefusal readAnswer millimetresRefusal millimetresAnswer
     makeRefusal makeAnswer voteRefusal voteAnswer
     product those setsOf setsUpTo countOfSets productRow productOf reedMullerCard orderWithinLimits
     classSum classes votesForOne coefficient round afterRounds voted votedRows votedNumber votedDistance votedWithin
-    cardStatus cardValues writeStatus writeValues readStatus readValues millimetresStatus millimetresValues voteStatus voteValues
+    cardStatus cardValues writeStatus writeValues bitsValue readStatus readValues millimetresStatus millimetresValues voteStatus voteValues
     bytesOf rowBytes sealed cardOf cardA cardB cardBFrom100 numbersOf codewordPlaces answerTo starredCases
 starred-cases = refl

@@ -13,8 +13,9 @@ use Rattle.model.specs.Refusals.{Row, refuses, refusedAs, firstRefusal, 
 use Rattle.model.specs.Card.{Code, cardRefusal, codeOf, offsetOf, radius, trackOf}
 use Rattle.model.specs.Order.{lastCodeword, lastPosition, start}
 use Rattle.model.specs.Words.{wordBits, wordBytes, millimetresOf}
-use Rattle.model.specs.Reading.{ruleNamed, rowsOf, allowed, residual, nearest}
+use Rattle.model.specs.Reading.{seen, ruleNamed, rowsOf, allowed, residual, nearest}
 use Rattle.model.specs.ReedMuller.{reedMullerCard, orderWithinLimits, votedNumber, votedDistance, votedWithin}
+use Rattle.model.specs.Statuses.{bitsValue}
 use Rattle.model.specs.declared.Reading.{Reading}
 use Rattle.model.specs.declared.CardSummary.{CardSummary}
 use Rattle.model.specs.declared.CardAnswer.{CardAnswer}
@@ -87,10 +88,10 @@ rowsOfWord C received =
     ∷ refuses 8 (spareSet C received)
     ∷ rowsOf C (place received)
 
--- read: the position nearest to the received bytes among the allowed ones, its residual and the rule
+-- read: the position nearest to the received bytes among the allowed ones, its residual, the rule, and the bits that its chunks needed
 abbrev pub readingOf : Code → (received : List ℕ) → Reading
 readingOf C received =
-    let x : ℕ → ℕ = place received in nearest (residual C x) (ruleNamed C x) (allowed C x)
+    let x : ℕ → ℕ = place received in nearest (residual C x) (seen C x) (ruleNamed C x) (allowed C x)
 
 -- read, for the code of a sound card
 unfoldable pub readWord : Code → (received : List ℕ) → ReadAnswer
@@ -104,10 +105,12 @@ readRefusal card received = firstRefusal (refusedAs (cardRefusal card) ∷ rowsO
 unfoldable pub readAnswer : (card received : List ℕ) → ReadAnswer
 readAnswer card received = unlessRefused (readRefusal card received) ReadRefused (At (readingOf (codeOf card) received))
 
--- the values of a word that is read: the nearest allowed position, its residual, and the rule that the separators name
+-- the values of a word that is read: the nearest allowed position, its residual, the rule that the separators name, and the bits that
+-- chunks 1 and 2 needed
 unfoldable pub readFigures : (card received : List ℕ) → List ℕ
 readFigures card received =
-    let r : Reading = readingOf (codeOf card) received in r .position ∷ r .residual ∷ r .rule ∷ []
+    let r : Reading = readingOf (codeOf card) received in
+    r .position ∷ r .residual ∷ r .rule ∷ bitsValue (r .chunk1) ∷ bitsValue (r .chunk2) ∷ []
 
 -- block start: the refusal's number, or 0
 unfoldable pub startRefusal : (card : List ℕ) (block : ℕ) → ℕ

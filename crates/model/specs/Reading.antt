@@ -1,5 +1,6 @@
 -- Document 01, "Reading a word": the separators, the code chunks, the three rules, refusals 9 to 12, and the nearest allowed
--- position. A received word is a bit function here; Answers.antt takes it from bytes. Assumes nothing.
+-- position; with it, by document 02's P3, how many bits the chunks that the rule names needed. A received word is a bit function
+-- here; Answers.antt takes it from bytes. Assumes nothing.
 use mathlib.Core.Bool.{Bool, true, false, cond, not, _&&_, _||_}
 use mathlib.Core.List.{List, [], _∷_}
 use Prim.Native.Nat.{ℕ, _+_, _-_, _*_, _^_, min}
@@ -13,6 +14,8 @@ use Rattle.model.specs.Order.{codeword, lastCodeword, changedWeight, sta
 use Rattle.model.specs.Words.{wordBits, wordAt, separator₁, chunk₁, separator₂, chunk₂, separator₃}
 use Rattle.model.specs.declared.Chunk.{Chunk}
 use Rattle.model.specs.declared.Chunk.the-variants.{Codeword, Unreadable}
+use Rattle.model.specs.declared.ChunkBits.{ChunkBits}
+use Rattle.model.specs.declared.ChunkBits.the-variants.{Differing, NotRead}
 use Rattle.model.specs.declared.Reading.{Reading}
 
 -- a separator of D bits reads 1 if more than half its bits are 1, else 0; a tie reads 0
@@ -155,8 +158,22 @@ residual C x position = distance (wordBits C) (wordAt C position) x
 unfoldable pub nearestIn : (residual : ℕ → ℕ) → Range → ℕ
 nearestIn residual range = leastAt residual (range .low) (range .high - range .low)
 
--- the allowed position whose word has fewest bits unlike the received word, the smallest on a tie; that count; and the rule
-unfoldable pub nearest : (residual : ℕ → ℕ) (rule : ℕ) → Range → Reading
-nearest residual rule range =
+-- document 02, P3: how many bits a code chunk needed, which are those in which it and its codeword differ, of a chunk that the rule
+-- names; any other was not read (an unreadable one that is named has no count, which means nothing: row 10 comes first)
+unfoldable pub bitsNeeded : (named : Bool) → Chunk → ChunkBits
+bitsNeeded true (Codeword p e) = Differing e
+bitsNeeded true Unreadable = NotRead
+bitsNeeded false read = NotRead
+
+-- the allowed position whose word has fewest bits unlike the received word, the smallest on a tie; that count; the rule; and how many
+-- bits each chunk that the rule names needed, by what is seen of the word
+unfoldable pub nearest : (residual : ℕ → ℕ) → Seen → (rule : ℕ) → Range → Reading
+nearest residual s rule range =
     let position : ℕ = nearestIn residual range in
-    record { position = position; residual = residual position; rule = rule }
+    record {
+      position = position;
+      residual = residual position;
+      rule = rule;
+      chunk1 = bitsNeeded (namesFirst rule) (s .read₁);
+      chunk2 = bitsNeeded (namesSecond rule) (s .read₂);
+    }

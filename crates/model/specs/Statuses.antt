@@ -8,6 +8,8 @@ use lib.Dec.{eqb}
 use lib.IntN.{ℤ}
 use Rattle.model.specs.declared.Chunk.{Chunk}
 use Rattle.model.specs.declared.Chunk.the-variants.{Codeword, Unreadable}
+use Rattle.model.specs.declared.ChunkBits.{ChunkBits}
+use Rattle.model.specs.declared.ChunkBits.the-variants.{Differing, NotRead}
 use Rattle.model.specs.declared.CardAnswer.{CardAnswer}
 use Rattle.model.specs.declared.CardAnswer.the-variants.{Sound, Refused as CardRefused}
 use Rattle.model.specs.declared.WriteAnswer.{WriteAnswer}
@@ -52,13 +54,22 @@ unfoldable pub writeValues : WriteAnswer → List ℕ
 writeValues Written = []
 writeValues (WriteRefused refusal) = []
 
--- a read: position, residual and rule
+-- how many bits a code chunk needed, as a number: its count, at most t, so below 32; or 2^32 - 1, which is none, of a chunk that was
+-- not read
+abbrev pub notRead : ℕ
+notRead = 4294967295
+
+unfoldable pub bitsValue : ChunkBits → ℕ
+bitsValue (Differing count) = count
+bitsValue NotRead = notRead
+
+-- a read: position, residual, rule, and the bits that chunks 1 and 2 needed
 unfoldable pub readStatus : ReadAnswer → ℕ
 readStatus (At r) = 0
 readStatus (ReadRefused refusal) = refusal
 
 unfoldable pub readValues : ReadAnswer → List ℕ
-readValues (At r) = r .position ∷ r .residual ∷ r .rule ∷ []
+readValues (At r) = r .position ∷ r .residual ∷ r .rule ∷ bitsValue (r .chunk1) ∷ bitsValue (r .chunk2) ∷ []
 readValues (ReadRefused refusal) = []
 
 -- a block's start

@@ -47,11 +47,20 @@ pub enum WriteAnswer {
     Refused(u32),
 }
 
-// What a word that is read is answered with: the position, its residual, and the rule.
+// How many bits a code chunk of a word needed: in how many it and the codeword that it reads as differ; or the word's rule does not
+// name the chunk, and it was not read.
+pub enum ChunkBits {
+    Differing(u32),
+    NotRead,
+}
+
+// What a word that is read is answered with: the position, its residual, the rule, and how many bits either code chunk needed.
 pub struct Reading {
     pub position: u32,
     pub residual: u32,
     pub rule: u32,
+    pub chunk1: ChunkBits,
+    pub chunk2: ChunkBits,
 }
 
 // The answer to a read.

@@ -23,7 +23,7 @@ use Rattle.position_theory.proofs.Nearest.{reading-is-nearest}
 use Rattle.position_theory.proofs.BoundedError.{error-bounded, near-loosen}
 use Rattle.position_theory.proofs.DistinctWords.{neighbours-differ, words-distinct}
 
-card-promise : (card : List ℕ) → SoundCard card → ChunkPromise (codeOf card)
+pub card-promise : (card : List ℕ) → SoundCard card → ChunkPromise (codeOf card)
 card-promise card sound = promise (codeOf card) (sound-card card sound)
 
 -- in how many bits two positions' words differ does not go by their order

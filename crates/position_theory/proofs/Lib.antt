@@ -13,4 +13,5 @@ pub mod Nearest
 pub mod BoundedError
 pub mod DistinctWords
 pub mod Demands
+pub mod ChunkBits
 pub mod Writing

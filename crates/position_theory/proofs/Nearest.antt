@@ -51,5 +51,5 @@ module _ (C : Code) (promise : ChunkPromise C) (x : ℕ → ℕ) where
   unfolding reading residual rowsOf allowed ruleNamed
   answer-near position a =
       rw (served-if-none _ _ _ (a .none-refuses))
-      (answer-off-by (wordBits C) (wordAt C) _ (counted-residuals (wordBits C) (wordAt C) x) _ _
+      (answer-off-by (wordBits C) (wordAt C) _ (counted-residuals (wordBits C) (wordAt C) x) _ _ _
       (allowed-isometric C promise x (a .none-refuses) .isometric) position (a .from-low) (a .to-high))

@@ -10,7 +10,7 @@ use Rattle.bits.specs.Sums.{distance}
 use Rattle.bits.proofs.Numbers.{lt-or-le}
 use Rattle.bits.proofs.Distance.{distance-comm, distance-self, distance-triangle}
 use Rattle.bits.proofs.Searches.{leastAt-low, leastAt-high, leastAt-least, leastAt-first}
-use Rattle.model.specs.Reading.{Range, nearestIn, nearest}
+use Rattle.model.specs.Reading.{Seen, Range, nearestIn, nearest}
 use Rattle.model.specs.declared.ReadAnswer.the-variants.{At}
 use Rattle.position_theory.specs.Damage.{Near, residualOf}
 
@@ -72,12 +72,12 @@ nearest-in residual range h =
 
 -- the answer to a range that holds the true position is as near to it as the two residuals say, and its own is no larger
 module _ (d : ℕ) (words : ℕ → ℕ → ℕ) (residual : ℕ → ℕ) (within : WithinResiduals d words residual) where
-  pub answer-off-by : (rule : ℕ) (range : Range) → Isometric d words (range .low) (range .high)
+  pub answer-off-by : (s : Seen) (rule : ℕ) (range : Range) → Isometric d words (range .low) (range .high)
       → (position : ℕ) → range .low ≤ position → position ≤ range .high
-      → let answer = At (nearest residual rule range) in
+      → let answer = At (nearest residual s rule range) in
       Near answer position (residual position + residualOf answer) × (residualOf answer ≤ residual position)
   unfolding nearest Near residualOf
-  answer-off-by rule range far position l h =
+  answer-off-by s rule range far position l h =
       let q : ℕ = nearestIn residual range in
       let n = nearest-in residual range (omega arith) in (
         (

@@ -20,7 +20,7 @@ use Rattle.bits.proofs.ByteLists.{differing-below, packed-distance}
 use Rattle.model.specs.Refusals.{firstRefusal, unlessRefused}
 use Rattle.model.specs.Card.{Code}
 use Rattle.model.specs.Words.{wordBits, blockOf, wordAt, wordBytes}
-use Rattle.model.specs.Reading.{ruleNamed, rowsOf, allowed, residual, nearest}
+use Rattle.model.specs.Reading.{seen, ruleNamed, rowsOf, allowed, residual, nearest}
 use Rattle.model.specs.Answers.{wordLength, spareSet, rowsOfWord, readWord}
 use Rattle.model.specs.declared.ReadAnswer.{ReadAnswer}
 use Rattle.model.specs.declared.ReadAnswer.the-variants.{At, Refused}
@@ -55,7 +55,7 @@ differing-words C p q = packed-distance (wordBits C) (word-at-bit C p) (word-at-
 -- the reading of a received word, given as a bit function: refusals 9 to 12, or the nearest allowed position
 unfoldable pub reading : Code → (x : ℕ → ℕ) → ReadAnswer
 reading C x =
-    unlessRefused (firstRefusal (rowsOf C x)) Refused (At (nearest (residual C x) (ruleNamed C x) (allowed C x)))
+    unlessRefused (firstRefusal (rowsOf C x)) Refused (At (nearest (residual C x) (seen C x) (ruleNamed C x) (allowed C x)))
 
 -- a word of the right length with spare bits zero is read
 pub read-if-whole : (C : Code) (received : List ℕ) → length received ≡ wordLength C → spareSet C received ≡ false

@@ -1,6 +1,7 @@
 -- What each rule answers, by what its chunks read as: one law for each way out of the code. A chunk that is unreadable is refusal 10;
--- chunks that read differently are 11; a block that does not exist is 12. Assumes nothing.
-use mathlib.Core.Path.{_≡_}
+-- chunks that read differently are 11; a block that does not exist is 12. What a search of the allowed positions has found is answered
+-- with the bits that the rule's chunks needed. Assumes nothing.
+use mathlib.Core.Path.{_≡_, refl}
 use mathlib.Core.List.{List}
 use Prim.Native.Nat.{ℕ}
 use borrow.Author.Tests.{eq-eqb, ne-eqb}
@@ -9,12 +10,16 @@ use Rattle.bits.specs.Places.{place}
 use Rattle.model.specs.Refusals.{firstRefusal, unlessRefused}
 use Rattle.model.specs.Card.{Code}
 use Rattle.model.specs.Order.{lastCodeword}
-use Rattle.model.specs.Reading.{chunkReading, unreadable, numberRead, seen, numberBy, range₁, range₂, range₃, twoEnds, rowsSeen}
+use Rattle.model.specs.Reading.{chunkReading, unreadable, numberRead, seen, numberBy, Range, range₁, range₂, range₃, twoEnds, rowsSeen, bitsNeeded}
 use Rattle.model.specs.Words.{chunk₁, chunk₂}
 use Rattle.model.specs.declared.Chunk.{Chunk}
 use Rattle.model.specs.declared.Chunk.the-variants.{Codeword, Unreadable}
+use Rattle.model.specs.declared.ChunkBits.the-variants.{Differing, NotRead}
 use Rattle.model.specs.declared.ReadAnswer.the-variants.{Refused}
-use Rattle.reader.specs.Received.{nearestBy, answerBy}
+use Rattle.reader.specs.declared.scan.Scan.{Scan}
+use Rattle.reader.specs.Received.{SearchedRange, nearestBy, answerBy}
+use Rattle.reader.specs.Scanned.{foundAt}
+use Rattle.reader.proofs.Scanning.{answer-of-search}
 
 -- of a chunk it matters only where it begins
 pub read-from : (C : Code) (x : ℕ → ℕ) (at there : ℕ) → at ≡ there
@@ -46,6 +51,11 @@ module _ (C : Code) (x : List ℕ) where
     unfolding answerBy seen rowsSeen unreadable numberBy numberRead twoEnds firstRefusal unlessRefused
     rule₁-no-block r first = rw (r, eq-eqb p 0 first)
 
+    pub rule₁-found : chunk₁Reads C x ≡ Codeword p e → (range : Range) (s : Scan) → SearchedRange C x range s
+        → foundAt s 1 (Differing e) NotRead ≡ nearestBy C x 1 range
+    unfolding seen bitsNeeded
+    rule₁-found r range s searched = answer-of-search C x 1 range s searched _ _ (rw r) refl
+
     pub rule₁-answers : chunk₁Reads C x ≡ Codeword p e → (p ≡ 0 → ⊥) → nearestBy C x 1 (range₁ C p) ≡ answerBy C x 1
     unfolding answerBy seen rowsSeen unreadable numberBy numberRead twoEnds firstRefusal unlessRefused
     rule₁-answers r later = rw (r, ne-eqb p 0 later)
@@ -53,6 +63,11 @@ module _ (C : Code) (x : List ℕ) where
     pub rule₂-no-block : chunk₂Reads C x ≡ Codeword p e → p ≡ lastCodeword C → Refused 12 ≡ answerBy C x 2
     unfolding answerBy seen rowsSeen unreadable numberBy numberRead twoEnds firstRefusal unlessRefused
     rule₂-no-block r last = rw (r, eq-eqb p (lastCodeword C) last)
+
+    pub rule₂-found : chunk₂Reads C x ≡ Codeword p e → (range : Range) (s : Scan) → SearchedRange C x range s
+        → foundAt s 2 NotRead (Differing e) ≡ nearestBy C x 2 range
+    unfolding seen bitsNeeded
+    rule₂-found r range s searched = answer-of-search C x 2 range s searched _ _ refl (rw r)
 
     pub rule₂-answers : chunk₂Reads C x ≡ Codeword p e → (p ≡ lastCodeword C → ⊥) → nearestBy C x 2 (range₂ C p) ≡ answerBy C x 2
     unfolding answerBy seen rowsSeen unreadable numberBy numberRead twoEnds firstRefusal unlessRefused
@@ -66,6 +81,11 @@ module _ (C : Code) (x : List ℕ) where
       pub rule₃-unlike : chunk₁Reads C x ≡ Codeword p e → chunk₂Reads C x ≡ Codeword q f → (p ≡ q → ⊥) → Refused 11 ≡ answerBy C x 3
       unfolding answerBy seen rowsSeen unreadable numberBy numberRead firstRefusal unlessRefused
       rule₃-unlike r r′ differ = rw (r, r′, ne-eqb p q differ)
+
+      pub rule₃-found : chunk₁Reads C x ≡ Codeword p e → chunk₂Reads C x ≡ Codeword q f → (range : Range) (s : Scan)
+          → SearchedRange C x range s → foundAt s 3 (Differing e) (Differing f) ≡ nearestBy C x 3 range
+      unfolding seen bitsNeeded
+      rule₃-found r r′ range s searched = answer-of-search C x 3 range s searched _ _ (rw r) (rw r′)
 
       pub rule₃-answers : chunk₁Reads C x ≡ Codeword p e → chunk₂Reads C x ≡ Codeword q f → p ≡ q
           → nearestBy C x 3 (range₃ C p) ≡ answerBy C x 3

@@ -18,7 +18,7 @@ use Rattle.reader.specs.Scanned.{Scanned}
 
 -- the nearest position to the word in x of those that the rule with this number allows
 abbrev pub nearestBy : Code → (x : List ℕ) (rule : ℕ) → Range → ReadAnswer
-nearestBy C x rule range = At (nearest (residual C (place x)) rule range)
+nearestBy C x rule range = At (nearest (residual C (place x)) (seen C (place x)) rule range)
 
 -- what the rule with this number answers: refusals 9 to 12, or the nearest position that it allows
 unfoldable pub answerBy : Code → (x : List ℕ) (rule : ℕ) → ReadAnswer
@@ -33,6 +33,12 @@ NothingSpare C x = (p : ℕ) → wordBits C ≤ p → place x p ≡ 0
 -- a search through the positions nearest to the word in x
 abbrev pub ScannedIn : Code → (x : List ℕ) → Scan → Type 0
 ScannedIn C x s = Scanned (residual C (place x)) s
+
+-- the same of all positions of a range
+pub record SearchedRange (C : Code) (x : List ℕ) (range : Range) (s : Scan) : Type 0 where
+  pub low : s .low ≡ range .low
+  pub high : s .position ≡ range .high
+  pub scanned : ScannedIn C x s
 
 -- places from `at` to `to` of block i, to be searched for the word in x
 abbrev pub PartOfBlock : Code → (x : List ℕ) (i at to : ℕ) → Type 0

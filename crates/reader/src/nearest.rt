@@ -5,13 +5,10 @@ ghost use Rattle.model.specs.Decoded.{meaning};
 ghost use Rattle.model.specs.Order.{lastCodeword, start};
 ghost use Rattle.model.specs.Reading.{range₁, range₂, range₃};
 ghost use Rattle.code_theory.specs.Promise.{Sound};
-ghost use Rattle.reader.specs.Received.{nearestBy, NothingSpare, ScannedIn, PartOfBlock, positionAt};
-ghost use Rattle.reader.specs.Scanned.{foundAt};
+ghost use Rattle.reader.specs.Received.{NothingSpare, ScannedIn, SearchedRange, PartOfBlock, positionAt};
 use super::scan;
 use super::scan::Scan;
 use model::DecodedCode;
-use model::ReadAnswer;
-use model::Reading;
 use position::blocks;
 use position::layout;
 use position::words;
@@ -27,33 +24,22 @@ fn search_block(code: DecodedCode, x: [u8; 40], i: u32, at: u32, to: u32) -> Sca
     scan::search_places(u, v, x, blocks::block_start(code, i), at, to)
 }
 
-// The answer of a search that has come to the last allowed position.
-fn found(s: Scan, rule: u32) -> ReadAnswer
-    ensures { λ r. ⌜ r ≡ foundAt s rule ⌝ }
-{
-    ReadAnswer::At(Reading {
-        position: s.best,
-        residual: s.least,
-        rule,
-    })
-}
-
-// Rule 1, chunk 1 reading p: the nearest from r(p-1) + D + A(p-1), where separator 2 begins to change, to r(p).
-pub fn nearest_before(code: DecodedCode, x: [u8; 40], p: u32) -> ReadAnswer
+// Rule 1, chunk 1 reading p: the search from r(p-1) + D + A(p-1), where separator 2 begins to change, to r(p).
+pub fn nearest_before(code: DecodedCode, x: [u8; 40], p: u32) -> Scan
     requires { ⌜ Sound (meaning code) × NothingSpare (meaning code) x × (1 ≤ p) × (p ≤ lastCodeword (meaning code)) ⌝ }
-    ensures { λ r. ⌜ r ≡ nearestBy (meaning code) x 1 (range₁ (meaning code) p) ⌝ }
+    ensures { λ r. ⌜ SearchedRange (meaning code) x (range₁ (meaning code) p) r ⌝ }
 {
     let at = layout::layout_of(code);
-    found(search_block(code, x, p - 1, at.separator2, at.bits), 1)
+    search_block(code, x, p - 1, at.separator2, at.bits)
 }
 
-// Rule 2, chunk 2 reading p: the nearest from r(p) to r(p) + 2D + A(p), where separator 2 has changed.
-pub fn nearest_after(code: DecodedCode, x: [u8; 40], p: u32) -> ReadAnswer
+// Rule 2, chunk 2 reading p: the search from r(p) to r(p) + 2D + A(p), where separator 2 has changed.
+pub fn nearest_after(code: DecodedCode, x: [u8; 40], p: u32) -> Scan
     requires { ⌜ Sound (meaning code) × NothingSpare (meaning code) x × (p < lastCodeword (meaning code)) ⌝ }
-    ensures { λ r. ⌜ r ≡ nearestBy (meaning code) x 2 (range₂ (meaning code) p) ⌝ }
+    ensures { λ r. ⌜ SearchedRange (meaning code) x (range₂ (meaning code) p) r ⌝ }
 {
     let at = layout::layout_of(code);
-    found(search_block(code, x, p, 0, at.chunk2), 2)
+    search_block(code, x, p, 0, at.chunk2)
 }
 
 // The search from D steps before r(p), or from 0, to r(p): separator 3 of the block before changes.
@@ -79,14 +65,14 @@ fn search_after_start(code: DecodedCode, x: [u8; 40], p: u32, s: Scan) -> Scan
     scan::pass_places(u, v, x, 0, code.distance, s)
 }
 
-// Rule 3, both chunks reading p: the nearest from r(p) - D to r(p) + D, cut to the track.
-pub fn nearest_around(code: DecodedCode, x: [u8; 40], p: u32) -> ReadAnswer
+// Rule 3, both chunks reading p: the search from r(p) - D to r(p) + D, cut to the track.
+pub fn nearest_around(code: DecodedCode, x: [u8; 40], p: u32) -> Scan
     requires { ⌜ Sound (meaning code) × NothingSpare (meaning code) x × (p ≤ lastCodeword (meaning code)) ⌝ }
-    ensures { λ r. ⌜ r ≡ nearestBy (meaning code) x 3 (range₃ (meaning code) p) ⌝ }
+    ensures { λ r. ⌜ SearchedRange (meaning code) x (range₃ (meaning code) p) r ⌝ }
 {
     let before = search_before_start(code, x, p);
     if p == blocks::last_codeword(code) {
-        return found(before, 3);
+        return before;
     }
-    found(search_after_start(code, x, p, before), 3)
+    search_after_start(code, x, p, before)
 }

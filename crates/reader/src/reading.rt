@@ -9,11 +9,15 @@ ghost use Rattle.model.specs.Words.{wordBits};
 ghost use Rattle.model.specs.Reading.{chunkReading, ruleNamed};
 ghost use Rattle.code_theory.specs.Promise.{Sound};
 ghost use Rattle.reader.specs.Received.{NothingSpare, answerBy};
+ghost use Rattle.reader.specs.Scanned.{foundAt};
 use super::nearest;
+use super::scan::Scan;
 use linear_code::search;
 use model::Chunk;
+use model::ChunkBits;
 use model::DecodedCode;
 use model::ReadAnswer;
+use model::Reading;
 use position::blocks;
 use position::layout;
 use position::places;
@@ -27,6 +31,19 @@ fn chunk_reading(code: DecodedCode, x: [u8; 40], at: u32) -> Chunk
     search::read_chunk(code, places::bits_at(x, at, code.n))
 }
 
+// The answer by a rule of a search through all that the rule allows, with the bits that either code chunk needed.
+fn found(s: Scan, rule: u32, chunk1: ChunkBits, chunk2: ChunkBits) -> ReadAnswer
+    ensures { λ r. ⌜ r ≡ foundAt s rule chunk1 chunk2 ⌝ }
+{
+    ReadAnswer::At(Reading {
+        position: s.best,
+        residual: s.least,
+        rule,
+        chunk1,
+        chunk2,
+    })
+}
+
 // What rule 1 answers: it reads chunk 1.
 fn by_rule1(code: DecodedCode, x: [u8; 40]) -> ReadAnswer
     requires { ⌜ Sound (meaning code) × NothingSpare (meaning code) x ⌝ }
@@ -34,11 +51,12 @@ fn by_rule1(code: DecodedCode, x: [u8; 40]) -> ReadAnswer
 {
     let at = layout::layout_of(code);
     match chunk_reading(code, x, at.chunk1) {
-        Chunk::Codeword { number, unlike: _ } => {
+        Chunk::Codeword { number, unlike } => {
             if number == 0 {
                 return ReadAnswer::Refused(12);
             }
-            nearest::nearest_before(code, x, number)
+            let s = nearest::nearest_before(code, x, number);
+            found(s, 1, ChunkBits::Differing(unlike), ChunkBits::NotRead)
         }
         Chunk::Unreadable => ReadAnswer::Refused(10),
     }
@@ -51,11 +69,12 @@ fn by_rule2(code: DecodedCode, x: [u8; 40]) -> ReadAnswer
 {
     let at = layout::layout_of(code);
     match chunk_reading(code, x, at.chunk2) {
-        Chunk::Codeword { number, unlike: _ } => {
+        Chunk::Codeword { number, unlike } => {
             if number == blocks::last_codeword(code) {
                 return ReadAnswer::Refused(12);
             }
-            nearest::nearest_after(code, x, number)
+            let s = nearest::nearest_after(code, x, number);
+            found(s, 2, ChunkBits::NotRead, ChunkBits::Differing(unlike))
         }
         Chunk::Unreadable => ReadAnswer::Refused(10),
     }
@@ -69,14 +88,14 @@ fn by_rule3(code: DecodedCode, x: [u8; 40]) -> ReadAnswer
     let at = layout::layout_of(code);
     let Chunk::Codeword {
         number: first,
-        unlike: _,
+        unlike: bits1,
     } = chunk_reading(code, x, at.chunk1)
     else {
         return ReadAnswer::Refused(10);
     };
     let Chunk::Codeword {
         number: second,
-        unlike: _,
+        unlike: bits2,
     } = chunk_reading(code, x, at.chunk2)
     else {
         return ReadAnswer::Refused(10);
@@ -84,7 +103,13 @@ fn by_rule3(code: DecodedCode, x: [u8; 40]) -> ReadAnswer
     if first != second {
         return ReadAnswer::Refused(11);
     }
-    nearest::nearest_around(code, x, first)
+    let s = nearest::nearest_around(code, x, first);
+    found(
+        s,
+        3,
+        ChunkBits::Differing(bits1),
+        ChunkBits::Differing(bits2),
+    )
 }
 
 // What the rule with this number answers.

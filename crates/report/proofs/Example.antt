@@ -1,4 +1,5 @@
--- Document 01's example: card B followed by four words prints the six lines that it shows; computed. Assumes nothing.
+-- Document 01's example: card B followed by four words prints the six lines that it shows, with document 02's bits of the chunks that
+-- were read; computed. Assumes nothing.
 use mathlib.Core.Path.{_≡_, refl}
 use mathlib.Core.List.{List, [], _∷_, _++_}
 use Prim.Native.Nat.{ℕ}
@@ -12,12 +13,12 @@ use Rattle.model.specs.Card.{withinLimits, rowTooWide, unusedRowSet, unusedByte
 use Rattle.model.specs.Order.{gray, lastCodeword, codeword, changedRow, changedWeight, start, lastPosition}
 use Rattle.model.specs.Words.{fiveChunks, word, blockOf, wordAt}
 use Rattle.model.specs.Reading.{majority, chunkDistance, withinRadius, readFirst, chunkReading, unreadable, numberRead, seen}
-use Rattle.model.specs.Reading.{ruleOf, numberBy, twoEnds, rowsSeen, ruleNamed, rowsOf, allowed, residual, nearestIn, nearest}
+use Rattle.model.specs.Reading.{ruleOf, numberBy, twoEnds, rowsSeen, ruleNamed, rowsOf, allowed, residual, nearestIn, bitsNeeded, nearest}
 use Rattle.model.specs.Answers.{summaryOf, cardAnswer, spareSet, rowsOfWord, readWord}
 use Rattle.model.specs.CardBytes.{bytesOf, rowBytes, sealed, cardOf}
 use Rattle.model.specs.Cases.{cardB}
 use Rattle.report.specs.Text.{ascii, digitsWithin, decimal}
-use Rattle.report.specs.Lines.{cardLine, wordLine, shortLine, lastLine}
+use Rattle.report.specs.Lines.{cardLine, bitsText, ruleAndBits, wordLine, shortLine, lastLine}
 use Rattle.report.specs.Report.{wordLines, readCount, wordsRead, wordsReport, reportOf}
 
 -- the words of the example
@@ -25,7 +26,7 @@ abbrev words : List ℕ
 words = 0x7f ∷ 0x00 ∷ 0x5f ∷ 0x00 ∷ 0xc0 ∷ 0x01 ∷ 0x00 ∷ 0x80 ∷ []
 
 pub example : reportOf (cardB ++ words)
-    ≡ ascii "track 14 last 15 radius 1\n1 at 7 residual 0 rule 2\n2 at 5 residual 1 rule 2\n3 refused 9\n4 refused 8\nwords 4 read 2\n"
+    ≡ ascii "track 14 last 15 radius 1\n1 at 7 residual 0 rule 2 0\n2 at 5 residual 1 rule 2 0\n3 refused 9\n4 refused 8\nwords 4 read 2\n"
 unfolding sumBelow distance joinAt
     walk
     weight place
@@ -35,10 +36,10 @@ unfolding sumBelow distance joinAt
     gray lastCodeword codeword changedRow changedWeight start lastPosition
     fiveChunks word blockOf wordAt
     majority chunkDistance withinRadius readFirst chunkReading unreadable numberRead seen
-    ruleOf numberBy twoEnds rowsSeen ruleNamed rowsOf allowed residual nearestIn nearest
+    ruleOf numberBy twoEnds rowsSeen ruleNamed rowsOf allowed residual nearestIn bitsNeeded nearest
     summaryOf cardAnswer spareSet rowsOfWord readWord
     bytesOf rowBytes sealed cardOf cardB
     ascii digitsWithin decimal
-    cardLine wordLine shortLine lastLine
+    cardLine bitsText ruleAndBits wordLine shortLine lastLine
     wordLines readCount wordsRead wordsReport reportOf
 example = refl

@@ -1,4 +1,4 @@
--- Document 01, "The program tramread": the lines that it prints. Assumes nothing.
+-- Document 01, "The program tramread", with document 02's P3: the lines that it prints. Assumes nothing.
 use Prim.Native.Nat.{ℕ}
 use Prim.Native.String.{String}
 use mathlib.Core.Bool.{cond}
@@ -6,6 +6,9 @@ use mathlib.Core.List.{List, [], _++_}
 use lib.Dec.{eqb}
 use Rattle.model.specs.declared.CardAnswer.{CardAnswer}
 use Rattle.model.specs.declared.CardAnswer.the-variants.{Sound, Refused as CardRefused}
+use Rattle.model.specs.declared.ChunkBits.{ChunkBits}
+use Rattle.model.specs.declared.ChunkBits.the-variants.{Differing, NotRead}
+use Rattle.model.specs.declared.Reading.{Reading}
 use Rattle.model.specs.declared.ReadAnswer.{ReadAnswer}
 use Rattle.model.specs.declared.ReadAnswer.the-variants.{At, Refused as ReadRefused}
 use Rattle.report.specs.Text.{ascii, decimal}
@@ -27,10 +30,18 @@ unfoldable pub cardLine : CardAnswer → List ℕ
 cardLine (Sound s) = field "track " (s .track) ++ field " last " (s .last) ++ lastField " radius " (s .radius)
 cardLine (CardRefused refusal) = lastField "card refused " refusal
 
--- the line of a word: its number, then position, residual and rule, or the refusal
+-- document 02, P3: how many bits a code chunk needed, after a space; nothing where the chunk was not read
+unfoldable pub bitsText : ChunkBits → List ℕ
+bitsText (Differing count) = field " " count
+bitsText NotRead = []
+
+-- the last part of the line of a word that is read: the rule, the bits that its chunks needed, chunk 1 first, and the line's end
+unfoldable pub ruleAndBits : Reading → List ℕ
+ruleAndBits r = field " rule " (r .rule) ++ bitsText (r .chunk1) ++ bitsText (r .chunk2) ++ lineEnd
+
+-- the line of a word: its number, then position, residual, rule and bits, or the refusal
 unfoldable pub wordLine : (number : ℕ) → ReadAnswer → List ℕ
-wordLine number (At r) =
-    decimal number ++ field " at " (r .position) ++ field " residual " (r .residual) ++ lastField " rule " (r .rule)
+wordLine number (At r) = decimal number ++ field " at " (r .position) ++ field " residual " (r .residual) ++ ruleAndBits r
 wordLine number (ReadRefused refusal) = decimal number ++ lastField " refused " refusal
 
 -- the line of the bytes short of a word at the end; no line where there is none
@@ -43,4 +54,4 @@ lastLine words read = field "words " words ++ lastField " read " read
 
 -- the bytes that a line may take in a buffer; no line is longer
 abbrev pub lineRoom : ℕ
-lineRoom = 128
+lineRoom = 144

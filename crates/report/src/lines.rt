@@ -1,13 +1,16 @@
 // The lines that tramread prints. Each wants room for the longest line, and answers the next place.
 ghost use Prim.Native.Nat.{_+_, _≤_};
 ghost use lib.ListN.{length};
-ghost use Rattle.report.specs.Lines.{cardLine, wordLine, shortLine, lastLine, lineRoom};
+ghost use Rattle.report.specs.Lines.{cardLine, bitsText, ruleAndBits, wordLine, shortLine, lastLine, lineRoom};
 ghost use Rattle.report.specs.Puts.{Puts};
 use crate::pieces::put_field;
 use crate::pieces::put_last_field;
+use crate::pieces::put_line_end;
 use crate::pieces::put_number;
 use model::CardAnswer;
+use model::ChunkBits;
 use model::ReadAnswer;
+use model::Reading;
 
 // The line of the card.
 pub fn put_card_line(out: &mut [u8], at: usize, answer: CardAnswer) -> usize
@@ -25,6 +28,32 @@ pub fn put_card_line(out: &mut [u8], at: usize, answer: CardAnswer) -> usize
     }
 }
 
+// How many bits a code chunk needed, after a space; nothing where the chunk was not read.
+fn put_bits(out: &mut [u8], at: usize, bits: ChunkBits) -> usize
+    requires { ⌜ at + 21 ≤ length (now out) ⌝ }
+    ensures { λ r. ⌜ Puts (now (out .entry)) at (bitsText bits) (now (out .exit)) r ⌝ }
+    ensures { λ r. ⌜ r ≤ at + 21 ⌝ }
+{
+    match bits {
+        ChunkBits::Differing(count) => put_field(out, at, b" ", count as u64),
+        ChunkBits::NotRead => at,
+    }
+}
+
+// The last part of the line of a word that is read: the rule, the bits that its chunks needed, chunk 1 first, and the line's end.
+fn put_rule_and_bits(out: &mut [u8], at: usize, read: Reading) -> usize
+    requires { ⌜ at + 69 ≤ length (now out) ⌝ }
+    ensures { λ r. ⌜ Puts (now (out .entry)) at (ruleAndBits read) (now (out .exit)) r ⌝ }
+    ensures { λ r. ⌜ r ≤ at + 69 ⌝ }
+{
+    let chunk1 = read.chunk1;
+    let chunk2 = read.chunk2;
+    let chunk1_at = put_field(out, at, b" rule ", read.rule as u64);
+    let chunk2_at = put_bits(out, chunk1_at, chunk1);
+    let end_at = put_bits(out, chunk2_at, chunk2);
+    put_line_end(out, end_at)
+}
+
 // The line of word `number`.
 pub fn put_word_line(out: &mut [u8], at: usize, number: u64, answer: ReadAnswer) -> usize
     requires { ⌜ at + lineRoom ≤ length (now out) ⌝ }
@@ -36,7 +65,7 @@ pub fn put_word_line(out: &mut [u8], at: usize, number: u64, answer: ReadAnswer)
         ReadAnswer::At(read) => {
             let residual_at = put_field(out, answer_at, b" at ", read.position as u64);
             let rule_at = put_field(out, residual_at, b" residual ", read.residual as u64);
-            put_last_field(out, rule_at, b" rule ", read.rule as u64)
+            put_rule_and_bits(out, rule_at, read)
         }
         ReadAnswer::Refused(refusal) => put_last_field(
             out,

@@ -9,17 +9,17 @@ use lib.ListN.{length, take, drop}
 use Rattle.bits.specs.Sums.{sumBelow}
 use Rattle.model.specs.Card.{Code}
 use Rattle.model.specs.Answers.{wordLength, readWord}
-use Rattle.report.specs.Lines.{wordLine}
+use Rattle.report.specs.Lines.{wordLine, lineRoom}
 use Rattle.report.specs.Puts.{Puts}
 use Rattle.report.specs.Report.{answerAt, wordLines, readCount, wordsRead}
 
--- of `words` words of w bytes the lines of the first i have been put, at most 128 bytes each, and of these words those that were
+-- of `words` words of w bytes the lines of the first i have been put, at most `lineRoom` bytes each, and of these words those that were
 -- read are counted; word i starts at place `from`
 pub record WordsPutSoFar (C : Code) (bytes : List ℕ) (met words w : ℕ) (out₀ : List ℕ) (at : ℕ) (out : List ℕ) (next read from i : ℕ) : Type 0 where
   pub within : i ≤ words
   pub start : from ≡ i * w
   pub lines : Puts out₀ at (wordLines C bytes met i) out next
-  pub room : next ≤ at + i * 128
+  pub room : next ≤ at + i * lineRoom
   pub counted : read ≡ wordsRead C bytes i
   pub few : read ≤ i
   pub same-length : length out ≡ length out₀

@@ -37,17 +37,17 @@ fn input_buffer() -> [u8; 64000]
 }
 
 // A buffer for the lines that go out.
-fn line_buffer() -> [u8; 204800]
-    ensures { λ r. ⌜ 204800 ≡ length r ⌝ }
+fn line_buffer() -> [u8; 230400]
+    ensures { λ r. ⌜ 230400 ≡ length r ⌝ }
 {
-    [0; 204800]
+    [0; 230400]
 }
 
 // The report of a card and the words behind it: all but its last part is put out, and that part is left in `out`. The card is
 // checked and decoded once.
 fn report_on(card: &[u8], input: &mut [u8], out: &mut [u8]) -> Ended
     requires { ⌜ length (now card) ≤ 512 ⌝ }
-    requires { ⌜ (length (now input) ≡ 64000) × (length (now out) ≡ 204800) ⌝ }
+    requires { ⌜ (length (now input) ≡ 64000) × (length (now out) ≡ 230400) ⌝ }
     ensures { λ r. ⌜ LastPart (λ came. reportOf (now (card .entry) ++ came)) (now (out .exit)) r ⌝ }
 {
     let decoded = decode::decode(card);

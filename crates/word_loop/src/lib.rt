@@ -13,7 +13,7 @@ use position::layout;
 use standard_io::Received;
 use stream::turn;
 
-// A turn of the loop reads at most 1,600 words: 64,000 bytes of the widest word, and 204,800 bytes of lines.
+// A turn of the loop reads at most 1,600 words: 64,000 bytes of the widest word, and 230,400 bytes of lines.
 const WORDS: usize = 1600;
 
 // A proved loop has to end, and nothing says that the input does: the loop counts its turns down, from a number that no run uses
@@ -48,7 +48,7 @@ pub fn put_out(buffer: &[u8], end: usize) -> bool
 pub fn read_words(code: DecodedCode, input: &mut [u8], out: &mut [u8]) -> Ended
     requires { ⌜ Sound (meaning code) ⌝ }
     requires { ⌜ FromCard (meaning code) ⌝ }
-    requires { ⌜ (length (now input) ≡ 64000) × (length (now out) ≡ 204800) ⌝ }
+    requires { ⌜ (length (now input) ≡ 64000) × (length (now out) ≡ 230400) ⌝ }
     ensures { λ r. ⌜ LastPart (wordsReport (meaning code)) (now (out .exit)) r ⌝ }
 {
     let full = WORDS * layout::word_length(code);

@@ -21,7 +21,7 @@ use Rattle.word_loop.proofs.read_words.Tie as tie
 
 abbrev Inv-loop : tie.InvT-loop
 Inv-loop code input₀ out₀ full progress₀ turns₀ input out progress turns =
-    (length input ≡ 64000) × (length out ≡ 204800) × (progress .met + 1600 * turns ≤ 14411518807585587200)
+    (length input ≡ 64000) × (length out ≡ 230400) × (progress .met + 1600 * turns ≤ 14411518807585587200)
     × (turns ≤ 9007199254740992) × Reached (meaning code) input progress (9007199254740992 - turns)
 
 abbrev μ-loop : tie.MeasureT-loop
@@ -89,7 +89,7 @@ turned c =
     (omega (arith, rw arrived at (taken .met)), omega (arith, rw arrived at (taken .room)))
 
 -- both buffers are as long as they were
-still-long : (c : tie.After-take-in Inv-loop μ-loop) → (length (c .take-in .last .1 .1 .0) ≡ 64000) × (length (c .take-in .last .0) ≡ 204800)
+still-long : (c : tie.After-take-in Inv-loop μ-loop) → (length (c .take-in .last .1 .1 .0) ≡ 64000) × (length (c .take-in .last .0) ≡ 230400)
 still-long c =
     let come = received c in
     let inv = head come .loop .inv in

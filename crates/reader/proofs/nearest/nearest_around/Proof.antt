@@ -2,8 +2,6 @@
 -- Assumes nothing.
 use mathlib.Core.Path.{_∙_}
 use Rattle.model.specs.Decoded.{meaning}
-use Rattle.model.specs.Reading.{range₃}
-use Rattle.reader.proofs.Scanning.{answer-of-search}
 use Rattle.reader.proofs.RuleRanges.{track-ends, track-goes-on}
 use native.Mathlib.Omega.{arith}
 use borrow.Author.Needs.{needs}
@@ -12,22 +10,26 @@ use Rattle.reader.proofs.nearest.nearest_around.Tie as tie
 
 returns : tie.Need-returns
 returns c =
-    let first = c .before .before .before .before in
+    let first = c .before .before .before in
     let C = meaning (first .args .code) in
-    let search = c .before .before .before .search-before-start .ensures in
-    c .found .ensures
-    ∙ answer-of-search C _ 3 (range₃ C (first .args .p)) _ (search .2) (search .0)
-    (search .1 ∙ track-ends C (first .args .p) (c .before .if1 .taken ∙ c .before .before .last-codeword .ensures))
+    let (low, position, scanned) = c .before .before .search-before-start .ensures in
+    record {
+      low = low;
+      high = position ∙ track-ends C (first .args .p) (c .if1 .taken ∙ c .before .last-codeword .ensures);
+      scanned = scanned;
+    }
 
 returns-2 : tie.Need-returns-2
 returns-2 c =
-    let first = c .before .before .before .before .before in
+    let first = c .before .before .before .before in
     let C = meaning (first .args .code) in
-    let before = c .before .before .before .before .search-before-start .ensures in
-    let search = c .before .search-after-start .ensures in
-    c .found2 .ensures
-    ∙ answer-of-search C _ 3 (range₃ C (first .args .p)) _ (search .2) (search .0 ∙ before .0)
-    (search .1 ∙ track-goes-on C (first .pre .0) (first .args .p) (omega arith))
+    let before = c .before .before .before .search-before-start .ensures in
+    let (low, position, scanned) = c .search-after-start .ensures in
+    record {
+      low = low ∙ before .0;
+      high = position ∙ track-goes-on C (first .pre .0) (first .args .p) (omega arith);
+      scanned = scanned;
+    }
 
 pub nearest-around-spec : {M : Type 1} → statement M
 nearest-around-spec =
@@ -35,8 +37,6 @@ nearest-around-spec =
     (tie.spec
     (λ c κs. search needs)
     (λ c κs. search needs)
-    (λ c κs. search needs)
     returns
-    (λ c κs. search needs)
     (λ c κs. search needs)
     returns-2)

@@ -8,7 +8,7 @@ use Rattle.model.specs.declared.Chunk.the-variants.{Codeword}
 use Rattle.code_theory.proofs.Promise.{promise}
 use native.Mathlib.Omega.{arith}
 use borrow.Author.Needs.{needs}
-use Rattle.reader.proofs.RuleAnswers.{chunk₁Reads, read-from, rule₁-unreadable, rule₁-no-block, rule₁-answers}
+use Rattle.reader.proofs.RuleAnswers.{chunk₁Reads, read-from, rule₁-unreadable, rule₁-no-block, rule₁-found, rule₁-answers}
 use Rattle.reader.proofs.reading.by_rule1.Statement.{statement}
 use Rattle.reader.proofs.reading.by_rule1.Tie as tie
 
@@ -38,7 +38,12 @@ nearest-before-requires c κs =
     (first .pre .0, first .pre .1, omega (arith, c .if1 .left), bound)
 
 returns-2 : tie.Need-returns-2
-returns-2 c = c .nearest-before .ensures ∙ rule₁-answers _ _ _ _ (codeword-read (c .before .before .before)) (c .before .if1 .left)
+returns-2 c =
+    let searched = c .before in
+    let read = codeword-read (searched .before .before .before) in
+    c .found .ensures
+    ∙ rule₁-found _ _ _ _ read _ _ (searched .nearest-before .ensures)
+    ∙ rule₁-answers _ _ _ _ read (searched .before .if1 .left)
 
 returns-3 : tie.Need-returns-3
 returns-3 c = rule₁-unreadable _ _ (sym (chunk-read (c .before .before)) ∙ c .enum-told .given .1)
@@ -52,6 +57,7 @@ by-rule1-spec =
     (λ c. search needs)
     returns
     nearest-before-requires
+    (λ c κs. search needs)
     (λ c. search needs)
     returns-2
     returns-3)

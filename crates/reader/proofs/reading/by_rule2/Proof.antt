@@ -8,7 +8,7 @@ use Rattle.model.specs.declared.Chunk.the-variants.{Codeword}
 use Rattle.code_theory.proofs.Promise.{promise}
 use native.Mathlib.Omega.{arith}
 use borrow.Author.Needs.{needs}
-use Rattle.reader.proofs.RuleAnswers.{chunk₂Reads, read-from, rule₂-unreadable, rule₂-no-block, rule₂-answers}
+use Rattle.reader.proofs.RuleAnswers.{chunk₂Reads, read-from, rule₂-unreadable, rule₂-no-block, rule₂-found, rule₂-answers}
 use Rattle.reader.proofs.reading.by_rule2.Statement.{statement}
 use Rattle.reader.proofs.reading.by_rule2.Tie as tie
 
@@ -39,9 +39,12 @@ nearest-after-requires c κs =
 
 returns-2 : tie.Need-returns-2
 returns-2 c =
-    let at-last = c .before .before in
-    c .nearest-after .ensures
-    ∙ rule₂-answers _ _ _ _ (codeword-read (at-last .before .before)) (λ e. c .before .if1 .left (e ∙ sym (at-last .last-codeword .ensures)))
+    let searched = c .before in
+    let at-last = searched .before .before in
+    let read = codeword-read (at-last .before .before) in
+    c .found .ensures
+    ∙ rule₂-found _ _ _ _ read _ _ (searched .nearest-after .ensures)
+    ∙ rule₂-answers _ _ _ _ read (λ e. searched .before .if1 .left (e ∙ sym (at-last .last-codeword .ensures)))
 
 returns-3 : tie.Need-returns-3
 returns-3 c = rule₂-unreadable _ _ (sym (chunk-read (c .before .before)) ∙ c .enum-told .given .1)
@@ -56,6 +59,7 @@ by-rule2-spec =
     (λ c κs. search needs)
     returns
     nearest-after-requires
+    (λ c κs. search needs)
     (λ c. search needs)
     returns-2
     returns-3)

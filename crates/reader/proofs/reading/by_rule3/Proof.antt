@@ -8,7 +8,7 @@ use Rattle.model.specs.declared.Chunk.the-variants.{Codeword}
 use Rattle.code_theory.proofs.Promise.{promise}
 use borrow.Author.Needs.{needs}
 use Rattle.reader.proofs.RuleAnswers.{chunk₁Reads, chunk₂Reads, read-from}
-use Rattle.reader.proofs.RuleAnswers.{rule₃-unreadable, rule₃-second-unreadable, rule₃-unlike, rule₃-answers}
+use Rattle.reader.proofs.RuleAnswers.{rule₃-unreadable, rule₃-second-unreadable, rule₃-unlike, rule₃-found, rule₃-answers}
 use Rattle.reader.proofs.reading.by_rule3.Statement.{statement}
 use Rattle.reader.proofs.reading.by_rule3.Tie as tie
 
@@ -64,9 +64,12 @@ nearest-around-requires c κs =
 
 returns-4 : tie.Need-returns-4
 returns-4 c =
-    let known₂ = c .before .before .before in
-    c .nearest-around .ensures
-    ∙ rule₃-answers _ _ _ _ _ _ (codeword-read₁ (known₂ .before .before .before .before)) (codeword-read₂ known₂) (c .before .if1 .left)
+    let searched = c .before in
+    let known₂ = searched .before .before .before in
+    let read₁ = codeword-read₁ (known₂ .before .before .before .before) in
+    c .found .ensures
+    ∙ rule₃-found _ _ _ _ _ _ read₁ (codeword-read₂ known₂) _ _ (searched .nearest-around .ensures)
+    ∙ rule₃-answers _ _ _ _ _ _ read₁ (codeword-read₂ known₂) (searched .before .if1 .left)
 
 pub by-rule3-spec : {M : Type 1} → statement M
 by-rule3-spec =
@@ -83,4 +86,5 @@ by-rule3-spec =
     returns-2
     returns-3
     nearest-around-requires
+    (λ c κs. search needs)
     returns-4)

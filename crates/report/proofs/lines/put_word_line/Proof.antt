@@ -12,7 +12,7 @@ returns : tie.Need-returns
 unfolding ascii wordLine
 returns c =
     let rule = c .before .before in
-    let residual = rule .before .before .before .before .before .before in
+    let residual = rule .before .before .before .before in
     let position = residual .before .before .before .before .before .before in
     let arm = position .before .before .before .before .before in
     let number = arm .before .before .before .before in
@@ -21,7 +21,7 @@ returns c =
           (puts-then (omega arith)
           (puts-then (omega arith) (number .put-number .ensures .0) (position .put-field .ensures .0))
           (residual .put-field2 .ensures .0))
-          (rule .put-last-field .ensures .0),
+          (rule .put-rule-and-bits .ensures .0),
       omega arith,
     )
 
@@ -32,7 +32,7 @@ returns-2 c =
     let arm = refusal .before .before .before .before in
     let number = arm .before .before .before .before in
     rw (arm .answer2 .given .1) (
-      puts-then (omega arith) (number .put-number .ensures .0) (refusal .put-last-field2 .ensures .0),
+      puts-then (omega arith) (number .put-number .ensures .0) (refusal .put-last-field .ensures .0),
       omega arith,
     )
 
@@ -48,8 +48,6 @@ put-word-line-spec =
     (λ c. search needs)
     (λ c. search needs)
     (λ c κs. search needs)
-    (λ c. search needs)
-    (λ c. search needs)
     (λ c κs. search needs)
     (λ c. search needs)
     (λ c. search needs)

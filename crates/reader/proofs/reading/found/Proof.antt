@@ -1,9 +1,9 @@
--- `reader::nearest::found` meets its contract: the answer is the search's nearest position, with the residual that the search has
+-- `reader::reading::found` meets its contract: the answer is the search's nearest position, with the residual that the search has
 -- counted for it. Assumes nothing.
 use mathlib.Core.Path.{refl}
 use Rattle.reader.specs.Scanned.{foundAt}
-use Rattle.reader.proofs.nearest.found.Statement.{statement}
-use Rattle.reader.proofs.nearest.found.Tie as tie
+use Rattle.reader.proofs.reading.found.Statement.{statement}
+use Rattle.reader.proofs.reading.found.Tie as tie
 
 returns : tie.Need-returns
 unfolding foundAt
