@@ -13,6 +13,9 @@ use std::slice;
 /// The status of a call whose lent numbers, or bytes of a card, are too few or too many.
 const WRONG_COUNT: u32 = 100;
 
+/// Stands where a chunk that the rule doesn't name would have its count of bits. No chunk has so many: n is at most 64.
+const NO_BITS: u32 = u32::MAX;
+
 /// Checks a card: n, k, track, D, t, d and last position into seven numbers.
 ///
 /// # Safety
@@ -42,7 +45,8 @@ pub unsafe extern "C" fn second_write_word(
     status(crate::write_word(card, position, word))
 }
 
-/// Reads a received word: position, residual and rule into three numbers.
+/// Reads a received word: position, residual, rule, bits of chunk 1 and bits of chunk 2 into five numbers. A chunk that the rule
+/// doesn't name has 4,294,967,295.
 ///
 /// # Safety
 /// As above.
@@ -57,8 +61,8 @@ pub unsafe extern "C" fn second_read_word(
 ) -> u32 {
     let (card, word, values) = unsafe { (lent(card, card_bytes), lent(word, word_bytes), lent_mut(values, count)) };
     put(values, || {
-        let Reading { position, residual, rule } = crate::read_word(card, word)?;
-        Ok([position, residual, rule])
+        let Reading { position, residual, rule, chunk1_bits, chunk2_bits } = crate::read_word(card, word)?;
+        Ok([position, residual, rule, chunk1_bits.unwrap_or(NO_BITS), chunk2_bits.unwrap_or(NO_BITS)])
     })
 }
 
@@ -96,4 +100,41 @@ unsafe fn lent_mut<'a, T>(start: *mut T, count: usize) -> &'a mut [T] {
         return &mut [];
     }
     unsafe { slice::from_raw_parts_mut(start, count) }
+}
+
+#[cfg(test)]
+mod tests {
+    use super::second_read_word;
+
+    /// Reads a word of document 01's card B (n 3, k 1, track 14, row 7, check 145 or `00 91`) into as many numbers as are lent.
+    fn read(word: [u8; 2], values: &mut [u32]) -> u32 {
+        let mut card = [0; 512];
+        (card[0], card[1], card[3], card[11], card[511]) = (3, 1, 14, 7, 0x91);
+        // SAFETY: each pointer is that of an array or slice with its own count of elements, borrowed until the call returns.
+        unsafe { second_read_word(card.as_ptr(), card.len(), word.as_ptr(), word.len(), values.as_mut_ptr(), values.len()) }
+    }
+
+    /// A word of each rule, worked out by hand in the tests of src/reading.rs; the two counts of the last one differ.
+    #[test]
+    fn a_word_read_leaves_five_numbers() {
+        let read_five = |word| {
+            let mut values = [7; 5];
+            assert_eq!(read(word, &mut values), 0);
+            values
+        };
+        assert_eq!(read_five([0xEF, 0x0F]), [12, 1, 1, 1, 4_294_967_295]);
+        assert_eq!(read_five([0x7F, 0x00]), [7, 0, 2, 4_294_967_295, 0]);
+        assert_eq!(read_five([0x10, 0x00]), [0, 1, 3, 1, 0]);
+    }
+
+    /// Document 01 refuses `C0 01` with 9. Any count but five is answered 100.
+    #[test]
+    fn another_status_changes_nothing() {
+        let mut values = [7; 6];
+        assert_eq!(read([0xC0, 0x01], &mut values[..5]), 9);
+        for count in [0, 3, 4, 6] {
+            assert_eq!(read([0x7F, 0x00], &mut values[..count]), 100);
+        }
+        assert_eq!(values, [7; 6]);
+    }
 }

@@ -39,10 +39,11 @@ impl Code {
         weight(self.codeword(i) ^ self.codeword(i + 1))
     }
 
-    /// What a code chunk reads as: the first p whose c(p) lies within t bits of it, if there is one.
-    pub fn read_chunk(&self, chunk: &[bool]) -> Option<usize> {
+    /// What a code chunk reads as: the first p whose c(p) lies within t bits of it, if there is one; and, for request P3, the
+    /// number of bits in which the chunk and that c(p) differ.
+    pub fn read_chunk(&self, chunk: &[bool]) -> Option<(usize, usize)> {
         let wrong = |p| bits_of(self.codeword(p), self.n).zip(chunk).filter(|(sent, came)| sent != *came).count();
-        (0..self.codewords()).find(|&p| wrong(p) <= self.radius())
+        (0..self.codewords()).map(|p| (p, wrong(p))).find(|&(_, bits)| bits <= self.radius())
     }
 }
 
