@@ -118,9 +118,10 @@ read c =
 returns : tie.Need-returns Inv-bits μ-bits Inv-loop μ-loop
 returns c =
     let at = c .before .before .before in
-    let whole = counted (c .before) .whole (c .if2 .taken) ∙ bits-apart (at .loop .inv) in
+    let unlike = bits-apart (at .loop .inv) in
+    let whole = counted (c .before) .whole (c .if2 .taken) ∙ unlike in
     let near = le-leb _ _ (rw whole at (c .if2 .taken)) in
-    meets _ _ _ (search-found _ _ _ _ _ _ _ (at .loop .inv) _ _ whole near ∙ read at)
+    meets _ _ _ (search-found _ _ _ _ _ _ _ (at .loop .inv) _ _ unlike near ∙ read at)
 
 returns-2 : tie.Need-returns-2 Inv-bits μ-bits Inv-loop μ-loop
 returns-2 c =
