@@ -84,13 +84,14 @@ pub fn write_word(card: &[u8], position: u32, word: &mut [u8]) -> WriteAnswer
     WriteAnswer::Written
 }
 
-// Reads a received word: its position, the residual, the rule, and how many bits each code chunk needed that the rule names, which is
-// chunk 1 by rule 1, chunk 2 by rule 2 and both by rule 3. Refused: the card, 1 to 5 or 14; a word that has not exactly the bytes
-// of a word, 6; a spare bit set, 8; separators that name no rule, 9; a chunk that the rule names with no codeword within the
-// radius, 10; two chunks that read differently, 11; a block before the first or after the last, 12.
+// Reads a received word: its position, the residual, the rule, and how many bits each code chunk that the rule names needed: chunk 1 by
+// rule 1, chunk 2 by rule 2, both by rule 3. A chunk that the rule does not name was not read, and has no count. Refused: the card, 1
+// to 5 or 14; a word that has not exactly the bytes of a word, 6; a spare bit set, 8; separators that name no rule, 9; a chunk that
+// the rule names with no codeword within the radius, 10; two chunks that read differently, 11; a block before the first or after the
+// last, 12.
 // Of the word of any position on the track, with at most t bits turned in each chunk, the answer is a position, and it is at most
 // twice as many steps off as bits are turned, and at most as many as bits are turned and the residual together. Of any word
-// that is read, it is the nearest of the positions that the rule allows, and the bits that a chunk needed are the count of places in
+// that is read, it is the nearest of the positions that the rule allows, and how many bits a chunk needed is the count of places in
 // which that chunk of the received word and the codeword that it reads as differ, at most t.
 pub fn read_word(card: &[u8], word: &[u8]) -> ReadAnswer
     ensures answer { λ r. ⌜ r ≡ readAnswer (now (card .entry)) (now (word .entry)) ⌝ }

@@ -49,8 +49,9 @@ const OF_DOCUMENT_01: [u64; 109] = [
     0x9_02_01000000,
     0x9_02_ff3f0000,
     0x9_02_380e0000,
-    // one bit turned in a chunk that the rule names: rule 1, rule 2, and by rule 3 in chunk 1, in chunk 2 and in both
-    0x9_02_ef030000,
+    // one bit turned in a chunk that the rule names: by rule 1 with one more in chunk 2, by rule 2, and by rule 3 in chunk 1, in chunk 2
+    // and in both
+    0x9_02_ef0b0000,
     0x9_02_7f020000,
     0x9_02_09000000,
     0x9_02_01040000,

@@ -2,7 +2,7 @@
 -- answer that is near a position crosses with status 0, and the numbers left are its values. Where the count of the lent numbers is
 -- wrong, nothing is claimed. Assumes nothing.
 use mathlib.Core.Path.{_≡_, refl, sym, _∙_}
-use mathlib.Core.Bool.{Bool}
+use mathlib.Core.Bool.{Bool, true, false}
 use mathlib.Core.List.{List}
 use mathlib.Core.Logic.{⊎-elim}
 use Prim.Native.Nat.{ℕ}
@@ -38,10 +38,8 @@ near-crosses lent alike (Refused refusal) status left is-status is-left position
 bits-cross : (C : Code) (named : Bool) (chunk : ℕ → ℕ) (p : ℕ) (answered : ChunkBits) → TellsBits C named chunk p answered
     → LeavesBits C named chunk p (bitsValue answered)
 unfolding TellsBits LeavesBits bitsValue
-bits-cross C named chunk p answered tells = (
-  λ is. let (count, differing, counts) = tells .0 is in rw differing counts,
-  λ is. rw (tells .1 is),
-)
+bits-cross C true chunk p answered (count, differing, counts) = rw differing counts
+bits-cross C false chunk p answered not-read = rw not-read
 
 -- a status of 0 is that of an answer that is served
 served-crosses : (lent : List ℕ) (answered : ℕ) → statusFor readCount lent answered ≡ 0 → answered ≡ 0
@@ -62,6 +60,7 @@ module _ (card received lent : List ℕ) where
       let bits = tells r refl in
       let left-are : left ≡ readValues (At r) = is-left ∙ rw zero in
       rw left-are (record {
+        by-rule = bits .by-rule;
         p = bits .p;
         in-code = bits .in-code;
         allows = bits .allows;

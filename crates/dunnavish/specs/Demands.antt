@@ -1,7 +1,7 @@
 -- Demand 3 of the reading call for C, over its status and the five numbers that it leaves: position, residual, rule, and the bits that
 -- chunks 1 and 2 needed. The premises on card, position and word are those of the library's reading call; the caller lends five
 -- numbers besides. And what the calls of document 02, P1, promise: a made card, and a vote; what P2 promises of old cards; and what P3
--- does of the bits of a chunk. Assumes nothing.
+-- promises of the bits of a chunk. Assumes nothing.
 use mathlib.Core.Path.{_≡_}
 use mathlib.Core.Bool.{Bool, true, false}
 use mathlib.Core.List.{List, [], _∷_, map}
@@ -11,15 +11,14 @@ use lib.ListN.{length, getD}
 use Rattle.bits.specs.Places.{bit, place}
 use Rattle.model.specs.Card.{Code, codeOf, SoundCard}
 use Rattle.model.specs.Order.{lastCodeword, lastPosition}
-use Rattle.model.specs.Words.{chunk₁, chunk₂}
-use Rattle.model.specs.Reading.{chunkDistance, withinRadius, chunkReading, namesFirst, namesSecond, twoEnds, allowed}
+use Rattle.model.specs.Reading.{chunkDistance, withinRadius, chunkReading}
 use Rattle.model.specs.ReedMuller.{reedMuller, reedMullerCard, orderWithinLimits}
 use Rattle.model.specs.Statuses.{chunkStatus, chunkValues, notRead, cardStatus, cardValues, numberStatus, numberValues}
 use Rattle.model.specs.declared.Chunk.{Chunk}
 use Rattle.model.specs.declared.NumberAnswer.{NumberAnswer}
 use Rattle.code_theory.specs.Offsets.{OldCard, oldCardAnswer, oldMillimetresAnswer}
 use Rattle.position_theory.specs.Damage.{WithinRadius, turned}
-use Rattle.position_theory.specs.ChunkBits.{CountsDiffering}
+use Rattle.position_theory.specs.ChunkBits.{CountsDiffering, BitsOfChunks}
 use Rattle.reed_muller_theory.specs.MadeCards.{IsReedMullerCard}
 use Rattle.dunnavish.specs.Crossing.{cardBytes, cardCount, numberCount, readCount, voteCount, leftBy}
 
@@ -58,24 +57,6 @@ ServedWithinTurnedAndResidual card received lent status left =
     length lent ≡ readCount → (position : ℕ) → SoundCard card → position ≤ lastPosition (codeOf card)
     → WithinRadius (codeOf card) position received
     → ServedNear status left position (turned (codeOf card) position received + residualLeft left)
-
--- what is left of a code chunk is, where the rule names it, the count of places in which it and c(p) differ, at most t, and where the
--- rule does not, the number that is no count
-unfoldable pub LeavesBits : Code → (named : Bool) (chunk : ℕ → ℕ) (p left : ℕ) → Type 0
-LeavesBits C named chunk p left = (named ≡ true → CountsDiffering C chunk p left) × (named ≡ false → left ≡ notRead)
-
--- The numbers left by the reading of the received word x: its rule's chunks read as one codeword c(p), by which positions are allowed,
--- and the bits left are those of both chunks of x against that codeword.
-pub record BitsLeft (C : Code) (x : ℕ → ℕ) (left : List ℕ) : Type 0 where
-  pub p : ℕ
-  pub in-code : p ≤ lastCodeword C
-  pub allows : allowed C x ≡ twoEnds C .range (ruleLeft left) p
-  pub first : LeavesBits C (namesFirst (ruleLeft left)) (chunk₁ C x) p (bits₁Left left)
-  pub second : LeavesBits C (namesSecond (ruleLeft left)) (chunk₂ C x) p (bits₂Left left)
-
--- Document 02, P3: of every word that is read, on every card
-unfoldable pub LeavesBitsOfChunks : (card received : List ℕ) (status : ℕ) (left : List ℕ) → Type 0
-LeavesBitsOfChunks card received status left = status ≡ 0 → BitsLeft (codeOf card) (place received) left
 
 -- Document 02, P1, where 512 bytes are lent: for every r and m within the limits the status is 0, and the bytes left are the card of the
 -- Reed-Muller code for the track
@@ -117,3 +98,14 @@ DistanceLeftAsBefore card position lent status left =
     length lent ≡ numberCount → OldCard card
     → let answer : NumberAnswer = oldMillimetresAnswer card position in
     (status ≡ numberStatus answer) × (left ≡ leftBy status (map pos (numberValues answer)) lent)
+
+-- the number left for a code chunk: where the rule names the chunk, the count of places in which it and c(p) differ, at most t; where the
+-- rule does not, the number that is no count
+unfoldable pub LeavesBits : Code → (named : Bool) (chunk : ℕ → ℕ) (p left : ℕ) → Type 0
+LeavesBits C true chunk p left = CountsDiffering C chunk p left
+LeavesBits C false chunk p left = left ≡ notRead
+
+-- Document 02, P3: of every word that is read, on every card, the numbers left tell the bits of both chunks
+unfoldable pub LeavesBitsOfChunks : (card received : List ℕ) (status : ℕ) (left : List ℕ) → Type 0
+LeavesBitsOfChunks card received status left =
+    status ≡ 0 → BitsOfChunks ℕ LeavesBits (codeOf card) (place received) (ruleLeft left) (bits₁Left left) (bits₂Left left)

@@ -24,8 +24,8 @@ pub fn radius_of(code: DecodedCode) -> u32
 // Document 01 names the form: nested loops, over codewords and, inside, over bits. A label leaves the bit loop once the radius
 // is passed, and the loop over codewords yields its value by `break`. What is kept of codeword i is `apart`, the places in which
 // it and the chunk differ: from one codeword to the next they change by one row. The bits met are those: each turn counts one
-// and, unless the radius is passed, clears the lowest that is left. The count that is answered is taken of `apart` once the codeword
-// is found: where the bit loop's own count is not kept, each of its turns is compiled to one instruction fewer.
+// and, unless the radius is passed, clears the lowest that is left. The count that is answered is the number of ones of `apart`, taken
+// once the codeword is found: where the bit loop's own count is not kept, each of its turns is compiled to one instruction fewer.
 pub fn read_chunk(code: DecodedCode, x: u64) -> Chunk
     requires { ⌜ Sound (meaning code) × (x < 2 ^ code .n) ⌝ }
     ensures answer { λ r. ⌜ r ≡ chunkReading (meaning code) (bit x) ⌝ }

@@ -12,7 +12,7 @@ use Rattle.model.specs.CardBytes.{cardEnding, cardOf}
 use Rattle.model.specs.Order.{codeword, lastPosition, start}
 use Rattle.model.specs.Words.{separator₁, separator₂, separator₃, wordBytes, millimetresOf}
 use Rattle.model.specs.Answers.{cardAnswer, writeAnswer, lentAfterWrite, readAnswer, millimetresAnswer, makeAnswer, voteAnswer}
-use Rattle.model.specs.Statuses.{cardStatus, cardValues, writeStatus, writeValues, notRead, readStatus, readValues}
+use Rattle.model.specs.Statuses.{cardStatus, cardValues, writeStatus, writeValues, readStatus, readValues}
 use Rattle.model.specs.Statuses.{millimetresStatus, millimetresValues, voteStatus, voteValues}
 use Rattle.model.specs.declared.MillimetresAnswer.{MillimetresAnswer}
 use Rattle.model.specs.declared.MadeCard.{MadeCard}
@@ -145,7 +145,7 @@ starredCases =
     ∷ case (write cardB 16 (0xaa ∷ 0xaa ∷ [])) (7 ∷ 0xaa ∷ 0xaa ∷ [])
     -- 7 with one bit turned, in chunk 1, which rule 2 does not read, reads 5, off by two; refusals 12 and 11; words of 1 and 3 bytes
     ∷ case (bitsUnlike cardB 7 (0x5f ∷ 0x00 ∷ [])) (1 ∷ [])
-    ∷ case (read cardB (0x5f ∷ 0x00 ∷ [])) (0 ∷ 5 ∷ 1 ∷ 2 ∷ notRead ∷ 0 ∷ [])
+    ∷ case (read cardB (0x5f ∷ 0x00 ∷ [])) (0 ∷ 5 ∷ 1 ∷ 2 ∷ 4294967295 ∷ 0 ∷ [])
     ∷ case (read cardB (0x00 ∷ 0x70 ∷ [])) (12 ∷ [])
     ∷ case (read cardB (0x00 ∷ 0x0e ∷ [])) (11 ∷ [])
     ∷ case (read cardB (0x00 ∷ [])) (6 ∷ [])
@@ -157,9 +157,9 @@ starredCases =
     -- the word of 5 is 11 110 10 000 00, separator 2 ties, and it reads 5 by rule 2; that of 9, 11 110 11 110 10, reads 9 by rule 1
     ∷ case (write cardA 5 (0 ∷ 0 ∷ [])) (0 ∷ 0b00101111 ∷ 0b0000 ∷ [])
     ∷ case (onesOfSeparators cardA (0b00101111 ∷ 0b0000 ∷ [])) (2 ∷ 1 ∷ 0 ∷ [])
-    ∷ case (read cardA (0b00101111 ∷ 0b0000 ∷ [])) (0 ∷ 5 ∷ 0 ∷ 2 ∷ notRead ∷ 0 ∷ [])
+    ∷ case (read cardA (0b00101111 ∷ 0b0000 ∷ [])) (0 ∷ 5 ∷ 0 ∷ 2 ∷ 4294967295 ∷ 0 ∷ [])
     ∷ case (write cardA 9 (0 ∷ 0 ∷ [])) (0 ∷ 0b11101111 ∷ 0b0101 ∷ [])
-    ∷ case (read cardA (0b11101111 ∷ 0b0101 ∷ [])) (0 ∷ 9 ∷ 0 ∷ 1 ∷ 0 ∷ notRead ∷ [])
+    ∷ case (read cardA (0b11101111 ∷ 0b0101 ∷ [])) (0 ∷ 9 ∷ 0 ∷ 1 ∷ 0 ∷ 4294967295 ∷ [])
     -- 00 100 00 000 00 is refusal 10
     ∷ case (read cardA (0b00000100 ∷ 0b0000 ∷ [])) (10 ∷ [])
     -- cards: 512 zero bytes, k 13, rows 3 and 3, 511 bytes
@@ -215,9 +215,10 @@ starredCases =
     -- a check answers as of card B, and a made card carries offset 0
     ∷ case (checkCard (cardBFrom100 lowest)) (0 ∷ 3 ∷ 1 ∷ 14 ∷ 3 ∷ 1 ∷ 15 ∷ 15 ∷ [])
     ∷ case (carriedOffset (makeAnswer 14 1 2 .bytes)) (0 ∷ [])
-    -- document 02, P3: on card B, 10 by rule 1 with one bit turned in chunk 1, and 7 by rule 2 with one in chunk 2
-    ∷ case (read cardB (0xef ∷ 0x03 ∷ [])) (0 ∷ 10 ∷ 1 ∷ 1 ∷ 1 ∷ notRead ∷ [])
-    ∷ case (read cardB (0x7f ∷ 0x02 ∷ [])) (0 ∷ 7 ∷ 1 ∷ 2 ∷ notRead ∷ 1 ∷ [])
+    -- document 02, P3, with 4,294,967,295 for a chunk that was not read: on card B, 10 by rule 1 with one bit turned in chunk 1 and one in
+    -- chunk 2, and 7 by rule 2 with one bit turned in chunk 2
+    ∷ case (read cardB (0xef ∷ 0x0b ∷ [])) (0 ∷ 10 ∷ 2 ∷ 1 ∷ 1 ∷ 4294967295 ∷ [])
+    ∷ case (read cardB (0x7f ∷ 0x02 ∷ [])) (0 ∷ 7 ∷ 1 ∷ 2 ∷ 4294967295 ∷ 1 ∷ [])
     -- n 8, row ff: D 8, t 3, five bytes, one a chunk; 0 by rule 3 with t bits turned in chunk 1 and two in chunk 2; one more is refusal 10
     ∷ case (read (cardWith 8 1 0 (0xff ∷ [])) (0 ∷ 0b111 ∷ 0 ∷ 0b11 ∷ 0 ∷ [])) (0 ∷ 0 ∷ 5 ∷ 3 ∷ 3 ∷ 2 ∷ [])
     ∷ case (read (cardWith 8 1 0 (0xff ∷ [])) (0 ∷ 0b1111 ∷ 0 ∷ 0b11 ∷ 0 ∷ [])) (10 ∷ [])

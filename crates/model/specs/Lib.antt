@@ -6,6 +6,6 @@ pub mod Order
 pub mod Words
 pub mod Reading
 pub mod ReedMuller
-pub mod Answers
 pub mod Statuses
+pub mod Answers
 pub mod Cases

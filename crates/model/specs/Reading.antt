@@ -58,8 +58,8 @@ unfoldable pub numberRead : Chunk → ℕ
 numberRead (Codeword p e) = p
 numberRead Unreadable = 0
 
--- What is seen of a word: what its three separators read, 0 or 1 each, and what either code chunk reads as. The rule and the
--- positions that it allows go by this alone.
+-- What is seen of a word: what its three separators read, 0 or 1 each, and what either code chunk reads as. The rule, the positions
+-- that it allows, and the bits that its chunks needed go by this alone.
 pub record Seen : Type 0 where
   pub s₁ : ℕ
   pub s₂ : ℕ
@@ -158,8 +158,8 @@ residual C x position = distance (wordBits C) (wordAt C position) x
 unfoldable pub nearestIn : (residual : ℕ → ℕ) → Range → ℕ
 nearestIn residual range = leastAt residual (range .low) (range .high - range .low)
 
--- document 02, P3: how many bits a code chunk needed, which are those in which it and its codeword differ, of a chunk that the rule
--- names; any other was not read (an unreadable one that is named has no count, which means nothing: row 10 comes first)
+-- document 02, P3: how many bits a code chunk that the rule names needed, those in which it and its codeword differ; any other chunk was
+-- not read (what is said of an unreadable one that is named means nothing: row 10 comes first)
 unfoldable pub bitsNeeded : (named : Bool) → Chunk → ChunkBits
 bitsNeeded true (Codeword p e) = Differing e
 bitsNeeded true Unreadable = NotRead

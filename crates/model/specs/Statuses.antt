@@ -1,6 +1,7 @@
 -- What the answers, and what a code chunk reads as, stand for in the documents' words, for every case of each enum: its status,
 -- which is 0 where the call is served and the refusal's number in the table where it is turned down, and its values. A refusal
--- carries its number alone. Assumes nothing.
+-- carries its number alone. The number for a code chunk that was not read, which the documents leave open, is fixed here too.
+-- Assumes nothing.
 use mathlib.Core.Bool.{cond}
 use mathlib.Core.List.{List, [], _∷_}
 use Prim.Native.Nat.{ℕ}
@@ -54,8 +55,8 @@ unfoldable pub writeValues : WriteAnswer → List ℕ
 writeValues Written = []
 writeValues (WriteRefused refusal) = []
 
--- how many bits a code chunk needed, as a number: its count, at most t, so below 32; or 2^32 - 1, which is none, of a chunk that was
--- not read
+-- how many bits a code chunk needed, as a number: its count, which is at most t, so below 32; or 2^32 - 1, which is no count, for a chunk
+-- that was not read
 abbrev pub notRead : ℕ
 notRead = 4294967295
 

@@ -1,7 +1,7 @@
 -- Whatever word is received, where no row of the table holds, the positions that it allows are on the track, and their words differ
 -- in as many bits as they in steps: by rules 1 and 2 they lie in one block, by rule 3 within D steps of a start. Assumes nothing.
 use mathlib.Core.Path.{_≡_, refl}
-use mathlib.Core.Bool.{false, true≢false}
+use mathlib.Core.Bool.{false}
 use Prim.Native.Nat.{ℕ, _+_, _≤_, _<_}
 use native.Mathlib.Nat.{le-dest, add-sub-cancel}
 use native.Mathlib.Omega.{arith}
@@ -11,43 +11,31 @@ use Rattle.model.specs.Refusals.{firstRefusal}
 use Rattle.model.specs.Card.{Code}
 use Rattle.model.specs.Order.{lastCodeword, changedWeight, start, lastPosition}
 use Rattle.model.specs.Words.{wordBits, wordAt}
-use Rattle.model.specs.Reading.{unreadable, numberRead, Seen, seen, ruleSeen, ruleNamed, numberBy, Range, range₁, range₂, range₃}
+use Rattle.model.specs.Reading.{Seen, seen, ruleSeen, ruleNamed, Range, range₁, range₂, range₃}
 use Rattle.model.specs.Reading.{Rules, twoEnds, rowsSeen, rangeSeen, rowsOf, allowed}
-use Rattle.model.specs.declared.Chunk.{Chunk}
-use Rattle.model.specs.declared.Chunk.the-variants.{Codeword, Unreadable}
 use Rattle.code_theory.specs.Promise.{ChunkPromise}
-use Rattle.code_theory.proofs.Refusals.{NoneHolds, numbered, none-holds}
 use Rattle.position_theory.proofs.Blocks.{start-on-track}
 use Rattle.position_theory.proofs.Ranges.{isometric-part}
 use Rattle.position_theory.proofs.Separators.{of-every-rule}
+use Rattle.position_theory.proofs.RuleReads.{ReadsKind, reads-in-code, RuleReads, rule-reads}
 use Rattle.position_theory.proofs.Isometry.{IsometricTrack, isometric-block, isometric-around}
 
 -- What is allowed goes by what is seen: what holds of the range of each rule, where its chunks read a number of some kind and its
 -- block exists, holds of all that is allowed where chunks read such numbers only.
 module _ (R : Rules) (P : Range → Type 0) (Kind : ℕ → Type 0) where
-  -- a chunk reads as a codeword whose number is of the kind, if any
-  abbrev ReadsKind : Chunk → Type 0
-  ReadsKind read = (p e : ℕ) → read ≡ Codeword p e → Kind p
-
-  kind-read : (c : Chunk) → ReadsKind c → unreadable c ≡ false → Kind (numberRead c)
-  unfolding unreadable numberRead
-  kind-read (Codeword p e) kind readable = kind p e refl
-  kind-read Unreadable kind readable = absurd (true≢false readable)
-
   -- what a rule allows where its chunks read p
   abbrev Rule : (rule : ℕ) → Type 0
   Rule rule = (p : ℕ) → Kind p → R .noBlock rule p ≡ false → P (R .range rule p)
 
-  module _ (s : Seen) (kind₁ : ReadsKind (s .read₁)) (kind₂ : ReadsKind (s .read₂)) where
+  module _ (s : Seen) (kind₁ : ReadsKind Kind (s .read₁)) (kind₂ : ReadsKind Kind (s .read₂)) where
     pub of-all-allowed : Rule 1 → Rule 2 → Rule 3 → firstRefusal (rowsSeen R s (ruleSeen s)) ≡ 0 → P (rangeSeen R s (ruleSeen s))
-    unfolding NoneHolds numbered rowsSeen numberBy
     of-all-allowed rule₁ rule₂ rule₃ none =
-        of-every-rule (λ rule. NoneHolds (rowsSeen R s rule) → P (rangeSeen R s rule))
-        (λ holds. absurd (true≢false (holds .0)))
-        (λ (_, (read, (_, (block, _)))). rule₁ _ (kind-read (s .read₁) kind₁ (or-false-left _ _ read)) block)
-        (λ (_, (read, (_, (block, _)))). rule₂ _ (kind-read (s .read₂) kind₂ read) block)
-        (λ (_, (read, (_, (block, _)))). rule₃ _ (kind-read (s .read₁) kind₁ (or-false-left _ _ read)) block)
-        (s .s₁) (s .s₂) (s .s₃) (none-holds _ refl none)
+        of-every-rule (λ rule. RuleReads R s Kind rule → P (rangeSeen R s rule))
+        (λ reads. absurd (reads .some-rule refl))
+        (λ reads. rule₁ _ (reads .kind) (reads .block))
+        (λ reads. rule₂ _ (reads .kind) (reads .block))
+        (λ reads. rule₃ _ (reads .kind) (reads .block))
+        (s .s₁) (s .s₂) (s .s₃) (rule-reads R s Kind kind₁ kind₂ none)
 
 -- a range that is not empty, on the track, and isometric
 pub record IsometricOnTrack (C : Code) (range : Range) : Type 0 where
@@ -95,7 +83,7 @@ module _ (C : Code) (promise : ChunkPromise C) where
   unfolding rowsOf allowed ruleNamed twoEnds seen
   allowed-isometric x =
       of-all-allowed (twoEnds C) (IsometricOnTrack C) (λ p. p ≤ lastCodeword C) (seen C x)
-      (λ p e r. promise .chunks .within _ p e r .0) (λ p e r. promise .chunks .within _ p e r .0)
+      (reads-in-code C promise _) (reads-in-code C promise _)
       (λ p h block. rule₁-isometric p h (eqb-false p 0 (or-false-left _ _ block)))
       (λ p h block. rule₂-isometric p (omega (arith, eqb-false p (lastCodeword C) block, h)))
       (λ p h block. rule₃-isometric p h)

@@ -7,6 +7,7 @@ pub mod Telling
 pub mod TrueCases
 pub mod Blocks
 pub mod Isometry
+pub mod RuleReads
 pub mod Allowed
 pub mod TrueAllowed
 pub mod Nearest

@@ -10,16 +10,16 @@ use Rattle.bits.specs.Places.{place}
 use Rattle.model.specs.Refusals.{firstRefusal, unlessRefused}
 use Rattle.model.specs.Card.{Code}
 use Rattle.model.specs.Order.{lastCodeword}
-use Rattle.model.specs.Reading.{chunkReading, unreadable, numberRead, seen, numberBy, Range, range₁, range₂, range₃, twoEnds, rowsSeen, bitsNeeded}
+use Rattle.model.specs.Reading.{chunkReading, unreadable, numberRead, seen, namesFirst, namesSecond, numberBy}
+use Rattle.model.specs.Reading.{Range, range₁, range₂, range₃, twoEnds, rowsSeen, nearestIn, bitsNeeded, nearest}
 use Rattle.model.specs.Words.{chunk₁, chunk₂}
 use Rattle.model.specs.declared.Chunk.{Chunk}
 use Rattle.model.specs.declared.Chunk.the-variants.{Codeword, Unreadable}
+use Rattle.model.specs.declared.ChunkBits.{ChunkBits}
 use Rattle.model.specs.declared.ChunkBits.the-variants.{Differing, NotRead}
 use Rattle.model.specs.declared.ReadAnswer.the-variants.{Refused}
 use Rattle.reader.specs.declared.scan.Scan.{Scan}
-use Rattle.reader.specs.Received.{SearchedRange, nearestBy, answerBy}
-use Rattle.reader.specs.Scanned.{foundAt}
-use Rattle.reader.proofs.Scanning.{answer-of-search}
+use Rattle.reader.specs.Received.{SearchedRange, nearestBy, foundAt, answerBy}
 
 -- of a chunk it matters only where it begins
 pub read-from : (C : Code) (x : ℕ → ℕ) (at there : ℕ) → at ≡ there
@@ -34,6 +34,16 @@ abbrev pub chunk₂Reads : Code → (x : List ℕ) → Chunk
 chunk₂Reads C x = chunkReading C (chunk₂ C (place x))
 
 module _ (C : Code) (x : List ℕ) where
+  -- what is answered of a search through a range, where the bits of the chunks are those of what is seen of them
+  answer-of-search : (rule : ℕ) (range : Range) (s : Scan) → SearchedRange C x range s
+      → (chunk1 chunk2 : ChunkBits) → chunk1 ≡ bitsNeeded (namesFirst rule) (seen C (place x) .read₁)
+      → chunk2 ≡ bitsNeeded (namesSecond rule) (seen C (place x) .read₂)
+      → foundAt s rule chunk1 chunk2 ≡ nearestBy C x rule range
+  unfolding foundAt nearest nearestIn
+  answer-of-search rule range s searched chunk1 chunk2 is₁ is₂ =
+      let scanned = searched .scanned in
+      rw (← (searched .low), ← (searched .high), ← (scanned .nearest), scanned .least, is₁, is₂)
+
   pub rule₁-unreadable : chunk₁Reads C x ≡ Unreadable → Refused 10 ≡ answerBy C x 1
   unfolding answerBy seen rowsSeen unreadable firstRefusal unlessRefused
   rule₁-unreadable r = rw r
@@ -54,7 +64,7 @@ module _ (C : Code) (x : List ℕ) where
     pub rule₁-found : chunk₁Reads C x ≡ Codeword p e → (range : Range) (s : Scan) → SearchedRange C x range s
         → foundAt s 1 (Differing e) NotRead ≡ nearestBy C x 1 range
     unfolding seen bitsNeeded
-    rule₁-found r range s searched = answer-of-search C x 1 range s searched _ _ (rw r) refl
+    rule₁-found r range s searched = answer-of-search 1 range s searched _ _ (rw r) refl
 
     pub rule₁-answers : chunk₁Reads C x ≡ Codeword p e → (p ≡ 0 → ⊥) → nearestBy C x 1 (range₁ C p) ≡ answerBy C x 1
     unfolding answerBy seen rowsSeen unreadable numberBy numberRead twoEnds firstRefusal unlessRefused
@@ -67,7 +77,7 @@ module _ (C : Code) (x : List ℕ) where
     pub rule₂-found : chunk₂Reads C x ≡ Codeword p e → (range : Range) (s : Scan) → SearchedRange C x range s
         → foundAt s 2 NotRead (Differing e) ≡ nearestBy C x 2 range
     unfolding seen bitsNeeded
-    rule₂-found r range s searched = answer-of-search C x 2 range s searched _ _ refl (rw r)
+    rule₂-found r range s searched = answer-of-search 2 range s searched _ _ refl (rw r)
 
     pub rule₂-answers : chunk₂Reads C x ≡ Codeword p e → (p ≡ lastCodeword C → ⊥) → nearestBy C x 2 (range₂ C p) ≡ answerBy C x 2
     unfolding answerBy seen rowsSeen unreadable numberBy numberRead twoEnds firstRefusal unlessRefused
@@ -85,7 +95,7 @@ module _ (C : Code) (x : List ℕ) where
       pub rule₃-found : chunk₁Reads C x ≡ Codeword p e → chunk₂Reads C x ≡ Codeword q f → (range : Range) (s : Scan)
           → SearchedRange C x range s → foundAt s 3 (Differing e) (Differing f) ≡ nearestBy C x 3 range
       unfolding seen bitsNeeded
-      rule₃-found r r′ range s searched = answer-of-search C x 3 range s searched _ _ (rw r) (rw r′)
+      rule₃-found r r′ range s searched = answer-of-search 3 range s searched _ _ (rw r) (rw r′)
 
       pub rule₃-answers : chunk₁Reads C x ≡ Codeword p e → chunk₂Reads C x ≡ Codeword q f → p ≡ q
           → nearestBy C x 3 (range₃ C p) ≡ answerBy C x 3

@@ -8,8 +8,7 @@ ghost use Rattle.model.specs.Decoded.{meaning};
 ghost use Rattle.model.specs.Words.{wordBits};
 ghost use Rattle.model.specs.Reading.{chunkReading, ruleNamed};
 ghost use Rattle.code_theory.specs.Promise.{Sound};
-ghost use Rattle.reader.specs.Received.{NothingSpare, answerBy};
-ghost use Rattle.reader.specs.Scanned.{foundAt};
+ghost use Rattle.reader.specs.Received.{NothingSpare, foundAt, answerBy};
 use super::nearest;
 use super::scan::Scan;
 use linear_code::search;
@@ -31,7 +30,7 @@ fn chunk_reading(code: DecodedCode, x: [u8; 40], at: u32) -> Chunk
     search::read_chunk(code, places::bits_at(x, at, code.n))
 }
 
-// The answer by a rule of a search through all that the rule allows, with the bits that either code chunk needed.
+// What a rule answers of a search through all positions that it allows, with the bits that either code chunk needed.
 fn found(s: Scan, rule: u32, chunk1: ChunkBits, chunk2: ChunkBits) -> ReadAnswer
     ensures { λ r. ⌜ r ≡ foundAt s rule chunk1 chunk2 ⌝ }
 {

@@ -1,4 +1,5 @@
-// The lines that tramread prints. Each wants room for the longest line, and answers the next place.
+// The lines that tramread prints, and the parts of a word's line. A line wants room for the longest one, a part for the longest such
+// part; each function answers the next place.
 ghost use Prim.Native.Nat.{_+_, _≤_};
 ghost use lib.ListN.{length};
 ghost use Rattle.report.specs.Lines.{cardLine, bitsText, ruleAndBits, wordLine, shortLine, lastLine, lineRoom};
@@ -40,7 +41,8 @@ fn put_bits(out: &mut [u8], at: usize, bits: ChunkBits) -> usize
     }
 }
 
-// The last part of the line of a word that is read: the rule, the bits that its chunks needed, chunk 1 first, and the line's end.
+// The last part of the line of a word that is read: the rule, the bits that its chunks needed, chunk 1 first, and the line's end. With 20
+// digits to a number that is at most 26 bytes, twice 21, and one.
 fn put_rule_and_bits(out: &mut [u8], at: usize, read: Reading) -> usize
     requires { ⌜ at + 69 ≤ length (now out) ⌝ }
     ensures { λ r. ⌜ Puts (now (out .entry)) at (ruleAndBits read) (now (out .exit)) r ⌝ }

@@ -1,6 +1,7 @@
 // tramread: standard input is a card and then words; standard output gets a line for the card, a line a word, and a last line.
 // All that is printed is `reportOf` of all that is read, a definition of crate report; the loop over the words is crate word_loop's.
-// The stored stdin is document 01's card B with the words of its example, and stdout is the document's text.
+// The stored stdin is document 01's card B with the words of its example, and stdout is the document's text, with document 02's bits of
+// the chunks at the end of each line of a word that is read.
 ghost use mathlib.Core.Path.{_≡_};
 ghost use mathlib.Core.List.{_++_};
 ghost use Prim.Native.Nat.{_≤_};

@@ -1,5 +1,5 @@
 -- `dunnavish::dunnavish_read_word` meets its contract: the count of the lent numbers, then what the library answered; the bounds
--- are those of the library's own contract. Assumes nothing.
+-- and the bits are those of the library's own contract. Assumes nothing.
 use mathlib.Core.List.{[], _∷_}
 use native.Mathlib.Omega.{arith}
 use borrow.Author.Needs.{needs}

@@ -1,6 +1,6 @@
 -- `read_chunk` meets its contract. The loop over codewords keeps what `AtCandidate` says, the loop over bits that the bits counted
--- and those left are all that differ; both ways out of the bit loop tell whether the codeword lies within the radius. The status
--- and the values are those of the reading. Assumes nothing.
+-- and those left are all that differ; both ways out of the bit loop tell whether the codeword lies within the radius. The count that is
+-- answered is that of all bits in which the two differ. The status and the values are those of the reading. Assumes nothing.
 use mathlib.Core.Path.{_≡_, refl, _∙_}
 use mathlib.Core.Bool.{false}
 use mathlib.Core.Logic.{⊎-elim}

@@ -1,0 +1,89 @@
+-- Where no row of the table holds of what is seen of a word, its separators name a rule, the rule's block exists, and each code chunk that
+-- the rule names reads as one number, the one that the rule goes by. Assumes nothing.
+use mathlib.Core.Path.{_≡_, refl, sym, ap, _∙_}
+use mathlib.Core.Bool.{Bool, true, false, not, true≢false, false≢true}
+use Prim.Native.Nat.{ℕ, _≤_}
+use native.Mathlib.Omega.{arith}
+use borrow.Author.Tests.{eqb-true}
+use lib.Dec.{eqb}
+use Rattle.bits.proofs.Numbers.{or-false-left, or-false-right}
+use Rattle.model.specs.Refusals.{firstRefusal}
+use Rattle.model.specs.Card.{Code}
+use Rattle.model.specs.Order.{lastCodeword}
+use Rattle.model.specs.Reading.{chunkReading, unreadable, numberRead, Seen, ruleSeen, namesFirst, namesSecond, numberBy, Rules, rowsSeen}
+use Rattle.model.specs.declared.Chunk.{Chunk}
+use Rattle.model.specs.declared.Chunk.the-variants.{Codeword, Unreadable}
+use Rattle.code_theory.specs.Promise.{ChunkPromise}
+use Rattle.code_theory.proofs.Refusals.{NoneHolds, numbered, none-holds}
+use Rattle.position_theory.proofs.Separators.{of-every-rule}
+use Rattle.position_theory.proofs.Telling.{ReadsAs}
+
+-- a chunk reads as a codeword whose number is of some kind, if any
+abbrev pub ReadsKind : (Kind : ℕ → Type 0) → Chunk → Type 0
+ReadsKind Kind read = (p e : ℕ) → read ≡ Codeword p e → Kind p
+
+-- by the chunk promise, a number of the code
+pub reads-in-code : (C : Code) → ChunkPromise C → (chunk : ℕ → ℕ) → ReadsKind (λ p. p ≤ lastCodeword C) (chunkReading C chunk)
+reads-in-code C promise chunk p e read = promise .chunks .within chunk p e read .0
+
+-- a chunk that is named reads as codeword number p
+abbrev pub NamedReads : (named : Bool) → Chunk → (p : ℕ) → Type 0
+NamedReads named read p = named ≡ true → ReadsAs read p
+
+-- what is known of a rule, where chunks read numbers of some kind only
+pub record RuleReads (R : Rules) (s : Seen) (Kind : ℕ → Type 0) (rule : ℕ) : Type 0 where
+  pub some-rule : rule ≡ 0 → ⊥
+  pub kind : Kind (numberBy s rule)
+  pub block : R .noBlock rule (numberBy s rule) ≡ false
+  pub first : NamedReads (namesFirst rule) (s .read₁) (numberBy s rule)
+  pub second : NamedReads (namesSecond rule) (s .read₂) (numberBy s rule)
+
+-- a chunk that is not unreadable reads as its number
+readable : (read : Chunk) → unreadable read ≡ false → ReadsAs read (numberRead read)
+unfolding unreadable numberRead
+readable (Codeword p e) is = (e, refl)
+readable Unreadable is = absurd (true≢false is)
+
+-- two numbers that no test finds unlike
+same-number : (a b : ℕ) → not (eqb a b) ≡ false → a ≡ b
+same-number a b alike = eqb-true a b (holds (eqb a b) alike)
+  where
+    holds : (t : Bool) → not t ≡ false → t ≡ true
+    holds true e = refl
+    holds false e = absurd (true≢false e)
+
+module _ (R : Rules) (s : Seen) (Kind : ℕ → Type 0) (kind₁ : ReadsKind Kind (s .read₁)) (kind₂ : ReadsKind Kind (s .read₂)) where
+  pub rule-reads : firstRefusal (rowsSeen R s (ruleSeen s)) ≡ 0 → RuleReads R s Kind (ruleSeen s)
+  unfolding NoneHolds numbered rowsSeen numberBy
+  rule-reads none =
+      of-every-rule (λ rule. NoneHolds (rowsSeen R s rule) → RuleReads R s Kind rule)
+      (λ holds. absurd (true≢false (holds .0)))
+      (λ (_, (row, (_, (block, _)))).
+      let read = readable (s .read₁) (or-false-left _ _ row) in
+      record {
+        some-rule = λ e. omega arith;
+        kind = kind₁ _ _ (read .1);
+        block = block;
+        first = λ named. read;
+        second = λ named. absurd (false≢true named);
+      })
+      (λ (_, (row, (_, (block, _)))).
+      let read = readable (s .read₂) row in
+      record {
+        some-rule = λ e. omega arith;
+        kind = kind₂ _ _ (read .1);
+        block = block;
+        first = λ named. absurd (false≢true named);
+        second = λ named. read;
+      })
+      (λ (_, (row, (alike, (block, _)))).
+      let read = readable (s .read₁) (or-false-left _ _ row) in
+      let (e, read′) = readable (s .read₂) (or-false-right (unreadable (s .read₁)) _ row) in
+      record {
+        some-rule = λ e. omega arith;
+        kind = kind₁ _ _ (read .1);
+        block = block;
+        first = λ named. read;
+        second = λ named. (e, read′ ∙ ap (λ (p : ℕ). Codeword p e) (sym (same-number _ _ alike)));
+      })
+      (s .s₁) (s .s₂) (s .s₃) (none-holds _ refl none)
