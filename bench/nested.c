@@ -1,11 +1,11 @@
 /*
  * The chunk search in the form that document 01 fixes: nested loops over codewords and, inside, bits; the bit loop is left once t
  * is passed, the outer one as soon as a codeword within t is found. Codewords are stepped by one row, as the library's are.
- * Returns the codeword's number, or -1.
+ * Returns the codeword's number, and leaves in *bits in how many bits it and the chunk differ; or -1, and *bits as it was.
  */
 #include <stdint.h>
 
-int32_t nested_search(const uint64_t *rows, uint32_t n, uint32_t k, uint32_t t, uint64_t x)
+int32_t nested_search(const uint64_t *rows, uint32_t n, uint32_t k, uint32_t t, uint64_t x, uint32_t *bits)
 {
     const uint32_t last = ((uint32_t)1 << k) - 1;
     uint64_t word = 0;
@@ -20,8 +20,10 @@ int32_t nested_search(const uint64_t *rows, uint32_t n, uint32_t k, uint32_t t, 
             if (unlike > t)
                 break;
         }
-        if (unlike <= t)
+        if (unlike <= t) {
+            *bits = unlike;
             return (int32_t)i;
+        }
         if (i == last)
             return -1;
         i++;

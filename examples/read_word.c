@@ -3,8 +3,10 @@
  *
  *     read_word CARD BYTE...      CARD is a card's file, each BYTE a byte of the word in hexadecimal
  *
- * Prints   position P residual R rule N   or   refused N: why   . Its exit status is 0 if the word was read, 1 if it was refused,
- * and 2 if the arguments or the file are of no use. Built in the repository's root, after `rt staticlib dunnavish`, by
+ * Prints   position P residual R rule N   and on the same line, for each code chunk that was read,   chunk C bits B   with the
+ * number of bits in which it differs from its codeword; or   refused N: why   . Its exit status is 0 if the word was read, 1 if
+ * it was refused, and 2 if the arguments or the file are of no use. Built in the repository's root, after `rt staticlib
+ * dunnavish`, by
  *
  *     cc -Iinclude -o target/read_word examples/read_word.c -Ltarget/staticlib -ldunnavish
  */
@@ -49,6 +51,20 @@ static uint8_t byte_of(const char *text)
     return (uint8_t)value;
 }
 
+/* The values of a word that was read, on one line. */
+static void print_reading(const uint32_t values[DUNNAVISH_READ_VALUES])
+{
+    uint32_t chunk1_bits = values[DUNNAVISH_READ_CHUNK1_BITS], chunk2_bits = values[DUNNAVISH_READ_CHUNK2_BITS];
+
+    printf("position %u residual %u rule %u", (unsigned)values[DUNNAVISH_READ_POSITION],
+           (unsigned)values[DUNNAVISH_READ_RESIDUAL], (unsigned)values[DUNNAVISH_READ_RULE]);
+    if (chunk1_bits != DUNNAVISH_NOT_READ)
+        printf(" chunk 1 bits %u", (unsigned)chunk1_bits);
+    if (chunk2_bits != DUNNAVISH_NOT_READ)
+        printf(" chunk 2 bits %u", (unsigned)chunk2_bits);
+    printf("\n");
+}
+
 int main(int argc, char **argv)
 {
     uint8_t card[DUNNAVISH_CARD_BYTES + 1];
@@ -71,7 +87,6 @@ int main(int argc, char **argv)
         printf("refused %u: %s\n", (unsigned)status, dunnavish_status_text(status));
         return 1;
     }
-    printf("position %u residual %u rule %u\n", (unsigned)values[DUNNAVISH_READ_POSITION],
-           (unsigned)values[DUNNAVISH_READ_RESIDUAL], (unsigned)values[DUNNAVISH_READ_RULE]);
+    print_reading(values);
     return 0;
 }

@@ -49,9 +49,9 @@ extern "C" {
 
 /* The version of this header and its archive. */
 #define DUNNAVISH_VERSION_MAJOR 0
-#define DUNNAVISH_VERSION_MINOR 2
+#define DUNNAVISH_VERSION_MINOR 3
 #define DUNNAVISH_VERSION_PATCH 0
-#define DUNNAVISH_VERSION "0.2.0"
+#define DUNNAVISH_VERSION "0.3.0"
 
 /* The bytes of a card, and of the widest word. */
 #define DUNNAVISH_CARD_BYTES 512
@@ -129,16 +129,25 @@ uint32_t dunnavish_check_card(const uint8_t *card, size_t card_bytes, uint32_t *
  */
 uint32_t dunnavish_write_word(const uint8_t *card, size_t card_bytes, uint32_t position, uint8_t *word, size_t word_bytes);
 
+/* The value of a code chunk that was not read. It is never a count of bits: a chunk that is read has at most 31. */
+#define DUNNAVISH_NOT_READ 4294967295u
+
 /*
- * Read a received word. Answers 0 to 6, 8 to 12, 14, or 100. On 0 the three values are those of the indices below. If three
- * values are lent and each of the word's five chunks has at most t bits turned, the answer is 0 and the position is off by at
- * most twice the bits turned in all, and by at most the bits turned and the residual together.
+ * Read a received word. Answers 0 to 6, 8 to 12, 14, or 100. On 0 the five values are those of the indices below. If five values
+ * are lent and each of the word's five chunks has at most t bits turned, the answer is 0 and the position is off by at most twice
+ * the bits turned in all, and by at most the bits turned and the residual together.
+ *
+ * The rule names the code chunks that are read: rule 1 names chunk 1, rule 2 chunk 2, and rule 3 both. The value of a chunk that
+ * is read is the number of bits in which it, as received, differs from the codeword that it was read as: at most t, which is at
+ * most 31. A chunk that the rule does not name is not read, whatever it holds, and its value is DUNNAVISH_NOT_READ.
  */
 enum dunnavish_read_value {
-    DUNNAVISH_READ_POSITION = 0, /* the position, from 0 to the last */
-    DUNNAVISH_READ_RESIDUAL = 1, /* in how many bits the received word differs from that position's word */
-    DUNNAVISH_READ_RULE = 2,     /* the rule of the separators, 1 to 3 */
-    DUNNAVISH_READ_VALUES = 3    /* the count of `values` */
+    DUNNAVISH_READ_POSITION = 0,    /* the position, from 0 to the last */
+    DUNNAVISH_READ_RESIDUAL = 1,    /* in how many bits the received word differs from that position's word */
+    DUNNAVISH_READ_RULE = 2,        /* the rule of the separators, 1 to 3 */
+    DUNNAVISH_READ_CHUNK1_BITS = 3, /* in how many bits code chunk 1 differs from its codeword; DUNNAVISH_NOT_READ under rule 2 */
+    DUNNAVISH_READ_CHUNK2_BITS = 4, /* in how many bits code chunk 2 differs from its codeword; DUNNAVISH_NOT_READ under rule 1 */
+    DUNNAVISH_READ_VALUES = 5       /* the count of `values` */
 };
 uint32_t dunnavish_read_word(const uint8_t *card, size_t card_bytes, const uint8_t *word, size_t word_bytes, uint32_t *values,
                              size_t values_count);

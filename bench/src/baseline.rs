@@ -1,6 +1,6 @@
-//! Document 01's rules, and P2's offset, in straightforward Rust, written apart from the library, with words as five 64-bit
-//! numbers and counts by `count_ones`: the baseline of the benchmark, and what the tests of the Rust crate hold the library
-//! against. `Kept` holds every codeword and start of a card that was decoded once.
+//! Document 01's rules, P2's offset, and P3's counts of the code chunks, in straightforward Rust, written apart from the library,
+//! with words as five 64-bit numbers and counts by `count_ones`: the baseline of the benchmark, and what the tests of the Rust
+//! crate hold the library against. `Kept` holds every codeword and start of a card that was decoded once.
 
 /// A word: place p is bit p % 64 of number p / 64.
 pub type Word = [u64; 5];
@@ -23,6 +23,16 @@ pub struct Read {
     pub position: u32,
     pub residual: u32,
     pub rule: u32,
+    /// In how many bits each code chunk and the codeword that it reads as differ; none of a chunk that the rule doesn't name.
+    pub chunk1_bits: Option<u32>,
+    pub chunk2_bits: Option<u32>,
+}
+
+/// The codeword within the radius of a chunk: its number, and in how many bits the two differ.
+#[derive(Clone, Copy)]
+pub struct Found {
+    pub number: usize,
+    pub bits: u32,
 }
 
 /// A card's code, or the number of its refusal.
@@ -151,8 +161,8 @@ pub trait Order {
     fn start(&self, i: usize) -> usize;
     /// The greatest block whose start is at most the position.
     fn block_of(&self, position: usize) -> usize;
-    /// The number of the codeword within the radius of a chunk.
-    fn find(&self, chunk: u64) -> Option<usize>;
+    /// The codeword within the radius of a chunk.
+    fn find(&self, chunk: u64) -> Option<Found>;
     /// The last position.
     fn last(&self) -> usize {
         self.start(self.code().last_block())
@@ -188,9 +198,10 @@ impl Order for Kept {
     fn block_of(&self, position: usize) -> usize {
         self.starts.partition_point(|&start| start as usize <= position) - 1
     }
-    fn find(&self, chunk: u64) -> Option<usize> {
+    fn find(&self, chunk: u64) -> Option<Found> {
         let radius = self.code.radius as u32;
-        self.codewords.iter().position(|codeword| (codeword ^ chunk).count_ones() <= radius)
+        let number = self.codewords.iter().position(|codeword| (codeword ^ chunk).count_ones() <= radius)?;
+        Some(Found { number, bits: (self.codewords[number] ^ chunk).count_ones() })
     }
 }
 
@@ -254,6 +265,13 @@ struct Near {
     position: usize,
 }
 
+impl Near {
+    /// The answer of a word that was read by a rule, with the bits of the code chunks that it names.
+    fn read(self, rule: u32, chunk1_bits: Option<u32>, chunk2_bits: Option<u32>) -> Read {
+        Read { position: self.position as u32, residual: self.residual, rule, chunk1_bits, chunk2_bits }
+    }
+}
+
 /// The positions from `low` to `high`, which stand in this block or at its end: the one nearest to the received word, the
 /// smallest on a tie.
 fn nearest_in_block(order: &impl Order, block: usize, low: usize, high: usize, received: &Word) -> Near {
@@ -285,41 +303,43 @@ fn nearest_in_block(order: &impl Order, block: usize, low: usize, high: usize, r
     best
 }
 
-/// The number that code chunk 1 reads as.
-fn chunk_1(order: &impl Order, received: &Word) -> Result<usize, u32> {
+/// What code chunk 1 reads as.
+fn chunk_1(order: &impl Order, received: &Word) -> Result<Found, u32> {
     let code = order.code();
     order.find(get(received, code.distance, code.n)).ok_or(10)
 }
 
-/// The number that code chunk 2 reads as.
-fn chunk_2(order: &impl Order, received: &Word) -> Result<usize, u32> {
+/// What code chunk 2 reads as.
+fn chunk_2(order: &impl Order, received: &Word) -> Result<Found, u32> {
     let code = order.code();
     order.find(get(received, 2 * code.distance + code.n, code.n)).ok_or(10)
 }
 
-fn by_rule_1(order: &impl Order, received: &Word) -> Result<Near, u32> {
-    let p = chunk_1(order, received)?;
+fn by_rule_1(order: &impl Order, received: &Word) -> Result<Read, u32> {
+    let Found { number: p, bits } = chunk_1(order, received)?;
     if p == 0 {
         return Err(12);
     }
     let code = order.code();
     let low = order.start(p - 1) + code.distance + code.changed(p - 1);
-    Ok(nearest_in_block(order, p - 1, low, order.start(p), received))
+    Ok(nearest_in_block(order, p - 1, low, order.start(p), received).read(1, Some(bits), None))
 }
 
-fn by_rule_2(order: &impl Order, received: &Word) -> Result<Near, u32> {
+fn by_rule_2(order: &impl Order, received: &Word) -> Result<Read, u32> {
     let code = order.code();
-    let p = chunk_2(order, received)?;
+    let Found { number: p, bits } = chunk_2(order, received)?;
     if p == code.last_block() {
         return Err(12);
     }
     let start = order.start(p);
-    Ok(nearest_in_block(order, p, start, start + 2 * code.distance + code.changed(p), received))
+    let high = start + 2 * code.distance + code.changed(p);
+    Ok(nearest_in_block(order, p, start, high, received).read(2, None, Some(bits)))
 }
 
-fn by_rule_3(order: &impl Order, received: &Word) -> Result<Near, u32> {
-    let p = chunk_1(order, received)?;
-    if p != chunk_2(order, received)? {
+fn by_rule_3(order: &impl Order, received: &Word) -> Result<Read, u32> {
+    let Found { number: p, bits } = chunk_1(order, received)?;
+    let other = chunk_2(order, received)?;
+    if p != other.number {
         return Err(11);
     }
     let (start, distance) = (order.start(p), order.code().distance);
@@ -333,7 +353,7 @@ fn by_rule_3(order: &impl Order, received: &Word) -> Result<Near, u32> {
             best = after;
         }
     }
-    Ok(best)
+    Ok(best.read(3, Some(bits), Some(other.bits)))
 }
 
 /// Reads a received word.
@@ -355,14 +375,13 @@ pub fn read(order: &impl Order, bytes: &[u8]) -> Result<Read, u32> {
     let (n, d) = (code.n, code.distance);
     let separator = |at| 2 * get(&received, at, d).count_ones() as usize > d;
     let (s1, s2, s3) = (separator(0), separator(d + n), separator(2 * d + 2 * n));
-    let (rule, near) = if s1 == s2 && s2 == s3 {
-        (3, by_rule_3(order, &received)?)
+    if s1 == s2 && s2 == s3 {
+        by_rule_3(order, &received)
     } else if s1 == s2 {
-        (1, by_rule_1(order, &received)?)
+        by_rule_1(order, &received)
     } else if s2 == s3 {
-        (2, by_rule_2(order, &received)?)
+        by_rule_2(order, &received)
     } else {
-        return Err(9);
-    };
-    Ok(Read { position: near.position as u32, residual: near.residual, rule })
+        Err(9)
+    }
 }

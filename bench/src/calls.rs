@@ -69,9 +69,7 @@ impl Work {
 
     fn read(&self, way: &str, word: &[u8]) -> u64 {
         one_number(match way {
-            "library" => dunnavish::read_word(&self.card, word)
-                .map(|r| baseline::Read { position: r.position, residual: r.residual, rule: r.rule.number() })
-                .map_err(number),
+            "library" => dunnavish::read_word(&self.card, word).map(as_read).map_err(number),
             "kept" => baseline::read(&self.kept, word),
             "kept-nested" => baseline::read(&self.nested, word),
             _ => decode(&self.card).and_then(|code| baseline::read(&EachCall(code), word)),
@@ -159,10 +157,20 @@ fn refused(refusal: u32) -> u64 {
     u64::MAX - u64::from(refusal)
 }
 
-/// A read's answer in one number.
+/// The library's reading in the baseline's form.
+fn as_read(reading: dunnavish::Reading) -> baseline::Read {
+    let dunnavish::Reading { position, residual, rule, chunk1_bits, chunk2_bits } = reading;
+    baseline::Read { position, residual, rule: rule.number(), chunk1_bits, chunk2_bits }
+}
+
+/// A read's answer in one number: a residual is at most 320, and a chunk's count at most 31, so that 63 can stand for none.
 fn one_number(answer: Result<baseline::Read, u32>) -> u64 {
+    let count = |bits: Option<u32>| u64::from(bits.unwrap_or(63));
     match answer {
-        Ok(read) => u64::from(read.position) << 32 | u64::from(read.residual) << 8 | u64::from(read.rule),
+        Ok(read) => {
+            let counts = count(read.chunk1_bits) << 6 | count(read.chunk2_bits);
+            u64::from(read.position) << 32 | counts << 20 | u64::from(read.residual) << 8 | u64::from(read.rule)
+        }
         Err(refusal) => refused(refusal),
     }
 }

@@ -1,6 +1,6 @@
 //! The baseline with document 01's nested search, in C (nested.c): `KeptNested` keeps its decoded card as `Kept` does; `EachCall` holds
 //! the rows alone and is decoded anew for each word, which is what a public call has to do with its card.
-use crate::baseline::{Code, Kept, Order};
+use crate::baseline::{Code, Found, Kept, Order};
 
 /// As `Kept`, with the chunk search of nested.c.
 pub struct KeptNested(pub Kept);
@@ -9,12 +9,14 @@ pub struct KeptNested(pub Kept);
 pub struct EachCall(pub Code);
 
 extern "C" {
-    fn nested_search(rows: *const u64, n: u32, k: u32, t: u32, x: u64) -> i32;
+    fn nested_search(rows: *const u64, n: u32, k: u32, t: u32, x: u64, bits: *mut u32) -> i32;
 }
 
-fn find_nested(code: &Code, chunk: u64) -> Option<usize> {
-    let found = unsafe { nested_search(code.rows.as_ptr(), code.n as u32, code.k as u32, code.radius as u32, chunk) };
-    usize::try_from(found).ok()
+fn find_nested(code: &Code, chunk: u64) -> Option<Found> {
+    let (n, k, radius) = (code.n as u32, code.k as u32, code.radius as u32);
+    let mut bits = 0;
+    let found = unsafe { nested_search(code.rows.as_ptr(), n, k, radius, chunk, &mut bits) };
+    usize::try_from(found).ok().map(|number| Found { number, bits })
 }
 
 impl Order for KeptNested {
@@ -30,7 +32,7 @@ impl Order for KeptNested {
     fn block_of(&self, position: usize) -> usize {
         self.0.block_of(position)
     }
-    fn find(&self, chunk: u64) -> Option<usize> {
+    fn find(&self, chunk: u64) -> Option<Found> {
         find_nested(self.0.code(), chunk)
     }
 }
@@ -57,7 +59,7 @@ impl Order for EachCall {
         }
         below
     }
-    fn find(&self, chunk: u64) -> Option<usize> {
+    fn find(&self, chunk: u64) -> Option<Found> {
         find_nested(&self.0, chunk)
     }
 }

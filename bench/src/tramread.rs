@@ -23,7 +23,11 @@ pub fn run<O: Order>(order_of: impl Fn(Code) -> O) {
         match baseline::read(&order, word) {
             Ok(answer) => {
                 read += 1;
-                writeln!(out, "{met} at {} residual {} rule {}", answer.position, answer.residual, answer.rule).unwrap();
+                write!(out, "{met} at {} residual {} rule {}", answer.position, answer.residual, answer.rule).unwrap();
+                for bits in [answer.chunk1_bits, answer.chunk2_bits].into_iter().flatten() {
+                    write!(out, " {bits}").unwrap();
+                }
+                out.write_all(b"\n").unwrap();
             }
             Err(refusal) => writeln!(out, "{met} refused {refusal}").unwrap(),
         }

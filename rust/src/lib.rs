@@ -26,9 +26,15 @@
 //! dunnavish::write_word(&card, 7, &mut word)?;
 //! assert_eq!(word, [0x7f, 0x00]);
 //!
-//! word[0] ^= 0x20; // the cable turns a bit
+//! word[0] ^= 0x20; // the cable turns a bit, in code chunk 1
 //! let reading = dunnavish::read_word(&card, &word)?;
 //! assert_eq!((reading.position, reading.residual), (5, 1));
+//! // Rule 2 reads code chunk 2 alone, which came as its codeword is.
+//! assert_eq!(reading.rule, dunnavish::Rule::FirstDiffers);
+//! assert_eq!((reading.chunk1_bits, reading.chunk2_bits), (None, Some(0)));
+//!
+//! word[1] ^= 0x02; // and another, in code chunk 2
+//! assert_eq!(dunnavish::read_word(&card, &word)?.chunk2_bits, Some(1));
 //!
 //! assert_eq!(dunnavish::write_word(&card, 16, &mut word), Err(dunnavish::Refusal::OffTheTrack));
 //!
@@ -74,17 +80,20 @@ macro_rules! refusals {
             UnknownStatus(u32),
             /// the library read the word by a rule that this crate has no name for: the two are of different versions
             UnknownRule(u32),
+            /// the library read the word by this rule, and counted bits of other code chunks than the rule names: the two are of
+            /// different versions
+            OtherChunks(Rule),
         }
 
         impl Refusal {
             /// Every refusal that has a number, in the order of their numbers.
             pub const ALL: &'static [Refusal] = &[$(Refusal::$name,)+];
 
-            /// Its number in `docs/FORMAT.md`, 1 to 14; none for an unknown status or rule.
+            /// Its number in `docs/FORMAT.md`, 1 to 14; none where the library and this crate are of different versions.
             pub fn number(self) -> Option<u32> {
                 match self {
                     $(Refusal::$name => Some($number),)+
-                    Refusal::UnknownStatus(_) | Refusal::UnknownRule(_) => None,
+                    Refusal::UnknownStatus(_) | Refusal::UnknownRule(_) | Refusal::OtherChunks(_) => None,
                 }
             }
         }
@@ -95,6 +104,9 @@ macro_rules! refusals {
                     $(Refusal::$name => f.write_str(concat!($reason, " (refusal ", $number, ")")),)+
                     Refusal::UnknownStatus(status) => write!(f, "the library answered the unknown status {status}"),
                     Refusal::UnknownRule(rule) => write!(f, "the library read the word by the unknown rule {rule}"),
+                    Refusal::OtherChunks(rule) => {
+                        write!(f, "the library counted bits of other code chunks than rule {} names", rule.number())
+                    }
                 }
             }
         }
@@ -189,8 +201,13 @@ pub struct Reading {
     pub position: u32,
     /// In how many bits the received word differs from the word of that position.
     pub residual: u32,
-    /// The rule that the word was read by.
+    /// The rule that the word was read by. It names the code chunks that were read.
     pub rule: Rule,
+    /// In how many bits code chunk 1, as received, differs from the codeword that it was read as: at most
+    /// [`CardSummary::radius`]. None where the rule doesn't name the chunk, which is [`Rule::FirstDiffers`].
+    pub chunk1_bits: Option<u32>,
+    /// The same of code chunk 2. None where the rule is [`Rule::ThirdDiffers`].
+    pub chunk2_bits: Option<u32>,
 }
 
 /// What a chunk of a Reed-Muller code was read as.
@@ -231,10 +248,19 @@ fn served(status: u32) -> Result<(), Refusal> {
     }
 }
 
-/// The values of a read as a reading.
-fn reading([position, residual, rule]: [u32; 3]) -> Result<Reading, Refusal> {
+/// What the library leaves in place of the count of a code chunk that the rule doesn't name: DUNNAVISH_NOT_READ of the header.
+const NOT_READ: u32 = u32::MAX;
+
+/// The values of a read as a reading. An unknown rule is an error, and so are counts of other chunks than the rule names.
+fn reading([position, residual, rule, chunk1, chunk2]: [u32; 5]) -> Result<Reading, Refusal> {
     let rule = Rule::from_number(rule).ok_or(Refusal::UnknownRule(rule))?;
-    Ok(Reading { position, residual, rule })
+    let [chunk1_bits, chunk2_bits] = [chunk1, chunk2].map(|bits| (bits != NOT_READ).then_some(bits));
+    match (rule, chunk1_bits, chunk2_bits) {
+        (Rule::ThirdDiffers, Some(_), None) | (Rule::FirstDiffers, None, Some(_)) | (Rule::AllAlike, Some(_), Some(_)) => {
+            Ok(Reading { position, residual, rule, chunk1_bits, chunk2_bits })
+        }
+        _ => Err(Refusal::OtherChunks(rule)),
+    }
 }
 
 // SAFETY, of every call below: the pointers and counts are those of live slices, never null; what the library writes is borrowed
@@ -259,14 +285,15 @@ pub fn write_word(card: &[u8], position: u32, word: &mut [u8]) -> Result<(), Ref
     served(unsafe { exported::dunnavish_write_word(card.as_ptr(), card.len(), position, word.as_mut_ptr(), word.len()) })
 }
 
-/// Reads a received word: the nearest of the positions that its separators and code chunks allow.
+/// Reads a received word: the nearest of the positions that its separators and code chunks allow, and in how many bits each code
+/// chunk that was read differs from its codeword.
 ///
 /// If each of the word's five chunks has at most [`CardSummary::radius`] bits turned, the answer is a reading, and its position
 /// is off by at most twice the bits turned in all.
 ///
 /// Refused: the card, [`Refusal::WordLength`], and [`Refusal::SpareBit`] to [`Refusal::NoBlock`].
 pub fn read_word(card: &[u8], word: &[u8]) -> Result<Reading, Refusal> {
-    let mut values = [0u32; 3];
+    let mut values = [0u32; 5];
     served(unsafe {
         exported::dunnavish_read_word(card.as_ptr(), card.len(), word.as_ptr(), word.len(), values.as_mut_ptr(), values.len())
     })?;
@@ -316,7 +343,7 @@ pub fn vote_chunk(r: u32, m: u32, chunk: u64) -> Result<Vote, Refusal> {
 
 #[cfg(test)]
 mod tests {
-    use super::{reading, served, Reading, Refusal, Rule};
+    use super::{reading, served, Reading, Refusal, Rule, NOT_READ};
 
     #[test]
     fn an_unknown_status_is_an_error() {
@@ -333,13 +360,32 @@ mod tests {
 
     #[test]
     fn an_unknown_rule_is_an_error() {
-        for rule in [Rule::ThirdDiffers, Rule::FirstDiffers, Rule::AllAlike] {
-            assert_eq!(reading([7, 1, rule.number()]), Ok(Reading { position: 7, residual: 1, rule }));
-        }
         for rule in [0, 4, u32::MAX] {
-            assert_eq!(reading([7, 1, rule]), Err(Refusal::UnknownRule(rule)));
+            for counts in [[0, 2], [0, NOT_READ], [NOT_READ, 0], [NOT_READ; 2]] {
+                assert_eq!(reading([7, 1, rule, counts[0], counts[1]]), Err(Refusal::UnknownRule(rule)));
+            }
             assert_eq!(Refusal::UnknownRule(rule).number(), None);
         }
         assert_eq!(Refusal::UnknownRule(4).to_string(), "the library read the word by the unknown rule 4");
+    }
+
+    #[test]
+    fn counts_are_of_the_chunks_that_the_rule_names() {
+        // the counts of chunks 1 and 2, with none for 4,294,967,295 and no other number
+        let counts = [(0, Some(0)), (1, Some(1)), (31, Some(31)), (4_294_967_294, Some(4_294_967_294)), (4_294_967_295, None)];
+        let pairs = || counts.into_iter().flat_map(|first| counts.into_iter().map(move |second| (first, second)));
+        for (rule, names) in
+            [(Rule::ThirdDiffers, [true, false]), (Rule::FirstDiffers, [false, true]), (Rule::AllAlike, [true, true])]
+        {
+            for ((chunk1, chunk1_bits), (chunk2, chunk2_bits)) in pairs() {
+                let expected = Reading { position: 7, residual: 2, rule, chunk1_bits, chunk2_bits };
+                let named = [chunk1_bits.is_some(), chunk2_bits.is_some()] == names;
+                let expected = if named { Ok(expected) } else { Err(Refusal::OtherChunks(rule)) };
+                assert_eq!(reading([7, 2, rule.number(), chunk1, chunk2]), expected);
+            }
+            assert_eq!(Refusal::OtherChunks(rule).number(), None);
+        }
+        let text = "the library counted bits of other code chunks than rule 2 names";
+        assert_eq!(Refusal::OtherChunks(Rule::FirstDiffers).to_string(), text);
     }
 }

@@ -1,4 +1,4 @@
-//! The library against the straightforward implementation of document 01 and P2 that the benchmark compares it with, written
+//! The library against the straightforward implementation of document 01, P2 and P3 that the benchmark compares it with, written
 //! apart from it, on cards of every shape, with offsets, and words of every kind.
 #[path = "../../bench/src/baseline.rs"]
 mod baseline;
@@ -54,6 +54,8 @@ fn both_read(card: &[u8], kept: &Kept, received: &[u8]) -> Result<baseline::Read
         position: reading.position,
         residual: reading.residual,
         rule: reading.rule.number(),
+        chunk1_bits: reading.chunk1_bits,
+        chunk2_bits: reading.chunk2_bits,
     });
     let Code { n, k, .. } = kept.code();
     assert_eq!(answer, expected, "n {n} k {k} word {received:02x?}");
@@ -84,6 +86,10 @@ fn both_read_damaged(card: &[u8], kept: &Kept, random: &mut Random, position: us
         assert!(off <= all + read.residual as usize);
         let unlike = word_of(kept, read.position as usize).iter().zip(&word).map(|(a, b)| (a ^ b).count_ones()).sum();
         assert_eq!(read.residual, unlike);
+        // a code chunk that the rule names was whole, so what it needed is what was turned in it
+        let counts = [1, 3].map(|chunk| Some(turned[chunk] as u32));
+        let expected = [counts[0].filter(|_| read.rule != 2), counts[1].filter(|_| read.rule != 1)];
+        assert_eq!([read.chunk1_bits, read.chunk2_bits], expected);
     }
 }
 
@@ -235,8 +241,7 @@ fn codes_of_great_distance() {
 
 /// What votes answer is what a search through all codewords does.
 fn both_vote(r: u32, m: u32, kept: &Kept, chunk: u64) {
-    let bits = |number| (kept.codeword(number) ^ chunk).count_ones();
-    let expected = kept.find(chunk).map(|number| (number as u32, bits(number))).ok_or(10);
+    let expected = kept.find(chunk).map(|found| (found.number as u32, found.bits)).ok_or(10);
     assert_eq!(number(vote_chunk(r, m, chunk)).map(|vote| (vote.number, vote.bits)), expected, "r {r} m {m} chunk {chunk:x}");
 }
 

@@ -12,8 +12,11 @@ fn card_b() -> Vec<u8> {
     card_of(3, 1, 14, &[7])
 }
 
+/// A word that is read by rule 1 or 2, with a code chunk as its codeword is: chunk 1 or chunk 2, and no count of the other.
 fn at(position: u32, residual: u32, rule: Rule) -> Result<Reading, Refusal> {
-    Ok(Reading { position, residual, rule })
+    let bits = |named| if rule == named { Some(0) } else { None };
+    let (chunk1_bits, chunk2_bits) = (bits(Rule::ThirdDiffers), bits(Rule::FirstDiffers));
+    Ok(Reading { position, residual, rule, chunk1_bits, chunk2_bits })
 }
 
 /// The word of a position of a card whose words have two bytes.

@@ -1,4 +1,4 @@
-//! The C header says the same as this crate: the version, the refusals' numbers and texts, and the sizes.
+//! The C header says the same as this crate: the version, the refusals' numbers and texts, the sizes, what stands for no count.
 use dunnavish::{Refusal, CARD_BYTES, WIDEST_WORD_BYTES};
 
 const HEADER: &str = include_str!("../../include/dunnavish.h");
@@ -31,4 +31,10 @@ fn one_table_of_refusals() {
 fn the_same_sizes() {
     assert!(declares(&format!("#define DUNNAVISH_CARD_BYTES {CARD_BYTES}")));
     assert!(declares(&format!("#define DUNNAVISH_WIDEST_WORD_BYTES {WIDEST_WORD_BYTES}")));
+}
+
+#[test]
+fn a_chunk_that_is_not_read() {
+    // the greatest number, which the crate's own tests show to be no count, and the only such
+    assert!(declares(&format!("#define DUNNAVISH_NOT_READ {}u", u32::MAX)));
 }

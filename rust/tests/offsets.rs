@@ -133,7 +133,8 @@ fn words_starts_and_readings_know_no_offset() {
         let mut word = [0xaa, 0xaa];
         assert_eq!(write_word(&card, 16, &mut word), Err(Refusal::OffTheTrack));
         assert_eq!(word, [0xaa, 0xaa]);
-        let read = |position, residual| Ok(Reading { position, residual, rule: Rule::FirstDiffers });
+        let (rule, chunk1_bits, chunk2_bits) = (Rule::FirstDiffers, None, Some(0));
+        let read = |position, residual| Ok(Reading { position, residual, rule, chunk1_bits, chunk2_bits });
         assert_eq!(read_word(&card, &[0x7f, 0x00]), read(7, 0));
         assert_eq!(read_word(&card, &[0x5f, 0x00]), read(5, 1));
         assert_eq!(read_word(&card, &[0x00, 0x80]), Err(Refusal::SpareBit));

@@ -1,6 +1,7 @@
 /*
- * What the header itself defines: the version, the text of a status, the bytes of a word, the indices of values. Compiled as C99,
- * as C11 and as C++; a call on a card and the two that are given none show that it links in each.
+ * What the header itself defines: the version, the text of a status, the bytes of a word, the indices of values, and what stands
+ * for a chunk that is not read. Compiled as C99, as C11 and as C++; calls on a card and the two that are given none show that it
+ * links in each.
  */
 #include <stdio.h>
 #include <string.h>
@@ -39,20 +40,25 @@ static void status_texts(void)
             expect(strcmp(dunnavish_status_text(status), unknown) == 0, "a text for the unknown status", status);
 }
 
-/* Card B's words have 15 bits in two bytes, as the library says of its card. */
-static void bytes_of_words(const char *path)
+/* Reads a card's file. Answers whether that went well. */
+static int read_card(const char *path, uint8_t card[DUNNAVISH_CARD_BYTES])
 {
-    uint8_t card[DUNNAVISH_CARD_BYTES];
-    uint32_t values[DUNNAVISH_CARD_VALUES];
     FILE *file = fopen(path, "rb");
+    size_t got = file == NULL ? 0 : fread(card, 1, DUNNAVISH_CARD_BYTES, file);
 
-    if (file == NULL || fread(card, 1, sizeof card, file) != sizeof card) {
+    if (file != NULL)
+        fclose(file);
+    if (got != DUNNAVISH_CARD_BYTES)
         printf("header: %s cannot be read\n", path);
-        failed = 1;
-        return;
-    }
-    fclose(file);
-    expect(dunnavish_check_card(card, sizeof card, values, DUNNAVISH_CARD_VALUES) == DUNNAVISH_OK, "card B refused", 0);
+    return got == DUNNAVISH_CARD_BYTES;
+}
+
+/* Card B's words have 15 bits in two bytes, as the library says of its card. */
+static void bytes_of_words(const uint8_t card[DUNNAVISH_CARD_BYTES])
+{
+    uint32_t values[DUNNAVISH_CARD_VALUES];
+
+    expect(dunnavish_check_card(card, DUNNAVISH_CARD_BYTES, values, DUNNAVISH_CARD_VALUES) == DUNNAVISH_OK, "card B refused", 0);
     expect(values[DUNNAVISH_CARD_BITS] == 15 && dunnavish_word_bytes(values[DUNNAVISH_CARD_BITS]) == 2, "card B's bytes", 2);
     expect(dunnavish_word_bytes(0) == 0, "bytes of bits", 0);
     expect(dunnavish_word_bytes(1) == 1, "bytes of bits", 1);
@@ -60,6 +66,54 @@ static void bytes_of_words(const char *path)
     expect(dunnavish_word_bytes(9) == 2, "bytes of bits", 9);
     expect(dunnavish_word_bytes(320) == DUNNAVISH_WIDEST_WORD_BYTES, "bytes of bits", 320);
     expect(dunnavish_word_bytes(UINT32_MAX) == 536870912, "bytes of bits", UINT32_MAX);
+}
+
+/* The indices of a read's values are these numbers, in this order, and what stands for a chunk that is not read is this one. */
+#if DUNNAVISH_NOT_READ != 4294967295u
+#error "DUNNAVISH_NOT_READ is another number"
+#endif
+static void read_indices(void)
+{
+    const uint32_t not_read = DUNNAVISH_NOT_READ;
+
+    expect(not_read == UINT32_MAX, "the number of a chunk not read is", not_read);
+    expect(DUNNAVISH_READ_POSITION == 0, "the index of the position is", DUNNAVISH_READ_POSITION);
+    expect(DUNNAVISH_READ_RESIDUAL == 1, "the index of the residual is", DUNNAVISH_READ_RESIDUAL);
+    expect(DUNNAVISH_READ_RULE == 2, "the index of the rule is", DUNNAVISH_READ_RULE);
+    expect(DUNNAVISH_READ_CHUNK1_BITS == 3, "the index of chunk 1 is", DUNNAVISH_READ_CHUNK1_BITS);
+    expect(DUNNAVISH_READ_CHUNK2_BITS == 4, "the index of chunk 2 is", DUNNAVISH_READ_CHUNK2_BITS);
+    expect(DUNNAVISH_READ_VALUES == 5, "the count of a read's values is", DUNNAVISH_READ_VALUES);
+}
+
+/* Reads a word of card B, and expects a position, a rule and the bits of both chunks. */
+static void read_as(const uint8_t card[DUNNAVISH_CARD_BYTES], uint8_t low, uint8_t high, uint32_t position, uint32_t rule,
+                    uint32_t chunk1_bits, uint32_t chunk2_bits)
+{
+    uint8_t word[2];
+    uint32_t values[DUNNAVISH_READ_VALUES], status;
+
+    word[0] = low;
+    word[1] = high;
+    status = dunnavish_read_word(card, DUNNAVISH_CARD_BYTES, word, sizeof word, values, DUNNAVISH_READ_VALUES);
+    expect(status == DUNNAVISH_OK, "a word of card B refused", status);
+    expect(values[DUNNAVISH_READ_POSITION] == position, "not read as position", position);
+    expect(values[DUNNAVISH_READ_RESIDUAL] == 1, "not the residual of position", position);
+    expect(values[DUNNAVISH_READ_RULE] == rule, "not read by rule", rule);
+    expect(values[DUNNAVISH_READ_CHUNK1_BITS] == chunk1_bits, "not the bits of chunk 1 by rule", rule);
+    expect(values[DUNNAVISH_READ_CHUNK2_BITS] == chunk2_bits, "not the bits of chunk 2 by rule", rule);
+}
+
+/*
+ * Words of card B, place 0 leftmost, with one bit turned in a code chunk: by rule 1 111 101 111 111 100, position 13 with place
+ * 4; by rule 2 111 111 100 100 000, position 7 with place 9; by rule 3 000 100 000 000 000 and 000 000 000 010 000, position 0
+ * with place 3 or place 10. Each has one bit unlike there, and more unlike at every other position that is allowed.
+ */
+static void read_values(const uint8_t card[DUNNAVISH_CARD_BYTES])
+{
+    read_as(card, 0xEF, 0x1F, 13, 1, 1, DUNNAVISH_NOT_READ);
+    read_as(card, 0x7F, 0x02, 7, 2, DUNNAVISH_NOT_READ, 1);
+    read_as(card, 0x08, 0x00, 0, 3, 1, 0);
+    read_as(card, 0x00, 0x04, 0, 3, 0, 1);
 }
 
 /* The code of order 0 in 2 variables has one row, 15: n 4, k 1, D 4, t 1. 7 is one bit from c(1), and 3 two bits from each. */
@@ -111,11 +165,16 @@ static void offsets(void)
 int main(int argc, char **argv)
 {
     char version[32];
+    uint8_t card_b[DUNNAVISH_CARD_BYTES];
 
     snprintf(version, sizeof version, "%d.%d.%d", DUNNAVISH_VERSION_MAJOR, DUNNAVISH_VERSION_MINOR, DUNNAVISH_VERSION_PATCH);
     expect(strcmp(version, DUNNAVISH_VERSION) == 0, "the version's string is not its numbers", 0);
     status_texts();
-    bytes_of_words(argc > 1 ? argv[1] : "examples/cardB");
+    read_indices();
+    if (!read_card(argc > 1 ? argv[1] : "examples/cardB", card_b))
+        return 1;
+    bytes_of_words(card_b);
+    read_values(card_b);
     made_card();
     offsets();
     return failed;

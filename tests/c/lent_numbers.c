@@ -21,17 +21,19 @@ static const size_t counts[CALLS] = {DUNNAVISH_CARD_VALUES, DUNNAVISH_READ_VALUE
 
 /* Card B: n 3, k 1, track 14, row 7; its check is 145 where the offset is 0. */
 static uint8_t card[DUNNAVISH_CARD_BYTES];
-static const uint8_t word[2] = {0x7F, 0x00};
 static uint32_t values[LENT];
 static int failed = 0;
 
-/* A call: on card B with an offset, `card_bytes` of it lent, or of a vote on a chunk of the code of order r in m variables. */
+/*
+ * A call: on card B with an offset, `card_bytes` of it lent, or of a vote on a chunk of the code of order r in m variables.
+ * Place p of the word that is read, which has two bytes, or of the chunk, is the bit worth 2^p of `bits`.
+ */
 struct trial {
     int which;
     size_t card_bytes;
     int32_t offset;
     uint32_t r, m;
-    uint64_t chunk;
+    uint64_t bits;
     uint32_t status;                          /* what is answered where the count is the call's */
     uint32_t expected[DUNNAVISH_CARD_VALUES]; /* and the values where that is 0 */
 };
@@ -40,18 +42,34 @@ struct trial {
 static const struct trial trials[] = {
     {CHECK, 512, 0, 0, 0, 0, 0, {3, 1, 14, 3, 1, 15, 15}},
     {CHECK, 511, 0, 0, 0, 0, 1, {0}},
-    {READ, 512, 0, 0, 0, 0, 0, {7, 0, 2}},
-    {READ, 511, 0, 0, 0, 0, 1, {0}},
+    {READ, 512, 0, 0, 0, 0x007F, 0, {7, 0, 2, DUNNAVISH_NOT_READ, 0}},
+    {READ, 511, 0, 0, 0, 0x007F, 1, {0}},
     {START, 512, 0, 0, 0, 0, 0, {15}},
     {START, 511, 0, 0, 0, 0, 1, {0}},
     /* with an offset the answers are the same; outside its range it is refused, unless a reason before it holds */
     {CHECK, 512, -20000, 0, 0, 0, 0, {3, 1, 14, 3, 1, 15, 15}},
     {CHECK, 512, 20001, 0, 0, 0, 14, {0}},
     {CHECK, 511, 20001, 0, 0, 0, 1, {0}},
-    {READ, 512, -20000, 0, 0, 0, 0, {7, 0, 2}},
-    {READ, 512, -20001, 0, 0, 0, 14, {0}},
+    {READ, 512, -20000, 0, 0, 0x007F, 0, {7, 0, 2, DUNNAVISH_NOT_READ, 0}},
+    {READ, 512, -20001, 0, 0, 0x007F, 14, {0}},
     {START, 512, 20000, 0, 0, 0, 0, {15}},
     {START, 512, INT32_MIN, 0, 0, 0, 14, {0}},
+    /*
+     * Rule 1: 111 111 111 111 100, place 0 leftmost, position 13, and with place 4 turned, in chunk 1. Rule 2: position 7 with
+     * place 9 turned, in chunk 2. Rule 3: position 0, and with place 3 turned, in chunk 1, place 10, in chunk 2, and both.
+     */
+    {READ, 512, 0, 0, 0, 0x1FFF, 0, {13, 0, 1, 0, DUNNAVISH_NOT_READ}},
+    {READ, 512, 0, 0, 0, 0x1FEF, 0, {13, 1, 1, 1, DUNNAVISH_NOT_READ}},
+    {READ, 512, 0, 0, 0, 0x027F, 0, {7, 1, 2, DUNNAVISH_NOT_READ, 1}},
+    {READ, 512, 0, 0, 0, 0x0000, 0, {0, 0, 3, 0, 0}},
+    {READ, 512, 0, 0, 0, 0x0008, 0, {0, 1, 3, 1, 0}},
+    {READ, 512, 0, 0, 0, 0x0400, 0, {0, 1, 3, 0, 1}},
+    {READ, 512, 0, 0, 0, 0x0408, 0, {0, 2, 3, 1, 1}},
+    /* refused after the chunks that the rule names have been read, and before */
+    {READ, 512, 0, 0, 0, 0x7000, 12, {0}},
+    {READ, 512, 0, 0, 0, 0x0E00, 11, {0}},
+    {READ, 512, 0, 0, 0, 0x01C0, 9, {0}},
+    {READ, 512, 0, 0, 0, 0x8000, 8, {0}},
     {VOTE, 0, 0, 1, 3, 0xAA, 0, {3, 0}},
     {VOTE, 0, 0, 1, 3, 0xAB, 0, {3, 1}},
     {VOTE, 0, 0, 1, 3, 0x03, 10, {0}},
@@ -92,6 +110,7 @@ static void make_card_b(int32_t offset)
 /* One call on marked numbers, of which `count` are lent. */
 static uint32_t call(const struct trial *trial, size_t count)
 {
+    const uint8_t word[2] = {(uint8_t)(trial->bits & 255), (uint8_t)(trial->bits >> 8)};
     size_t i;
 
     make_card_b(trial->offset);
@@ -105,7 +124,7 @@ static uint32_t call(const struct trial *trial, size_t count)
     case START:
         return dunnavish_block_start(card, trial->card_bytes, 1, values, count);
     default:
-        return dunnavish_vote_chunk(trial->r, trial->m, trial->chunk, values, count);
+        return dunnavish_vote_chunk(trial->r, trial->m, trial->bits, values, count);
     }
 }
 

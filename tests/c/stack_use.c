@@ -1,8 +1,8 @@
 /*
  * Measures the stack that a call takes, and fails if it is not below what include/dunnavish.h promises. Each call runs on a
  * thread whose stack is painted first; a thread that calls nothing is subtracted. Cards of every length n, and of the fewest and
- * the most rows, with offsets, and positions over the whole track; every Reed-Muller code that has a card. Linked with
- * -Wl,-z,now, so that memcpy and memset are bound before the calls.
+ * the most rows, with offsets, and positions over the whole track, their words as they are and with damaged code chunks; every
+ * Reed-Muller code that has a card. Linked with -Wl,-z,now, so that memcpy and memset are bound before the calls.
  */
 #include <pthread.h>
 #include <stdio.h>
@@ -131,6 +131,19 @@ static void make_card(int n, int k)
     card[511] = (uint8_t)(sum % 256);
 }
 
+/* Turns the first t places of both code chunks of the word, whose card's values are at hand. It is read all the same. */
+static void damage_chunks(void)
+{
+    uint32_t n = values[DUNNAVISH_CARD_N], width = values[DUNNAVISH_CARD_DISTANCE], p;
+
+    for (p = width; p < width + values[DUNNAVISH_CARD_RADIUS]; p++) {
+        uint32_t other = p + width + n;
+
+        word[p / 8] = (uint8_t)(word[p / 8] ^ (1u << (p % 8)));
+        word[other / 8] = (uint8_t)(word[other / 8] ^ (1u << (other % 8)));
+    }
+}
+
 static void calls_on_cards(void)
 {
     int n, k, which, round;
@@ -149,6 +162,8 @@ static void calls_on_cards(void)
                     position = round == 0 ? 0 : round == 1 ? last : (uint32_t)(next_random() % (last + 1));
                     if (which == READ)
                         stack_of(WRITE);
+                    if (which == READ && round % 2 == 1)
+                        damage_chunks();
                     measure(which);
                 }
         }

@@ -137,9 +137,45 @@ static int card_line(void)
     return 1;
 }
 
+/* What a fault makes of the counts of the code chunks. */
+static void spoil_counts(uint32_t *v)
+{
+    uint32_t first = v[CHUNK1_BITS];
+    unsigned i;
+
+    if (has("the counts exchanged")) {
+        v[CHUNK1_BITS] = v[CHUNK2_BITS];
+        v[CHUNK2_BITS] = first;
+    }
+    if (has("no count of chunk 2 by rule 3") && v[RULE] == 3)
+        v[CHUNK2_BITS] = NOT_READ;
+    for (i = CHUNK1_BITS; i <= CHUNK2_BITS; i++) {
+        if (v[i] == NOT_READ && has("a count of a chunk that is not named"))
+            v[i] = 0;
+        else if (v[i] != NOT_READ && has("the residual for a count"))
+            v[i] = v[RESIDUAL];
+        else if (v[i] == 0 && has("a count of 0 is left out"))
+            v[i] = NOT_READ;
+        else if (v[i] != NOT_READ && has("counts of one digit"))
+            v[i] %= 10;
+    }
+}
+
+/* The line of a word that is read. */
+static void read_line(size_t number, const uint32_t *v)
+{
+    line("%zu at %u residual %u rule %u", number, v[POSITION], has("no residual") ? 0 : v[RESIDUAL],
+         has("rule 1 as 2") && v[RULE] == 1 ? 2 : v[RULE]);
+    if (v[CHUNK1_BITS] != NOT_READ)
+        line(" %u", v[CHUNK1_BITS]);
+    if (v[CHUNK2_BITS] != NOT_READ)
+        line(" %u", v[CHUNK2_BITS]);
+    line("%s\n", has("a space after the counts") ? " " : "");
+}
+
 static void word_line(const uint8_t *card, const uint8_t *word, size_t width)
 {
-    uint32_t v[3], refusal = second_read_word(card, CARD_BYTES, word, width, v, 3);
+    uint32_t v[READ_VALUES], refusal = second_read_word(card, CARD_BYTES, word, width, v, READ_VALUES);
     size_t number = words + 1;
 
     if (has("numbers from 1 after 1,600 words"))
@@ -154,9 +190,9 @@ static void word_line(const uint8_t *card, const uint8_t *word, size_t width)
     }
     words_read++;
     if (has("the offset moves positions"))
-        v[0] += (uint32_t)(offset_of(card) / 50);
-    line("%zu at %u residual %u rule %u\n", number, v[0], has("no residual") ? 0 : v[1],
-         has("rule 1 as 2") && v[2] == 1 ? 2 : v[2]);
+        v[POSITION] += (uint32_t)(offset_of(card) / 50);
+    spoil_counts(v);
+    read_line(number, v);
 }
 
 /* Prints the lines of the whole words that are held, and keeps what is short of a word. */

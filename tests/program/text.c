@@ -1,12 +1,13 @@
 /*
  * What tramread prints, byte for byte, on inputs that arrive in one piece and in many: no input; inputs that end inside the card;
  * a card alone; every refused card, with and without bytes after it; every count of bytes short of a word; more words than any
- * buffer holds; cards of many shapes with words of all kinds; cards with offsets.
+ * buffer holds; cards of many shapes with words of all kinds; cards with offsets; words with damage in their code chunks.
  *
- * The expected text is document 01's: its example as it stands there, what it says of single words, its numbers of refused cards,
- * with P2's 14, and its form of the lines. What a card and a word are answered otherwise comes from the second reader (tracks.h),
- * and with an offset it is what they are answered without. Nothing is taken from the program itself. That every rule and every
- * refusal of a word has been met is counted.
+ * The expected text is document 01's: its example as it stands there, what it says of single words, its numbers of refused
+ * cards, with P2's 14, and its form of the lines, with P3's counts of the code chunks at the end of those of words that are read.
+ * What a card and a word are answered otherwise comes from the second reader (tracks.h), and with an offset it is what they are
+ * answered without. Nothing is taken from the program itself. That every rule, every refusal of a word and the counts at their
+ * borders have been met is counted.
  *
  *     text PROGRAM [MOST]     stops after MOST differences (20)
  *
@@ -110,7 +111,7 @@ static struct track answered(const struct fields *f, size_t words)
     return t;
 }
 
-/* A card and words, with the text as document 01 gives it. */
+/* A card and words, with the text as document 01 and request P3 give it. */
 static void hold_document(const struct fields *f, const uint8_t *words, size_t word_bytes, const char *expected)
 {
     uint8_t input[CARD_BYTES + WIDEST_WORD];
@@ -119,10 +120,13 @@ static void hold_document(const struct fields *f, const uint8_t *words, size_t w
     card_of(f, input);
     memcpy(input + CARD_BYTES, words, word_bytes);
     for (i = 0; i < sizeof every_way / sizeof *every_way; i++)
-        hold_to("document 01's words", input, CARD_BYTES + word_bytes, every_way[i], expected);
+        hold_to("words with a text by hand", input, CARD_BYTES + word_bytes, every_way[i], expected);
 }
 
-/* The document's example of the program; then what it says of reading words of cards B and A, under 'Two cards to try'. */
+/*
+ * The document's example of the program; then what it says of reading words of cards B and A, under 'Two cards to try'. To the line
+ * of a word that is read P3 adds counts, here 0: each chunk that is read in these words is a codeword as it came.
+ */
 static void document_cases(void)
 {
     static const struct fields card_a = {3, 2, 0, {3, 6}};
@@ -132,8 +136,8 @@ static void document_cases(void)
 
     hold_document(&card_b, example, sizeof example,
                   "track 14 last 15 radius 1\n"
-                  "1 at 7 residual 0 rule 2\n"
-                  "2 at 5 residual 1 rule 2\n"
+                  "1 at 7 residual 0 rule 2 0\n"
+                  "2 at 5 residual 1 rule 2 0\n"
                   "3 refused 9\n"
                   "4 refused 8\n"
                   "words 4 read 2\n");
@@ -144,10 +148,38 @@ static void document_cases(void)
                   "words 2 read 0\n");
     hold_document(&card_a, words_a, sizeof words_a,
                   "track 0 last 30 radius 0\n"
-                  "1 at 5 residual 0 rule 2\n"
-                  "2 at 9 residual 0 rule 1\n"
+                  "1 at 5 residual 0 rule 2 0\n"
+                  "2 at 9 residual 0 rule 1 0\n"
                   "3 refused 10\n"
                   "words 3 read 2\n");
+}
+
+/*
+ * Words with damage in their code chunks, worked by hand; place 0 stands leftmost. On card B t is 1, the code chunks are places 3
+ * to 5 and 9 to 11, c(0) is 000 and c(1) 111, and position m has ones in its first m places. Rule 1 is that of position 13,
+ * 111 111 111 111 100: with place 4 turned, with place 10, which is in the other chunk, and with both. Rule 2 is that of position
+ * 7 with place 9 turned, rule 3 that of position 0 with place 3, with place 10, and with both. The widest card has chunks of eight
+ * bytes, and t is 31: position 0 with 31 bits of code chunk 1 and ten of code chunk 2 turned.
+ */
+static void damaged_chunks(void)
+{
+    static const uint8_t words_b[] = {0xEF, 0x1F, 0xFF, 0x1B, 0xEF, 0x1B, 0x7F, 0x02, 0x08, 0x00, 0x00, 0x04, 0x08, 0x04};
+    static const uint8_t wide[WIDEST_WORD] = {[8] = 0xFF, [9] = 0xFF, [10] = 0xFF, [11] = 0x7F, [24] = 0xFF, [25] = 0x03};
+
+    hold_document(&card_b, words_b, sizeof words_b,
+                  "track 14 last 15 radius 1\n"
+                  "1 at 13 residual 1 rule 1 1\n"
+                  "2 at 13 residual 1 rule 1 0\n"
+                  "3 at 13 residual 2 rule 1 1\n"
+                  "4 at 7 residual 1 rule 2 1\n"
+                  "5 at 0 residual 1 rule 3 1 0\n"
+                  "6 at 0 residual 1 rule 3 0 1\n"
+                  "7 at 0 residual 2 rule 3 1 1\n"
+                  "words 7 read 7\n");
+    hold_document(&widest, wide, sizeof wide,
+                  "track 65535 last 320 radius 31\n"
+                  "1 at 0 residual 41 rule 3 31 10\n"
+                  "words 1 read 1\n");
 }
 
 /* Card B's check is the document's, so that cards made here are cards. */
@@ -403,6 +435,22 @@ static void all_were_met(void)
         }
 }
 
+/* And so was every kind of count. */
+static void all_counts_were_met(void)
+{
+    static const char *const kinds[COUNT_KINDS] = {"0", "t above 0", "two digits", "two that differ"};
+    unsigned i;
+
+    printf("tests/program: the chunks' counts:");
+    for (i = 0; i < COUNT_KINDS; i++)
+        printf(" %s %lu%s", kinds[i], counts_met[i], i + 1 < COUNT_KINDS ? "," : "\n");
+    for (i = 0; i < COUNT_KINDS; i++)
+        if (counts_met[i] == 0) {
+            printf("tests/program: no count was met that is %s\n", kinds[i]);
+            exit(2);
+        }
+}
+
 int main(int count, char **words)
 {
     struct track few, narrow, wide;
@@ -416,6 +464,7 @@ int main(int count, char **words)
         most = strtoul(words[2], NULL, 10);
     check_is_right();
     document_cases();
+    damaged_chunks();
     few = answered(&card_b, 1700);
     short_inputs(&few);
     tails(&few);
@@ -430,6 +479,7 @@ int main(int count, char **words)
     tails(&wide);
     random_cards();
     all_were_met();
+    all_counts_were_met();
     drop(&few);
     drop(&narrow);
     drop(&wide);

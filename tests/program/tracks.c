@@ -10,7 +10,7 @@
 
 #include "feed.h"
 
-unsigned long rules_met[4], refusals_met[13];
+unsigned long rules_met[4], refusals_met[13], counts_met[COUNT_KINDS];
 
 uint64_t next_number(void)
 {
@@ -143,6 +143,20 @@ static void put_chunks(const struct track *t, uint8_t *word)
         put_bits(word, distance + i * (distance + n), sum_of_rows(t, sets[i]), n);
 }
 
+/* Turns up to t + 1 places, which follow each other, of each code chunk of a word; t of them about every second time. */
+static void damage_chunks(const struct track *t, uint8_t *word)
+{
+    uint64_t n = t->card[N], distance = t->card[DISTANCE], radius = t->card[RADIUS];
+    uint64_t chunk, from, turned, i;
+
+    for (chunk = 0; chunk < 2; chunk++) {
+        turned = below(2) == 0 ? radius : below(radius + 2u);
+        from = below(n);
+        for (i = 0; i < turned; i++)
+            turn_bit(word, distance + chunk * (distance + n) + (from + i) % n);
+    }
+}
+
 static void make_word(const struct track *t, uint8_t *word)
 {
     uint64_t kind = below(10), turned, i;
@@ -161,6 +175,8 @@ static void make_word(const struct track *t, uint8_t *word)
     turned = kind % 2 == 0 ? 0 : below(t->card[RADIUS] + 3u);
     for (i = 0; i < turned; i++)
         turn_bit(word, below(t->card[BITS]));
+    if (kind % 2 == 0 && below(2) == 0)
+        damage_chunks(t, word);
     if (below(16) == 0)
         turn_bit(word, below(8 * t->width));
 }
@@ -173,20 +189,47 @@ void make_words(struct track *t)
         make_word(t, word_of(t, i));
 }
 
+/* Whether the chunks that the rule names, 1 chunk 1, 2 chunk 2, 3 both, have at most t bits, and the other one has NOT_READ. */
+static int counts_as_named(const uint32_t *values, uint32_t radius)
+{
+    int first = values[RULE] != 2, second = values[RULE] != 1;
+
+    return (first ? values[CHUNK1_BITS] <= radius : values[CHUNK1_BITS] == NOT_READ) &&
+           (second ? values[CHUNK2_BITS] <= radius : values[CHUNK2_BITS] == NOT_READ);
+}
+
+/* Notes the rule and the counts of a word that is read. */
+static void note_reading(const uint32_t *values, uint32_t radius)
+{
+    unsigned i;
+
+    rules_met[values[RULE]]++;
+    for (i = CHUNK1_BITS; i <= CHUNK2_BITS; i++)
+        if (values[i] != NOT_READ) {
+            counts_met[NO_BITS] += values[i] == 0;
+            counts_met[ALL_BITS] += values[i] != 0 && values[i] == radius;
+            counts_met[TWO_DIGITS] += values[i] >= 10;
+        }
+    counts_met[UNLIKE] += values[RULE] == 3 && values[CHUNK1_BITS] != values[CHUNK2_BITS];
+}
+
 void answer_words(struct track *t)
 {
+    uint32_t radius = t->card[RADIUS];
     size_t i;
 
     for (i = 0; t->refusal == 0 && i < t->words; i++) {
         struct answer *a = &t->answers[i];
 
-        a->refusal = second_read_word(t->bytes, CARD_BYTES, word_of(t, i), t->width, a->values, 3);
-        if (a->refusal > 12 || a->values[2] > 3)
+        a->refusal = second_read_word(t->bytes, CARD_BYTES, word_of(t, i), t->width, a->values, READ_VALUES);
+        if (a->refusal > 12 || (a->refusal == 0 && (a->values[RULE] < 1 || a->values[RULE] > 3)))
             give_up("the second reader's answer is none");
+        if (a->refusal == 0 && !counts_as_named(a->values, radius))
+            give_up("the second reader's counts are of other chunks");
         if (a->refusal != 0)
             refusals_met[a->refusal]++;
         else
-            rules_met[a->values[2]]++;
+            note_reading(a->values, radius);
     }
 }
 
@@ -215,6 +258,17 @@ static void add(struct text *x, const char *form, ...)
     x->used += (size_t)wrote;
 }
 
+/* The line of a word that is read. */
+static void add_reading(struct text *x, size_t number, const uint32_t *values)
+{
+    add(x, "%zu at %u residual %u rule %u", number, values[POSITION], values[RESIDUAL], values[RULE]);
+    if (values[CHUNK1_BITS] != NOT_READ)
+        add(x, " %u", values[CHUNK1_BITS]);
+    if (values[CHUNK2_BITS] != NOT_READ)
+        add(x, " %u", values[CHUNK2_BITS]);
+    add(x, "\n");
+}
+
 /* The card's line and the lines of so many words. Answers how many of them are read, not refused. */
 static size_t add_lines(struct text *x, const struct track *t, size_t words)
 {
@@ -227,7 +281,7 @@ static size_t add_lines(struct text *x, const struct track *t, size_t words)
         if (a->refusal != 0) {
             add(x, "%zu refused %u\n", i + 1, a->refusal);
         } else {
-            add(x, "%zu at %u residual %u rule %u\n", i + 1, a->values[0], a->values[1], a->values[2]);
+            add_reading(x, i + 1, a->values);
             read++;
         }
     }

@@ -1,6 +1,7 @@
 /*
  * Inputs of tramread, a card and words, and the text that each should print. What a card and a word are answered comes from the
- * second reader (tests/second_reader); the form of the lines is that of document 01, 'The program tramread'.
+ * second reader (tests/second_reader); the form of the lines is that of document 01, 'The program tramread', with the counts of
+ * the code chunks, of request P3, at the end of a line of a word that is read.
  */
 #ifndef TRACKS_H
 #define TRACKS_H
@@ -22,10 +23,14 @@ uint32_t second_make_card(uint16_t track, uint32_t r, uint32_t m, uint8_t *card,
 /* What second_check_card puts into its seven values. */
 enum { N, K, TRACK, DISTANCE, RADIUS, BITS, LAST, CARD_VALUES };
 
+/* What second_read_word puts into its five values, and the bits of a code chunk that the rule does not name. */
+enum { POSITION, RESIDUAL, RULE, CHUNK1_BITS, CHUNK2_BITS, READ_VALUES };
+#define NOT_READ 4294967295u
+
 /* What the second reader says of a word. */
 struct answer {
     uint32_t refusal;
-    uint32_t values[3]; /* position, residual, rule */
+    uint32_t values[READ_VALUES];
 };
 
 /* A card and `words` words after it, each with its answer. Of a refused card `width` is 1 and there are no answers. */
@@ -38,8 +43,13 @@ struct track {
     struct answer *answers;
 };
 
-/* How often each rule and each refusal of a word was an answer, over all tracks that were answered. */
+/*
+ * How often each rule and each refusal of a word was an answer, over all tracks that were answered; and of the counts of chunks
+ * how often 0, t where that is not 0, one of two digits, and by rule 3 two that differ.
+ */
 extern unsigned long rules_met[4], refusals_met[13];
+enum { NO_BITS, ALL_BITS, TWO_DIGITS, UNLIKE, COUNT_KINDS };
+extern unsigned long counts_met[COUNT_KINDS];
 
 /* The fields of a card, and the card's bytes with its check added. */
 struct fields {
@@ -63,7 +73,10 @@ void drop(struct track *t);
 /* The word of this number, from 0. */
 uint8_t *word_of(const struct track *t, size_t number);
 
-/* Makes every word: of random bits, a position's, a position's a little damaged, and chunks put together with no position. */
+/*
+ * Makes every word: of random bits, a position's, a position's a little damaged, and chunks put together with no position; of
+ * these some with up to t + 1 bits turned in each code chunk.
+ */
 void make_words(struct track *t);
 
 /* Asks the second reader for the answer of every word. */

@@ -6,7 +6,7 @@ use crate::trials::chunks;
 use second_reader::card::Card;
 use second_reader::reed_muller::ReedMuller;
 use second_reader::track::Track;
-use second_reader::{word, Facts, Refusal};
+use second_reader::{word, Facts, Refusal, Vote};
 
 /// The tracks that every code's card is made for.
 const TRACKS: [u16; 8] = [0, 1, 14, 255, 256, 0x1234, 0x8000, 65_535];
@@ -66,20 +66,24 @@ fn chunks_of_n_bits(tally: &mut Tally, r: u32, m: u32, reed_muller: &ReedMuller)
         calls::vote(tally, answer, second);
         let searched = in_a_word(&made, &track, chunk, second.map_or(0, |vote| vote.number));
         tally.add("chunks also read in a word", true);
-        tally.add("votes unlike a chunk's reading in a word", answer.map(|vote| vote.number) != searched);
+        tally.add("votes unlike a chunk's reading in a word", answer != searched);
     }
 }
 
-/// What the library reads a chunk as where it reads a word. The word has the separators of the last steps to w(p), which name
-/// rule 1: the answer is refusal 12 where chunk 1 reads as 0, and else a position in the block before that number, up to its end.
-fn in_a_word(card: &[u8], track: &Track, chunk: u64, p: u32) -> Result<u32, Refusal> {
+/// What the library reads a chunk as where it reads a word that has it as both code chunks: its codeword's number, and the bits
+/// that it needed. The word has the separators of the last steps to w(p), which name rule 1: the position is in the block before
+/// the number that chunk 1 reads as, up to its end. No step leads to w(0), so for p = 0 the word has those of the first steps from
+/// it, which name rule 2: the position is in the block of the number that chunk 2 reads as.
+fn in_a_word(card: &[u8], track: &Track, chunk: u64, p: u32) -> Result<Vote, Refusal> {
     let parity = p % 2 == 1;
-    let word = track.card.code.word_of_chunks([parity, parity, !parity], [chunk; 2]);
-    match library::read_word(card, &word::packed(&word)) {
-        Ok(reading) => Ok(track.starts.partition_point(|&start| start < reading.position) as u32),
-        Err(12) => Ok(0),
-        Err(refusal) => Err(refusal),
-    }
+    let separators = if p == 0 { [true, false, false] } else { [parity, parity, !parity] };
+    let word = track.card.code.word_of_chunks(separators, [chunk; 2]);
+    let reading = library::read_word(card, &word::packed(&word))?;
+    let (number, bits) = match reading.rule {
+        1 => (track.starts.partition_point(|&start| start < reading.position), reading.chunk1_bits),
+        _ => (track.starts.partition_point(|&start| start <= reading.position) - 1, reading.chunk2_bits),
+    };
+    Ok(Vote { number: number as u32, bits: bits.unwrap_or(u32::MAX) })
 }
 
 fn chunks_past_end(tally: &mut Tally, r: u32, m: u32, reed_muller: &ReedMuller) {

@@ -1,7 +1,8 @@
 //! The library's public calls, with answers in the second reader's form.
 use second_reader::{Facts, Reading, Refusal, Vote};
 
-/// A status or rule that the Rust crate has no number for is a refusal that the second reader never answers.
+/// What the Rust crate has no number for (an unknown status or rule, or counts of other chunks than the rule names) is a refusal
+/// that the second reader never answers.
 fn number(refusal: dunnavish::Refusal) -> Refusal {
     refusal.number().unwrap_or(u32::MAX)
 }
@@ -25,7 +26,13 @@ pub fn write_word(card: &[u8], position: u32, word: &mut [u8]) -> Result<(), Ref
 
 pub fn read_word(card: &[u8], word: &[u8]) -> Result<Reading, Refusal> {
     let reading = dunnavish::read_word(card, word).map_err(number)?;
-    Ok(Reading { position: reading.position, residual: reading.residual, rule: reading.rule.number() })
+    Ok(Reading {
+        position: reading.position,
+        residual: reading.residual,
+        rule: reading.rule.number(),
+        chunk1_bits: reading.chunk1_bits,
+        chunk2_bits: reading.chunk2_bits,
+    })
 }
 
 pub fn block_start(card: &[u8], block: u32) -> Result<u32, Refusal> {

@@ -1,11 +1,12 @@
 //! The track of a sound card: its block starts, and its positions from end to end.
 use crate::calls::{self, Lent};
+use crate::counts;
 use crate::library;
 use crate::tally::Tally;
 use crate::trials::{choice, words};
 use second_reader::track::Track;
 use second_reader::walk::Walk;
-use second_reader::{reading, word, Reading, Refusal};
+use second_reader::{word, Reading, Refusal};
 
 /// The start of every block.
 pub fn blocks(tally: &mut Tally, card: &[u8], track: &Track) {
@@ -14,7 +15,8 @@ pub fn blocks(tally: &mut Tally, card: &[u8], track: &Track) {
     }
 }
 
-/// The positions, one after the other: words are written, and at some of them words are read.
+/// The positions, one after the other: words are written, and at some of them words are read; at the starts of some blocks also
+/// words with counts at their borders.
 pub fn from_end_to_end(tally: &mut Tally, card: &[u8], track: &Track, id: u64) {
     let mut here = Walk::new(track);
     let mut behind = here.clone();
@@ -29,6 +31,11 @@ pub fn from_end_to_end(tally: &mut Tally, card: &[u8], track: &Track, id: u64) {
         if choice::is_read(&here, id) {
             follow(&mut behind, position);
             read(tally, card, &behind, &here, id);
+        }
+        let begins = track.starts.binary_search(&position).ok();
+        if let Some(p) = begins.filter(|&p| choice::is_counted(track, p, id)) {
+            follow(&mut behind, position);
+            counts::at_borders(tally, card, &behind, p, id);
         }
     }
 }
@@ -59,11 +66,11 @@ fn neighbours(tally: &mut Tally, one: &Lent, next: &Lent) {
 /// The words that are read at a position.
 fn read(tally: &mut Tally, card: &[u8], behind: &Walk, here: &Walk, id: u64) {
     for word in words::at(behind, here, id) {
-        let answer = library::read_word(card, &word.bytes);
-        let second = reading::read_from(behind, &word.bytes);
-        calls::read(tally, answer, second);
+        let [answer, second] = counts::both_read(tally, card, behind, &word.bytes);
         if let Some(turned) = word.turned_within_radius {
-            bounded(tally, turned, off(here.position, answer), off(here.position, second));
+            let in_all = turned.iter().copied().map(u64::from).sum();
+            bounded(tally, in_all, off(here.position, answer), off(here.position, second));
+            counts::as_turned(tally, [turned[1], turned[3]], answer, second);
         }
     }
 }

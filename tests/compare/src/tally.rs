@@ -1,7 +1,7 @@
 //! The counts that the program prints.
 
 /// The printed lines in their order: a name each, under which something is counted.
-const LINES: [&str; 51] = [
+const LINES: [&str; 74] = [
     // What the second reader answered, call by call.
     "cards sound",
     "cards refused 1",
@@ -31,6 +31,23 @@ const LINES: [&str; 51] = [
     "words read by rule 1",
     "words read by rule 2",
     "words read by rule 3",
+    // The same words by the bits that each chunk needed that the rule names: some bits are 1 to t - 1, and t bits are not 0.
+    "rule 1, chunk 1 needed no bit",
+    "rule 1, chunk 1 needed some bits",
+    "rule 1, chunk 1 needed t bits",
+    "rule 2, chunk 2 needed no bit",
+    "rule 2, chunk 2 needed some bits",
+    "rule 2, chunk 2 needed t bits",
+    "rule 3, chunks needed no bit and no bit",
+    "rule 3, chunks needed no bit and some bits",
+    "rule 3, chunks needed no bit and t bits",
+    "rule 3, chunks needed some bits and no bit",
+    "rule 3, chunks needed some bits and some bits",
+    "rule 3, chunks needed some bits and t bits",
+    "rule 3, chunks needed t bits and no bit",
+    "rule 3, chunks needed t bits and some bits",
+    "rule 3, chunks needed t bits and t bits",
+    "most bits that a chunk of a word needed",
     "cards made",
     "made cards refused 13",
     "chunks read",
@@ -43,6 +60,12 @@ const LINES: [&str; 51] = [
     "most bits turned in one of them",
     "greatest error in steps",
     "errors of twice the bits turned",
+    "words whose counts are known from what was turned",
+    "words read with t + 1 bits turned in the chunk not named",
+    "words with t + 1 bits turned in a chunk named, read as another codeword",
+    "words with t + 1 bits turned in a chunk named, refused 10",
+    "words with t + 1 bits turned in a chunk named, refused 11",
+    "words with t + 1 bits turned in a chunk named, refused 12",
     "most bits turned in a chunk that is read",
     "chunks also read in a word",
     "answers compared",
@@ -55,6 +78,7 @@ const LINES: [&str; 51] = [
     "mismatches of chunks",
     "neighbours not one bit apart",
     "errors above twice the bits turned or refused",
+    "counts unlike the bits turned or refused",
     "votes unlike a chunk's reading in a word",
 ];
 

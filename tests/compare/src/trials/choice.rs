@@ -1,5 +1,7 @@
-//! Which positions of a track are written, and at which of them words are read. `id` is the card's number.
+//! Which positions of a track are written, at which of them words are read, and of which codewords there are words with counts at
+//! their borders. `id` is the card's number.
 use super::random;
+use second_reader::track::Track;
 use second_reader::walk::Walk;
 
 /// Up to this last position every position is written; on longer tracks about 2,000 are.
@@ -22,6 +24,12 @@ pub fn is_read(here: &Walk, id: u64) -> bool {
     let blocks = here.track.starts.len() as u64 - 1;
     among(here.position.into(), here.track.last().into(), many, id)
         || (one_in(blocks / (many / 8 + 1), id + 1, here.block as u64) && at_border(here))
+}
+
+/// Whether there are words with counts at their borders of codeword p: the first two, the last, and about one between.
+pub fn is_counted(track: &Track, p: usize, id: u64) -> bool {
+    let last = track.starts.len() - 1;
+    p < 2 || p == last || one_in(last as u64, id + 2, p as u64)
 }
 
 /// Whether the place to which a walk has come is next to the start of a block, or begins a chunk.

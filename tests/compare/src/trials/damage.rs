@@ -38,8 +38,8 @@ pub fn damaged(code: &Code, word: &Word, chunks: Range<usize>, count: usize, whi
     word
 }
 
-/// The bits turned between two words, if no chunk has more of them than the radius.
-pub fn turned_within_radius(code: &Code, sent: &Word, received: &Word) -> Option<u64> {
+/// The bits turned in each chunk between two words, if no chunk has more of them than the radius.
+pub fn turned_within_radius(code: &Code, sent: &Word, received: &Word) -> Option<[u32; 5]> {
     let turned = code.chunks().map(|chunk| unlike(&sent[chunk.clone()], &received[chunk]));
-    turned.iter().all(|&bits| bits <= code.radius()).then(|| turned.iter().sum::<usize>() as u64)
+    turned.iter().all(|&bits| bits <= code.radius()).then(|| turned.map(|bits| bits as u32))
 }

@@ -7,10 +7,10 @@ use second_reader::word::{packed, Word};
 /// How many words are read at a position, beside those with a spare bit set.
 const COUNT: u64 = 27;
 
-/// A word that is received, and how many of its bits are turned if no chunk has more of them than the radius.
+/// A word that is received, and how many bits of each chunk are turned if no chunk has more of them than the radius.
 pub struct Received {
     pub bytes: Vec<u8>,
-    pub turned_within_radius: Option<u64>,
+    pub turned_within_radius: Option<[u32; 5]>,
 }
 
 /// The words of the position at which `here` stands, of card `id`. The walk `behind` stands further back. The last two have a spare bit
