@@ -139,7 +139,8 @@ uint32_t dunnavish_write_word(const uint8_t *card, size_t card_bytes, uint32_t p
  *
  * The rule names the code chunks that are read: rule 1 names chunk 1, rule 2 chunk 2, and rule 3 both. The value of a chunk that
  * is read is the number of bits in which it, as received, differs from the codeword that it was read as: at most t, which is at
- * most 31. A chunk that the rule does not name is not read, whatever it holds, and its value is DUNNAVISH_NOT_READ.
+ * most 31. If each of the word's five chunks has at most t bits turned, it is the number of bits turned in the chunk. A chunk that
+ * the rule does not name is not read, whatever it holds, and its value is DUNNAVISH_NOT_READ.
  */
 enum dunnavish_read_value {
     DUNNAVISH_READ_POSITION = 0,    /* the position, from 0 to the last */

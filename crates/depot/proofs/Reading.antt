@@ -12,8 +12,8 @@ use Rattle.model.specs.declared.ReadAnswer.the-variants.{Refused}
 use Rattle.code_theory.proofs.Refusals.{refused-by-card}
 use Rattle.position_theory.specs.Demands.{NearestOfAllowed, OffByAtMostTwiceTurned, OffByAtMostTurnedAndResidual}
 use Rattle.position_theory.proofs.Demands.{read-sound, nearest-of-allowed, off-by-at-most-twice-turned, off-by-at-most-turned-and-residual}
-use Rattle.position_theory.specs.ChunkBits.{TellsBitsOfChunks}
-use Rattle.position_theory.proofs.ChunkBits.{tells-bits-of-chunks}
+use Rattle.position_theory.specs.ChunkBits.{TellsBitsOfChunks, NeededAsTurned}
+use Rattle.position_theory.proofs.ChunkBits.{tells-bits-of-chunks, needed-as-turned}
 use Rattle.linear_code.specs.DecodedFrom.{DecodedFrom}
 use Rattle.depot.proofs.Statuses.{read-told}
 
@@ -26,7 +26,7 @@ module _ (card received : List ℕ) where
       × ((readValues answer ≡ ifServed (readStatus answer) (readFigures card received))
       × (OffByAtMostTwiceTurned card received answer
       × (OffByAtMostTurnedAndResidual card received answer
-      × (NearestOfAllowed card received answer × TellsBitsOfChunks card received answer)))))
+      × (NearestOfAllowed card received answer × (TellsBitsOfChunks card received answer × NeededAsTurned card received answer))))))
 
   read-meets : (answer : ReadAnswer) → answer ≡ readAnswer card received → ReadMeets answer
   read-meets answer e =
@@ -41,7 +41,7 @@ module _ (card received : List ℕ) where
               off-by-at-most-twice-turned card received,
               (
                 off-by-at-most-turned-and-residual card received,
-                (nearest-of-allowed card received, tells-bits-of-chunks card received),
+                (nearest-of-allowed card received, (tells-bits-of-chunks card received, needed-as-turned card received)),
               ),
             ),
           ),

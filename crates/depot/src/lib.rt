@@ -21,7 +21,7 @@ ghost use Rattle.model.specs.declared.WriteAnswer.the-variants.{Written};
 ghost use Rattle.code_theory.specs.Offsets.{CheckedAsBefore, DistanceAsBefore};
 ghost use Rattle.position_theory.specs.Demands.{WrittenIfServable, UnchangedIfRefused, NeighboursDifferInOneBit, NoOtherPositionsWord};
 ghost use Rattle.position_theory.specs.Demands.{NearestOfAllowed, OffByAtMostTwiceTurned, OffByAtMostTurnedAndResidual};
-ghost use Rattle.position_theory.specs.ChunkBits.{TellsBitsOfChunks};
+ghost use Rattle.position_theory.specs.ChunkBits.{TellsBitsOfChunks, NeededAsTurned};
 ghost use Rattle.reed_muller_theory.specs.MadeCards.{IsReedMullerCard};
 ghost use Rattle.reed_muller_theory.specs.Votes.{KeepsPromise, AnswersAsSearch};
 use linear_code::decode;
@@ -90,9 +90,10 @@ pub fn write_word(card: &[u8], position: u32, word: &mut [u8]) -> WriteAnswer
 // the rule names with no codeword within the radius, 10; two chunks that read differently, 11; a block before the first or after the
 // last, 12.
 // Of the word of any position on the track, with at most t bits turned in each chunk, the answer is a position, and it is at most
-// twice as many steps off as bits are turned, and at most as many as bits are turned and the residual together. Of any word
-// that is read, it is the nearest of the positions that the rule allows, and how many bits a chunk needed is the count of places in
-// which that chunk of the received word and the codeword that it reads as differ, at most t.
+// twice as many steps off as bits are turned, and at most as many as bits are turned and the residual together; and a chunk that is
+// read needed just the bits that are turned in it. Of any word that is read, it is the nearest of the positions that the rule allows,
+// and how many bits a chunk needed is the count of places in which that chunk of the received word and the codeword that it reads as
+// differ, at most t.
 pub fn read_word(card: &[u8], word: &[u8]) -> ReadAnswer
     ensures answer { λ r. ⌜ r ≡ readAnswer (now (card .entry)) (now (word .entry)) ⌝ }
     ensures status { λ r. ⌜ readStatus r ≡ readRefusal (now (card .entry)) (now (word .entry)) ⌝ }
@@ -101,6 +102,7 @@ pub fn read_word(card: &[u8], word: &[u8]) -> ReadAnswer
     ensures sharper { λ r. ⌜ OffByAtMostTurnedAndResidual (now (card .entry)) (now (word .entry)) r ⌝ }
     ensures nearest { λ r. ⌜ NearestOfAllowed (now (card .entry)) (now (word .entry)) r ⌝ }
     ensures bits { λ r. ⌜ TellsBitsOfChunks (now (card .entry)) (now (word .entry)) r ⌝ }
+    ensures turned { λ r. ⌜ NeededAsTurned (now (card .entry)) (now (word .entry)) r ⌝ }
 {
     let decoded = decode::decode(card);
     if decoded.refusal != 0 {

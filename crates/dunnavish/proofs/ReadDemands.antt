@@ -10,18 +10,20 @@ use native.Mathlib.Omega.{arith}
 use lib.ListN.{length}
 use borrow.Author.Tests.{eq-eqb, ne-eqb}
 use Rattle.bits.proofs.Numbers.{eq-or-ne}
-use Rattle.model.specs.Card.{Code}
+use Rattle.bits.specs.Places.{place}
+use Rattle.model.specs.Card.{Code, codeOf}
 use Rattle.model.specs.Answers.{readFigures, readAnswer}
 use Rattle.model.specs.Statuses.{ifServed, bitsValue, readStatus, readValues}
 use Rattle.model.specs.declared.ChunkBits.{ChunkBits}
+use Rattle.model.specs.declared.Reading.{Reading}
 use Rattle.model.specs.declared.ReadAnswer.{ReadAnswer}
 use Rattle.model.specs.declared.ReadAnswer.the-variants.{At, Refused}
 use Rattle.position_theory.specs.Damage.{Near, residualOf}
 use Rattle.position_theory.specs.Demands.{OffByAtMostTwiceTurned, OffByAtMostTurnedAndResidual}
-use Rattle.position_theory.specs.ChunkBits.{TellsBits, TellsBitsOfChunks}
+use Rattle.position_theory.specs.ChunkBits.{TellsBits, BitsOfChunks, TellsBitsOfChunks, NeededAsTurned}
 use Rattle.dunnavish.specs.Crossing.{readCount, wrongCount, statusFor, leftBy, UnchangedUnlessZero}
 use Rattle.dunnavish.specs.Demands.{residualLeft, ServedNear, ServedWithinTwiceTurned, ServedWithinTurnedAndResidual}
-use Rattle.dunnavish.specs.Demands.{LeavesBits, LeavesBitsOfChunks}
+use Rattle.dunnavish.specs.Demands.{LeavesBits, LeavesBitsOfChunks, LeavesBitsTurned}
 use Rattle.dunnavish.proofs.Lent.{Crosses, wrong-count-changes-nothing, refusal-nonzero}
 
 -- where the count is right, an answer near a position is served, and leaves its values: a position as near, and its residual
@@ -51,24 +53,27 @@ served-crosses lent answered zero =
     (eq-or-ne (length lent) readCount)
 
 module _ (card received lent : List ℕ) where
-  -- the numbers left by a read of status 0 are the values of a reading, whose bits cross
+  -- the numbers left by a read of status 0 are the values of a reading
   reading-crosses : (answer : ReadAnswer) → readValues answer ≡ ifServed (readStatus answer) (readFigures card received)
-      → TellsBitsOfChunks card received answer → (status : ℕ) (left : List ℕ) → status ≡ statusFor readCount lent (readStatus answer)
-      → left ≡ leftBy status (readValues answer) lent → LeavesBitsOfChunks card received status left
-  unfolding LeavesBitsOfChunks TellsBitsOfChunks leftBy readStatus readValues readFigures
-  reading-crosses (At r) values tells status left is-status is-left zero =
-      let bits = tells r refl in
-      let left-are : left ≡ readValues (At r) = is-left ∙ rw zero in
-      rw left-are (record {
+      → (status : ℕ) (left : List ℕ) → status ≡ statusFor readCount lent (readStatus answer)
+      → left ≡ leftBy status (readValues answer) lent → status ≡ 0 → (r : Reading) × (answer ≡ At r) × (left ≡ readValues (At r))
+  unfolding leftBy readStatus readValues readFigures
+  reading-crosses (At r) values status left is-status is-left zero = (r, refl, is-left ∙ rw zero)
+  reading-crosses (Refused refusal) values status left is-status is-left zero =
+      absurd (refusal-nonzero refusal _ _ values (served-crosses lent refusal (sym is-status ∙ zero)))
+
+  -- so the bits of its chunks cross
+  all-bits-cross : (r : Reading) → BitsOfChunks ChunkBits TellsBits (codeOf card) (place received) (r .rule) (r .chunk1) (r .chunk2)
+      → BitsOfChunks ℕ LeavesBits (codeOf card) (place received) (r .rule) (bitsValue (r .chunk1)) (bitsValue (r .chunk2))
+  all-bits-cross r bits =
+      record {
         by-rule = bits .by-rule;
         p = bits .p;
         in-code = bits .in-code;
         allows = bits .allows;
         first = bits-cross _ _ _ _ _ (bits .first);
         second = bits-cross _ _ _ _ _ (bits .second);
-      })
-  reading-crosses (Refused refusal) values tells status left is-status is-left zero =
-      absurd (refusal-nonzero refusal _ _ values (served-crosses lent refusal (sym is-status ∙ zero)))
+      }
 
   -- what the contract of the read says of its status and of what it leaves
   abbrev ReadMeets : (status : ℕ) (left : List ℕ) → Type 0
@@ -77,25 +82,39 @@ module _ (card received lent : List ℕ) where
       × ((left ≡ leftBy status (readValues (readAnswer card received)) lent)
       × (UnchangedUnlessZero lent status left
       × (ServedWithinTwiceTurned card received lent status left
-      × (ServedWithinTurnedAndResidual card received lent status left × LeavesBitsOfChunks card received status left))))
+      × (ServedWithinTurnedAndResidual card received lent status left
+      × (LeavesBitsOfChunks card received status left × LeavesBitsTurned card received status left)))))
 
   pub wrong-count-claims-nothing : (length lent ≡ readCount → ⊥) → ReadMeets wrongCount lent
-  unfolding ServedWithinTwiceTurned ServedWithinTurnedAndResidual LeavesBitsOfChunks
+  unfolding ServedWithinTwiceTurned ServedWithinTurnedAndResidual LeavesBitsOfChunks LeavesBitsTurned
   wrong-count-claims-nothing unlike =
       let crosses = wrong-count-changes-nothing readCount lent unlike _ _ in
       let no-read : wrongCount ≡ 0 → ⊥ = λ zero. omega arith in (
         crosses .0,
-        (crosses .1 .0, (crosses .1 .1, (λ alike. absurd (unlike alike), (λ alike. absurd (unlike alike), λ zero. absurd (no-read zero))))),
+        (
+          crosses .1 .0,
+          (
+            crosses .1 .1,
+            (
+              λ alike. absurd (unlike alike),
+              (
+                λ alike. absurd (unlike alike),
+                (λ zero. absurd (no-read zero), λ position sound on-track within zero. absurd (no-read zero)),
+              ),
+            ),
+          ),
+        ),
       )
 
   pub demands-cross : (answer : ReadAnswer) → answer ≡ readAnswer card received
       → readValues answer ≡ ifServed (readStatus answer) (readFigures card received)
       → OffByAtMostTwiceTurned card received answer → OffByAtMostTurnedAndResidual card received answer
-      → TellsBitsOfChunks card received answer
+      → TellsBitsOfChunks card received answer → NeededAsTurned card received answer
       → (status : ℕ) (left : List ℕ) → Crosses readCount lent (readStatus answer) (readValues answer) status left
       → ReadMeets status left
   unfolding OffByAtMostTwiceTurned OffByAtMostTurnedAndResidual ServedWithinTwiceTurned ServedWithinTurnedAndResidual
-  demands-cross answer is values bounded sharper tells status left (is-status, (is-left, unchanged)) =
+      TellsBitsOfChunks NeededAsTurned LeavesBitsOfChunks LeavesBitsTurned readValues
+  demands-cross answer is values bounded sharper tells needed status left (is-status, (is-left, unchanged)) =
       rw (← is) (
         is-status,
         (
@@ -110,7 +129,14 @@ module _ (card received lent : List ℕ) where
                     let (near, residual) =
                     near-crosses lent alike answer status left is-status is-left position _ (sharper position sound on-track within) in
                     rw residual near,
-                reading-crosses answer values tells status left is-status is-left,
+                (
+                  λ zero.
+                      let (r, at, left-are) = reading-crosses answer values status left is-status is-left zero in
+                      rw left-are (all-bits-cross r (tells r at)),
+                  λ position sound on-track within zero.
+                      let (r, at, left-are) = reading-crosses answer values status left is-status is-left zero in
+                      rw left-are (needed position sound on-track within r at),
+                ),
               ),
             ),
           ),

@@ -18,7 +18,7 @@ use Rattle.model.specs.declared.Chunk.{Chunk}
 use Rattle.model.specs.declared.NumberAnswer.{NumberAnswer}
 use Rattle.code_theory.specs.Offsets.{OldCard, oldCardAnswer, oldMillimetresAnswer}
 use Rattle.position_theory.specs.Damage.{WithinRadius, turned}
-use Rattle.position_theory.specs.ChunkBits.{CountsDiffering, BitsOfChunks}
+use Rattle.position_theory.specs.ChunkBits.{CountsDiffering, BitsOfChunks, AreTurned}
 use Rattle.reed_muller_theory.specs.MadeCards.{IsReedMullerCard}
 use Rattle.dunnavish.specs.Crossing.{cardBytes, cardCount, numberCount, readCount, voteCount, leftBy}
 
@@ -109,3 +109,10 @@ LeavesBits C false chunk p left = left ≡ notRead
 unfoldable pub LeavesBitsOfChunks : (card received : List ℕ) (status : ℕ) (left : List ℕ) → Type 0
 LeavesBitsOfChunks card received status left =
     status ≡ 0 → BitsOfChunks ℕ LeavesBits (codeOf card) (place received) (ruleLeft left) (bits₁Left left) (bits₂Left left)
+
+-- The same, for a sound card, every position on its track and whichever bits of that position's word are turned, at most t in each of the
+-- five chunks: the numbers left for chunks that the rule names are the bits turned in them
+unfoldable pub LeavesBitsTurned : (card received : List ℕ) (status : ℕ) (left : List ℕ) → Type 0
+LeavesBitsTurned card received status left =
+    (position : ℕ) → SoundCard card → position ≤ lastPosition (codeOf card) → WithinRadius (codeOf card) position received
+    → status ≡ 0 → AreTurned (codeOf card) position received (ruleLeft left) (bits₁Left left) (bits₂Left left)

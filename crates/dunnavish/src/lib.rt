@@ -11,7 +11,8 @@ ghost use Rattle.model.specs.Statuses.{cardStatus, cardValues, writeStatus, bit
 ghost use Rattle.model.specs.Statuses.{millimetresStatus, millimetresValues, voteStatus, voteValues};
 ghost use Rattle.dunnavish.specs.Crossing.{cardCount, readCount, numberCount, voteCount, cardBytes, statusFor, leftBy, UnchangedUnlessZero};
 ghost use Rattle.dunnavish.specs.Demands.{CheckLeftAsBefore, DistanceLeftAsBefore};
-ghost use Rattle.dunnavish.specs.Demands.{ServedWithinTwiceTurned, ServedWithinTurnedAndResidual, LeavesBitsOfChunks};
+ghost use Rattle.dunnavish.specs.Demands.{ServedWithinTwiceTurned, ServedWithinTurnedAndResidual};
+ghost use Rattle.dunnavish.specs.Demands.{LeavesBitsOfChunks, LeavesBitsTurned};
 ghost use Rattle.dunnavish.specs.Demands.{MadeWithinLimits, VotedAsPromised, VotedAsSearch};
 use model::CardAnswer;
 use model::ChunkBits;
@@ -82,8 +83,9 @@ fn bits_value(bits: ChunkBits) -> u32
 // Reads a received word: position, residual, rule, and the bits that chunk 1 and chunk 2 needed, into five numbers. Of the word of any
 // position on the track, with at most t bits turned in each chunk, the status is 0 where five numbers are lent, and the position put
 // into the first of them is at most twice as many steps off as bits are turned, and at most as many as bits are turned and the
-// residual, the second, together. Of any word that is read, the bits of a chunk that the rule names are the count of places in which
-// that chunk of the word and the codeword that it reads as differ, at most t; those of any other chunk are NOT_READ.
+// residual, the second, together; and the bits of a chunk that the rule names are those turned in it. Of any word that is read, they
+// are the count of places in which that chunk of the word and the codeword that it reads as differ, at most t; those of any other
+// chunk are NOT_READ.
 #[no_mangle]
 pub extern "C" fn dunnavish_read_word(card: &[u8], word: &[u8], values: &mut [u32]) -> u32
     ensures status { λ r. ⌜ r ≡ statusFor readCount (now (values .entry)) (readStatus (readAnswer (now (card .entry)) (now (word .entry)))) ⌝ }
@@ -92,6 +94,7 @@ pub extern "C" fn dunnavish_read_word(card: &[u8], word: &[u8], values: &mut [u3
     ensures bounded { λ r. ⌜ ServedWithinTwiceTurned (now (card .entry)) (now (word .entry)) (now (values .entry)) r (now (values .exit)) ⌝ }
     ensures sharper { λ r. ⌜ ServedWithinTurnedAndResidual (now (card .entry)) (now (word .entry)) (now (values .entry)) r (now (values .exit)) ⌝ }
     ensures bits { λ r. ⌜ LeavesBitsOfChunks (now (card .entry)) (now (word .entry)) r (now (values .exit)) ⌝ }
+    ensures turned { λ r. ⌜ LeavesBitsTurned (now (card .entry)) (now (word .entry)) r (now (values .exit)) ⌝ }
 {
     if values.len() != 5 {
         return WRONG_COUNT;

@@ -29,7 +29,7 @@ use Rattle.position_theory.proofs.Nearest.{answer-near}
 
 module _ (C : Code) where
   -- the bits turned in a chunk go by the word's places alone
-  turned-in-ext : {u u′ : ℕ → ℕ} (x : ℕ → ℕ) → ((p : ℕ) → p < wordBits C → u p ≡ u′ p) → (c : ℕ) → c < 5
+  pub turned-in-ext : {u u′ : ℕ → ℕ} (x : ℕ → ℕ) → ((p : ℕ) → p < wordBits C → u p ≡ u′ p) → (c : ℕ) → c < 5
       → turnedIn C c u x ≡ turnedIn C c u′ x
   unfolding turnedIn
   turned-in-ext x same c b = distance-ext-left _ (chunkOf C c x) (λ p l. same _ (omega (arith, chunk-fits C c b)))
@@ -54,7 +54,7 @@ module _ (C : Code) (promise : ChunkPromise C) where
       true-allowed C promise (seen C x) i m inside room (true-case (next .parities) told)
 
   -- so one within the radius in every chunk does
-  position-allowed : (position : ℕ) (u x : ℕ → ℕ) → position ≤ lastPosition C → ((p : ℕ) → x p < 2)
+  pub position-allowed : (position : ℕ) (u x : ℕ → ℕ) → position ≤ lastPosition C → ((p : ℕ) → x p < 2)
       → ((p : ℕ) → p < wordBits C → u p ≡ wordAt C position p) → ChunksWithin C (radius C) u x → Allows (twoEnds C) (seen C x) position
   unfolding ChunksWithin
   position-allowed position u x h hx same within =

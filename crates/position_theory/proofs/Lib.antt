@@ -8,6 +8,7 @@ pub mod TrueCases
 pub mod Blocks
 pub mod Isometry
 pub mod RuleReads
+pub mod NamedChunks
 pub mod Allowed
 pub mod TrueAllowed
 pub mod Nearest

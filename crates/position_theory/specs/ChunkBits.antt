@@ -1,19 +1,21 @@
--- Document 02, P3: how many bits a chunk needed, as the contract of the reading call states it of the received word and the codeword.
--- Assumes nothing.
+-- Document 02, P3: how many bits a chunk needed, as the contract of the reading call states it of the received word and the codeword, and
+-- of the bits that were turned. Assumes nothing.
 use mathlib.Core.Path.{_≡_}
 use mathlib.Core.Bool.{Bool, true, false}
 use mathlib.Core.List.{List}
 use Prim.Native.Nat.{ℕ, _≤_}
 use Rattle.bits.specs.Places.{place}
-use Rattle.model.specs.Card.{Code, codeOf, radius}
-use Rattle.model.specs.Order.{lastCodeword}
-use Rattle.model.specs.Words.{chunk₁, chunk₂}
+use Rattle.model.specs.Card.{Code, codeOf, SoundCard, radius}
+use Rattle.model.specs.Order.{lastCodeword, lastPosition}
+use Rattle.model.specs.Words.{chunk₁, chunk₂, wordBytes}
 use Rattle.model.specs.Reading.{chunkDistance, ruleNamed, namesFirst, namesSecond, twoEnds, allowed}
+use Rattle.model.specs.Statuses.{bitsValue}
 use Rattle.model.specs.declared.ChunkBits.{ChunkBits}
 use Rattle.model.specs.declared.ChunkBits.the-variants.{Differing, NotRead}
 use Rattle.model.specs.declared.Reading.{Reading}
 use Rattle.model.specs.declared.ReadAnswer.{ReadAnswer}
 use Rattle.model.specs.declared.ReadAnswer.the-variants.{At}
+use Rattle.position_theory.specs.Damage.{turnedIn, WithinRadius}
 
 -- a number is the count of places in which a code chunk and c(p) differ, and it is at most t
 abbrev pub CountsDiffering : Code → (chunk : ℕ → ℕ) (p count : ℕ) → Type 0
@@ -36,8 +38,22 @@ pub record BitsOfChunks (B : Type 0) (Tells : Code → (named : Bool) (chunk : �
   pub first : Tells C (namesFirst rule) (chunk₁ C x) p bits₁
   pub second : Tells C (namesSecond rule) (chunk₂ C x) p bits₂
 
--- of every word that is read, on every card
+-- Of every word that is read, on every card
 unfoldable pub TellsBitsOfChunks : (card received : List ℕ) → ReadAnswer → Type 0
 TellsBitsOfChunks card received answer =
     (r : Reading) → answer ≡ At r
     → BitsOfChunks ChunkBits TellsBits (codeOf card) (place received) (r .rule) (r .chunk1) (r .chunk2)
+
+-- as numbers, the bits of either code chunk, where the rule names it, are those of the position's word that are turned in it
+abbrev pub AreTurned : Code → (position : ℕ) (received : List ℕ) (rule bits₁ bits₂ : ℕ) → Type 0
+AreTurned C position received rule bits₁ bits₂ =
+    (namesFirst rule ≡ true → bits₁ ≡ turnedIn C 1 (place (wordBytes C position)) (place received))
+    × (namesSecond rule ≡ true → bits₂ ≡ turnedIn C 3 (place (wordBytes C position)) (place received))
+
+-- What cable crews look for: for a sound card, every position on its track and whichever bits of that position's word are turned, at most
+-- t in each of the five chunks, the bits that a chunk needed are those turned in it
+unfoldable pub NeededAsTurned : (card received : List ℕ) → ReadAnswer → Type 0
+NeededAsTurned card received answer =
+    (position : ℕ) → SoundCard card → position ≤ lastPosition (codeOf card) → WithinRadius (codeOf card) position received
+    → (r : Reading) → answer ≡ At r
+    → AreTurned (codeOf card) position received (r .rule) (bitsValue (r .chunk1)) (bitsValue (r .chunk2))

@@ -32,7 +32,7 @@ returns-2 c =
     let told = c .before .answer .given .1 in
     let nonzero = refusal-nonzero _ _ _ (rw told at (answered .1 .1 .0)) in
     demands-cross _ _ _ (asked .read-word .result) (answered .0) (answered .1 .1 .0) (answered .1 .1 .1 .0) (answered .1 .1 .1 .1 .0)
-    (answered .1 .1 .1 .1 .1 .1) _ _
+    (answered .1 .1 .1 .1 .1 .1 .0) (answered .1 .1 .1 .1 .1 .1 .1) _ _
     (rw told (refusal-changes-nothing readCount _ (asked .before .if1 .left) _ nonzero _))
 
 returns-3 : tie.Need-returns-3
@@ -43,7 +43,7 @@ returns-3 c =
     let answered = asked .read-word .ensures in
     let alike = asked .before .if1 .left in
     demands-cross _ _ _ (asked .read-word .result) (answered .0) (answered .1 .1 .0) (answered .1 .1 .1 .0) (answered .1 .1 .1 .1 .0)
-    (answered .1 .1 .1 .1 .1 .1) _ _
+    (answered .1 .1 .1 .1 .1 .1 .0) (answered .1 .1 .1 .1 .1 .1 .1) _ _
     (rw (arm .answer2 .given .1, all-stored (_ ∷ _ ∷ _ ∷ _ ∷ _ ∷ []) _ alike, c .before .bits-value .ensures, c .bits-value2 .ensures)
     (values-are-left readCount _ alike _))
 

@@ -1,0 +1,140 @@
+-- At every position that a rule allows for a codeword c(p), the code chunks that the rule names are whole, and hold c(p): rule 1 allows
+-- positions past chunk 1 of the block before c(p), rule 2 positions before chunk 2 of the block after it, and rule 3 those within D
+-- steps of its start, where separators alone change. Assumes nothing.
+use mathlib.Core.Path.{_≡_, refl, _∙_}
+use mathlib.Core.Bool.{true, false≢true}
+use mathlib.Core.Logic.{⊎-elim}
+use Prim.Native.Nat.{ℕ, suc, _+_, _*_, _≤_, _<_}
+use native.Mathlib.Nat.{le-dest, add-sub-cancel}
+use native.Mathlib.Omega.{arith}
+use borrow.Author.Tests.{eqb-false}
+use Rattle.bits.specs.Places.{bit}
+use Rattle.bits.proofs.Numbers.{lt-or-le, eq-or-ne, or-false-left}
+use Rattle.model.specs.Refusals.{firstRefusal}
+use Rattle.model.specs.Card.{Code}
+use Rattle.model.specs.Order.{codeword, lastCodeword, changedWeight, blockLength, start, lastPosition}
+use Rattle.model.specs.Words.{wordBits, chunkSize, placesBefore, chunkOf, wordAt}
+use Rattle.model.specs.Reading.{seen, ruleNamed, namesFirst, namesSecond, numberBy, Range, range₁, range₂, range₃, twoEnds}
+use Rattle.model.specs.Reading.{rangeSeen, rowsOf, allowed}
+use Rattle.code_theory.specs.Promise.{ChunkPromise}
+use Rattle.position_theory.proofs.Words.{content, chunk-fits}
+use Rattle.position_theory.proofs.Between.{stepsBefore, chunk-ahead, chunk-passed}
+use Rattle.position_theory.proofs.Blocks.{next-codeword, word-in-block}
+use Rattle.position_theory.proofs.Separators.{of-every-rule}
+use Rattle.position_theory.proofs.RuleReads.{reads-in-code, RuleReads, rule-reads}
+
+-- chunk c of a position's word holds c(p)
+abbrev pub Holds : Code → (position c p : ℕ) → Type 0
+Holds C position c p = (b : ℕ) → b < C .n → chunkOf C c (wordAt C position) b ≡ bit (codeword C p) b
+
+-- a position of a range
+abbrev pub In : Range → (position : ℕ) → Type 0
+In range position = (range .low ≤ position) × (position ≤ range .high)
+
+module _ (C : Code) (promise : ChunkPromise C) where
+  -- m steps into block i: a chunk that the walk has not reached holds what w(i) holds there, one that it has passed what w(i + 1) does
+  module _ (i m : ℕ) (inside : i < lastCodeword C) (room : m ≤ blockLength C i) where
+    ahead : (c : ℕ) → c < 5 → m ≤ stepsBefore C (changedWeight C i) c
+        → (b : ℕ) → b < chunkSize (C .D) (C .n) c → chunkOf C c (wordAt C (start C i + m)) b ≡ content C i c b
+    ahead c five h b l =
+        word-in-block C promise i m inside room _ (omega (arith, chunk-fits C c five))
+        ∙ chunk-ahead C (next-codeword C promise i inside) c m five h b l
+
+    passed : (c : ℕ) → c < 5 → stepsBefore C (changedWeight C i) (suc c) ≤ m
+        → (b : ℕ) → b < chunkSize (C .D) (C .n) c → chunkOf C c (wordAt C (start C i + m)) b ≡ content C (i + 1) c b
+    passed c five h b l =
+        word-in-block C promise i m inside room _ (omega (arith, chunk-fits C c five))
+        ∙ chunk-passed C (next-codeword C promise i inside) c m five h b l
+
+    -- the two code chunks
+    both-ahead : m ≤ C .D → Holds C (start C i + m) 1 i × Holds C (start C i + m) 3 i
+    unfolding placesBefore chunkSize content
+    both-ahead h = (ahead 1 (omega arith) (omega arith), ahead 3 (omega arith) (omega arith))
+
+    second-ahead : m ≤ 2 * C .D + changedWeight C i → Holds C (start C i + m) 3 i
+    unfolding placesBefore chunkSize content
+    second-ahead h = ahead 3 (omega arith) (omega arith)
+
+    first-passed : C .D + changedWeight C i ≤ m → Holds C (start C i + m) 1 (i + 1)
+    unfolding placesBefore chunkSize content
+    first-passed h = passed 1 (omega arith) (omega arith)
+
+    both-passed : 2 * C .D + 2 * changedWeight C i ≤ m → Holds C (start C i + m) 1 (i + 1) × Holds C (start C i + m) 3 (i + 1)
+    unfolding placesBefore chunkSize content
+    both-passed h = (passed 1 (omega arith) (omega arith), passed 3 (omega arith) (omega arith))
+
+  -- by rule 1, in block p - 1
+  rule₁-holds : (p q : ℕ) → p ≤ lastCodeword C → (p ≡ 0 → ⊥) → In (range₁ C p) q → Holds C q 1 p
+  rule₁-holds p q h ne (low, high) =
+      let before : (i : ℕ) × (1 + i ≡ p) = le-dest {n = 1} {m = p} (omega arith) in
+      let i : ℕ = before .0 in
+      let here : p ≡ i + 1 = omega arith in
+      let next = promise .start-next i (omega arith) in
+      let from : start C i + C .D + changedWeight C i ≤ q = rw (here, add-sub-cancel i 1) at low in
+      let to : q ≤ start C (i + 1) = rw here at high in
+      let steps : (m : ℕ) × (start C i + m ≡ q) = le-dest (omega arith) in
+      rw (here, ← (steps .1)) (first-passed i (steps .0) (omega arith) (omega arith) (omega arith))
+
+  -- by rule 2, in block p
+  rule₂-holds : (p q : ℕ) → p < lastCodeword C → In (range₂ C p) q → Holds C q 3 p
+  rule₂-holds p q inside (low, high) =
+      let steps : (m : ℕ) × (start C p + m ≡ q) = le-dest low in
+      rw (← (steps .1)) (second-ahead p (steps .0) inside (omega arith) (omega arith))
+
+  -- by rule 3, at the end of block p - 1, up to the start of block p, and after that start, which the last codeword has no block for
+  up-to-start : (p q : ℕ) → p ≤ lastCodeword C → start C p ≤ q + C .D → q ≤ start C p → Holds C q 1 p × Holds C q 3 p
+  up-to-start p q h low high =
+      ⊎-elim
+      (λ (first : p ≡ 0).
+      let here : start C 0 + 0 ≡ q = omega (arith, promise .start-zero, rw first at high) in
+      rw (first, ← here) (both-ahead 0 0 (promise .two-codewords) (omega arith) (omega arith)))
+      (λ (later : p ≡ 0 → ⊥).
+      let before : (i : ℕ) × (1 + i ≡ p) = le-dest {n = 1} {m = p} (omega arith) in
+      let i : ℕ = before .0 in
+      let here : p ≡ i + 1 = omega arith in
+      let next = promise .start-next i (omega arith) in
+      let from : start C (i + 1) ≤ q + C .D = rw here at low in
+      let to : q ≤ start C (i + 1) = rw here at high in
+      let steps : (m : ℕ) × (start C i + m ≡ q) = le-dest (omega arith) in
+      rw (here, ← (steps .1)) (both-passed i (steps .0) (omega arith) (omega arith) (omega arith)))
+      (eq-or-ne p 0)
+
+  after-start : (p q : ℕ) → p ≤ lastCodeword C → start C p < q → q ≤ start C p + C .D → q ≤ lastPosition C
+      → Holds C q 1 p × Holds C q 3 p
+  unfolding lastPosition
+  after-start p q h past high on-track =
+      let not-last : p ≡ lastCodeword C → ⊥ = λ e. omega (arith, rw e at past) in
+      let steps : (m : ℕ) × (start C p + m ≡ q) = le-dest (omega arith) in
+      rw (← (steps .1)) (both-ahead p (steps .0) (omega arith) (omega arith) (omega arith))
+
+  rule₃-holds : (p q : ℕ) → p ≤ lastCodeword C → In (range₃ C p) q → Holds C q 1 p × Holds C q 3 p
+  rule₃-holds p q h (low, high) =
+      ⊎-elim (λ (past : start C p < q). after-start p q h past (omega arith) (omega arith))
+      (λ (up-to : q ≤ start C p). up-to-start p q h (omega arith) up-to) (lt-or-le (start C p) q)
+
+  -- at every position that a word allows
+  module _ (x : ℕ → ℕ) (none : firstRefusal (rowsOf C x) ≡ 0) (q : ℕ) (within : In (allowed C x) q) where
+    abbrev NamedHold : (rule : ℕ) → Type 0
+    NamedHold rule =
+        let p : ℕ = numberBy (seen C x) rule in
+        (namesFirst rule ≡ true → Holds C q 1 p) × (namesSecond rule ≡ true → Holds C q 3 p)
+
+    pub named-hold : NamedHold (ruleNamed C x)
+    unfolding rowsOf allowed ruleNamed twoEnds seen
+    named-hold =
+        of-every-rule (λ rule. RuleReads (twoEnds C) (seen C x) (λ p. p ≤ lastCodeword C) rule → In (rangeSeen (twoEnds C) (seen C x) rule) q → NamedHold rule)
+        (λ reads there. absurd (reads .some-rule refl))
+        (λ reads there. (
+          λ named. rule₁-holds _ q (reads .kind) (eqb-false _ 0 (or-false-left _ _ (reads .block))) there,
+          λ named. absurd (false≢true named),
+        ))
+        (λ reads there. (
+          λ named. absurd (false≢true named),
+          λ named. rule₂-holds _ q (omega (arith, eqb-false _ (lastCodeword C) (reads .block), reads .kind)) there,
+        ))
+        (λ reads there.
+        let both = rule₃-holds _ q (reads .kind) there in
+        (λ named. both .0, λ named. both .1))
+        (seen C x .s₁) (seen C x .s₂) (seen C x .s₃)
+        (rule-reads (twoEnds C) (seen C x) (λ p. p ≤ lastCodeword C) (reads-in-code C promise _) (reads-in-code C promise _) none)
+        within
