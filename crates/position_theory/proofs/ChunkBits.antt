@@ -6,7 +6,7 @@ use mathlib.Core.Path.{_≡_, refl, _∙_, sym}
 use mathlib.Core.Bool.{Bool, true, false, false≢true}
 use mathlib.Core.List.{List}
 use mathlib.Core.Logic.{⊎-elim}
-use Prim.Native.Nat.{ℕ, _≤_, _<_}
+use Prim.Native.Nat.{ℕ, _<_}
 use native.Mathlib.Omega.{arith}
 use borrow.Author.Tests.{leb-true}
 use Rattle.bits.specs.Sums.{distance}
@@ -16,10 +16,10 @@ use Rattle.bits.proofs.Places.{place-bit}
 use Rattle.bits.proofs.Numbers.{eq-or-ne}
 use Rattle.model.specs.Refusals.{firstRefusal, unlessRefused}
 use Rattle.model.specs.Card.{Code, codeOf, cardRefusal}
-use Rattle.model.specs.Order.{codeword, lastCodeword}
+use Rattle.model.specs.Order.{codeword}
 use Rattle.model.specs.Words.{chunkSize, placesBefore, chunk₁, chunk₂, wordAt, wordBytes}
-use Rattle.model.specs.Reading.{chunkDistance, withinRadius, chunkReading, seen, ruleNamed, namesFirst, namesSecond, numberBy, twoEnds, rowsSeen, rowsOf, allowed, residual}
-use Rattle.model.specs.Reading.{bitsNeeded, nearest}
+use Rattle.model.specs.Reading.{chunkDistance, withinRadius, chunkReading, seen, ruleNamed, namesFirst, namesSecond, numberBy}
+use Rattle.model.specs.Reading.{rowsSeen, rowsOf, allowed, residual, bitsNeeded, nearest}
 use Rattle.model.specs.Statuses.{bitsValue}
 use Rattle.model.specs.Answers.{readRefusal, readAnswer, rowsOfWord}
 use Rattle.model.specs.declared.ChunkBits.{ChunkBits}
@@ -29,7 +29,7 @@ use Rattle.code_theory.specs.Promise.{ChunkPromise}
 use Rattle.code_theory.proofs.Refusals.{NoneHolds, numbered, none-refuses, none-holds, served-if-none, refused-if-some, none-past-card}
 use Rattle.position_theory.specs.Damage.{turnedIn}
 use Rattle.position_theory.specs.ChunkBits.{TellsBits, BitsOfChunks, TellsBitsOfChunks, NeededAsTurned}
-use Rattle.position_theory.proofs.RuleReads.{NamedReads, reads-in-code, rule-reads}
+use Rattle.position_theory.proofs.RuleReads.{NamedReads, word-reads}
 use Rattle.position_theory.proofs.WordBytes.{place-of-word, reading, read-if-whole}
 use Rattle.position_theory.proofs.NamedChunks.{In, named-hold}
 use Rattle.position_theory.proofs.BoundedError.{turned-in-ext, position-allowed}
@@ -50,10 +50,9 @@ module _ (C : Code) (promise : ChunkPromise C) where
   bits-of-chunks : (x : ℕ → ℕ) → firstRefusal (rowsOf C x) ≡ 0
       → let r : Reading = nearest (residual C x) (seen C x) (ruleNamed C x) (allowed C x) in
       BitsOfChunks ChunkBits TellsBits C x (r .rule) (r .chunk1) (r .chunk2)
-  unfolding rowsOf allowed ruleNamed nearest seen
+  unfolding allowed ruleNamed nearest seen
   bits-of-chunks x none =
-      let reads =
-      rule-reads (twoEnds C) (seen C x) (λ p. p ≤ lastCodeword C) (reads-in-code C promise _) (reads-in-code C promise _) none in
+      let reads = word-reads C promise x none in
       record {
         by-rule = refl;
         p = numberBy (seen C x) (ruleNamed C x);
@@ -114,7 +113,8 @@ needed-as-turned card received position sound h d r answered =
     let C = codeOf card in
     let promise = card-promise card sound in
     let x = place received in
-    let allows = position-allowed C promise position (place (wordBytes C position)) x h (place-bit received) (place-of-word C position) (d .chunks) in
+    let allows =
+    position-allowed C promise position (place (wordBytes C position)) x h (place-bit received) (place-of-word C position) (d .chunks) in
     let read : reading C x ≡ At r =
     sym (read-sound card received sound ∙ read-if-whole C received (d .right-length) (d .spare-zero)) ∙ answered in
     let (none, is) = read-if-served _ _ _ read in

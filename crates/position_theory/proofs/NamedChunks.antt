@@ -13,7 +13,7 @@ use Rattle.bits.proofs.Numbers.{lt-or-le, eq-or-ne, or-false-left}
 use Rattle.model.specs.Refusals.{firstRefusal}
 use Rattle.model.specs.Card.{Code}
 use Rattle.model.specs.Order.{codeword, lastCodeword, changedWeight, blockLength, start, lastPosition}
-use Rattle.model.specs.Words.{wordBits, chunkSize, placesBefore, chunkOf, wordAt}
+use Rattle.model.specs.Words.{chunkSize, placesBefore, chunkOf, wordAt}
 use Rattle.model.specs.Reading.{seen, ruleNamed, namesFirst, namesSecond, numberBy, Range, range₁, range₂, range₃, twoEnds}
 use Rattle.model.specs.Reading.{rangeSeen, rowsOf, allowed}
 use Rattle.code_theory.specs.Promise.{ChunkPromise}
@@ -21,7 +21,7 @@ use Rattle.position_theory.proofs.Words.{content, chunk-fits}
 use Rattle.position_theory.proofs.Between.{stepsBefore, chunk-ahead, chunk-passed}
 use Rattle.position_theory.proofs.Blocks.{next-codeword, word-in-block}
 use Rattle.position_theory.proofs.Separators.{of-every-rule}
-use Rattle.position_theory.proofs.RuleReads.{reads-in-code, RuleReads, rule-reads}
+use Rattle.position_theory.proofs.RuleReads.{WordReads, word-reads}
 
 -- chunk c of a position's word holds c(p)
 abbrev pub Holds : Code → (position c p : ℕ) → Type 0
@@ -81,7 +81,7 @@ module _ (C : Code) (promise : ChunkPromise C) where
       let steps : (m : ℕ) × (start C p + m ≡ q) = le-dest low in
       rw (← (steps .1)) (second-ahead p (steps .0) inside (omega arith) (omega arith))
 
-  -- by rule 3, at the end of block p - 1, up to the start of block p, and after that start, which the last codeword has no block for
+  -- by rule 3, at the end of block p - 1, up to the start of block p; and after that start, where p is not the last number
   up-to-start : (p q : ℕ) → p ≤ lastCodeword C → start C p ≤ q + C .D → q ≤ start C p → Holds C q 1 p × Holds C q 3 p
   up-to-start p q h low high =
       ⊎-elim
@@ -120,9 +120,9 @@ module _ (C : Code) (promise : ChunkPromise C) where
         (namesFirst rule ≡ true → Holds C q 1 p) × (namesSecond rule ≡ true → Holds C q 3 p)
 
     pub named-hold : NamedHold (ruleNamed C x)
-    unfolding rowsOf allowed ruleNamed twoEnds seen
+    unfolding allowed ruleNamed twoEnds
     named-hold =
-        of-every-rule (λ rule. RuleReads (twoEnds C) (seen C x) (λ p. p ≤ lastCodeword C) rule → In (rangeSeen (twoEnds C) (seen C x) rule) q → NamedHold rule)
+        of-every-rule (λ rule. WordReads C x rule → In (rangeSeen (twoEnds C) (seen C x) rule) q → NamedHold rule)
         (λ reads there. absurd (reads .some-rule refl))
         (λ reads there. (
           λ named. rule₁-holds _ q (reads .kind) (eqb-false _ 0 (or-false-left _ _ (reads .block))) there,
@@ -136,5 +136,4 @@ module _ (C : Code) (promise : ChunkPromise C) where
         let both = rule₃-holds _ q (reads .kind) there in
         (λ named. both .0, λ named. both .1))
         (seen C x .s₁) (seen C x .s₂) (seen C x .s₃)
-        (rule-reads (twoEnds C) (seen C x) (λ p. p ≤ lastCodeword C) (reads-in-code C promise _) (reads-in-code C promise _) none)
-        within
+        (word-reads C promise x none) within

@@ -10,7 +10,8 @@ use Rattle.bits.proofs.Numbers.{or-false-left, or-false-right}
 use Rattle.model.specs.Refusals.{firstRefusal}
 use Rattle.model.specs.Card.{Code}
 use Rattle.model.specs.Order.{lastCodeword}
-use Rattle.model.specs.Reading.{chunkReading, unreadable, numberRead, Seen, ruleSeen, namesFirst, namesSecond, numberBy, Rules, rowsSeen}
+use Rattle.model.specs.Reading.{chunkReading, unreadable, numberRead, Seen, seen, ruleSeen, namesFirst, namesSecond, numberBy}
+use Rattle.model.specs.Reading.{Rules, twoEnds, rowsSeen, ruleNamed, rowsOf}
 use Rattle.model.specs.declared.Chunk.{Chunk}
 use Rattle.model.specs.declared.Chunk.the-variants.{Codeword, Unreadable}
 use Rattle.code_theory.specs.Promise.{ChunkPromise}
@@ -87,3 +88,12 @@ module _ (R : Rules) (s : Seen) (Kind : ℕ → Type 0) (kind₁ : ReadsKind Kin
         second = λ named. (e, read′ ∙ ap (λ (p : ℕ). Codeword p e) (sym (same-number _ _ alike)));
       })
       (s .s₁) (s .s₂) (s .s₃) (none-holds _ refl none)
+
+-- of a received word's bits, on a track with two ends, where the numbers are those of the code
+abbrev pub WordReads : Code → (x : ℕ → ℕ) (rule : ℕ) → Type 0
+WordReads C x rule = RuleReads (twoEnds C) (seen C x) (λ p. p ≤ lastCodeword C) rule
+
+pub word-reads : (C : Code) → ChunkPromise C → (x : ℕ → ℕ) → firstRefusal (rowsOf C x) ≡ 0 → WordReads C x (ruleNamed C x)
+unfolding rowsOf ruleNamed seen
+word-reads C promise x none =
+    rule-reads (twoEnds C) (seen C x) (λ p. p ≤ lastCodeword C) (reads-in-code C promise _) (reads-in-code C promise _) none
