@@ -129,7 +129,7 @@ uint32_t dunnavish_check_card(const uint8_t *card, size_t card_bytes, uint32_t *
  */
 uint32_t dunnavish_write_word(const uint8_t *card, size_t card_bytes, uint32_t position, uint8_t *word, size_t word_bytes);
 
-/* The value of a code chunk that was not read. It is never a count of bits: a chunk that is read has at most 31. */
+/* The value of a code chunk that was not read. It is never a count of bits: a count is at most 31. */
 #define DUNNAVISH_NOT_READ 4294967295u
 
 /*

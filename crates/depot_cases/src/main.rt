@@ -1,13 +1,13 @@
 // Tries the five public calls that take a card on the cases of document 01, on bad input of every kind, each refusal from 1 to 12 and 14
-// and two faults at once for their order, and on the ends of every range, document 02's offsets among them. The file stdout is
-// written by hand, a line a case, from the documents' cards, tables and rules; it is never taken from what the program writes.
+// and two faults at once for their order, and on the ends of every range, document 02's offsets and bits of chunks among them. The file
+// stdout is written by hand, a line a case, from the documents' cards, tables and rules; it is never taken from what the program writes.
 mod bad_cards;
 mod calls;
 mod cards;
 mod names;
 mod say;
 
-// Document 01's cards, their words and the ends of their ranges, each line as crate::calls has it.
+// Document 01's cards, their words and the ends of their ranges, and words whose chunks needed bits, each line as crate::calls has it.
 const OF_DOCUMENT_01: [u64; 109] = [
     // card B: n 3, k 1, track 14, row 7
     0x0_00_00000000,

@@ -1,4 +1,5 @@
-//! Reading a received word: its separators, the rule that they name, the allowed positions, and the nearest of these.
+//! Reading a received word: its separators, the rule that they name, the allowed positions, the nearest of these, and the bits
+//! that the chunks needed.
 use crate::track::Track;
 use crate::walk::Walk;
 use crate::word::{unlike, unpacked};
