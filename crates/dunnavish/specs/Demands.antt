@@ -110,8 +110,8 @@ unfoldable pub LeavesBitsOfChunks : (card received : List ℕ) (status : ℕ) (l
 LeavesBitsOfChunks card received status left =
     status ≡ 0 → BitsOfChunks ℕ LeavesBits (codeOf card) (place received) (ruleLeft left) (bits₁Left left) (bits₂Left left)
 
--- The same, for a sound card, every position on its track and whichever bits of that position's word are turned, at most t in each of the
--- five chunks: the numbers left for chunks that the rule names are the bits turned in them
+-- Damage per chunk, of a word that is read: for a sound card, every position on its track and whichever bits of that position's word are
+-- turned, at most t in each of the five chunks, the numbers left for the chunks that the rule names are the bits turned in them
 unfoldable pub LeavesBitsTurned : (card received : List ℕ) (status : ℕ) (left : List ℕ) → Type 0
 LeavesBitsTurned card received status left =
     (position : ℕ) → SoundCard card → position ≤ lastPosition (codeOf card) → WithinRadius (codeOf card) position received

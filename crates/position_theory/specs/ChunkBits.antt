@@ -26,9 +26,9 @@ unfoldable pub TellsBits : Code → (named : Bool) (chunk : ℕ → ℕ) (p : �
 TellsBits C true chunk p answered = (count : ℕ) × (answered ≡ Differing count) × CountsDiffering C chunk p count
 TellsBits C false chunk p answered = answered ≡ NotRead
 
--- The bits of both code chunks of the received word x, told in some way, as `TellsBits` is one: the rule is the one that the separators
--- name; the chunks that it names read as one codeword c(p), by which it allows positions; and of either chunk its bits are told
--- against that codeword.
+-- What is told of both code chunks of the received word x, by `TellsBits` or in another form of it: the rule is the one that the
+-- separators name; the chunks that it names read as one codeword c(p), by which it allows positions; and what is told of either chunk
+-- is its bits against that codeword.
 pub record BitsOfChunks (B : Type 0) (Tells : Code → (named : Bool) (chunk : ℕ → ℕ) (p : ℕ) → B → Type 0)
     (C : Code) (x : ℕ → ℕ) (rule : ℕ) (bits₁ bits₂ : B) : Type 0 where
   pub by-rule : rule ≡ ruleNamed C x
@@ -38,20 +38,21 @@ pub record BitsOfChunks (B : Type 0) (Tells : Code → (named : Bool) (chunk : �
   pub first : Tells C (namesFirst rule) (chunk₁ C x) p bits₁
   pub second : Tells C (namesSecond rule) (chunk₂ C x) p bits₂
 
--- Of every word that is read, on every card
+-- of every word that is read, on every card
 unfoldable pub TellsBitsOfChunks : (card received : List ℕ) → ReadAnswer → Type 0
 TellsBitsOfChunks card received answer =
     (r : Reading) → answer ≡ At r
     → BitsOfChunks ChunkBits TellsBits (codeOf card) (place received) (r .rule) (r .chunk1) (r .chunk2)
 
--- as numbers, the bits of either code chunk, where the rule names it, are those of the position's word that are turned in it
+-- as numbers, the bits of either code chunk, where the rule names it, are those of the position's word that are turned in it (of the five
+-- chunks, 0 to 4, the code chunks are 1 and 3)
 abbrev pub AreTurned : Code → (position : ℕ) (received : List ℕ) (rule bits₁ bits₂ : ℕ) → Type 0
 AreTurned C position received rule bits₁ bits₂ =
     (namesFirst rule ≡ true → bits₁ ≡ turnedIn C 1 (place (wordBytes C position)) (place received))
     × (namesSecond rule ≡ true → bits₂ ≡ turnedIn C 3 (place (wordBytes C position)) (place received))
 
--- What cable crews look for: for a sound card, every position on its track and whichever bits of that position's word are turned, at most
--- t in each of the five chunks, the bits that a chunk needed are those turned in it
+-- Damage per chunk: for a sound card, every position on its track and whichever bits of that position's word are turned, at most t in
+-- each of the five chunks, a chunk that is read needed as many bits as are turned in it
 unfoldable pub NeededAsTurned : (card received : List ℕ) → ReadAnswer → Type 0
 NeededAsTurned card received answer =
     (position : ℕ) → SoundCard card → position ≤ lastPosition (codeOf card) → WithinRadius (codeOf card) position received
