@@ -289,8 +289,8 @@ pub fn write_word(card: &[u8], position: u32, word: &mut [u8]) -> Result<(), Ref
 /// chunk that was read differs from its codeword.
 ///
 /// If each of the word's five chunks has at most [`CardSummary::radius`] bits turned, the answer is a reading, and its position
-/// is off by at most twice the bits turned in all; and each chunk that was read differs from its codeword in just the bits turned
-/// in it.
+/// is off by at most twice the bits turned in all; and each chunk that was read differs from its codeword in as many bits as are
+/// turned in it.
 ///
 /// Refused: the card, [`Refusal::WordLength`], and [`Refusal::SpareBit`] to [`Refusal::NoBlock`].
 pub fn read_word(card: &[u8], word: &[u8]) -> Result<Reading, Refusal> {

@@ -91,8 +91,8 @@ pub fn write_word(card: &[u8], position: u32, word: &mut [u8]) -> WriteAnswer
 // last, 12.
 // Of the word of any position on the track, with at most t bits turned in each chunk, the answer is a position, and it is at most
 // twice as many steps off as bits are turned, and at most as many as bits are turned and the residual together; and a chunk that is
-// read needed just the bits that are turned in it. Of any word that is read, it is the nearest of the positions that the rule allows,
-// and how many bits a chunk needed is the count of places in which that chunk of the received word and the codeword that it reads as
+// read needed as many bits as are turned in it. Of any word that is read, it is the nearest of the positions that the rule allows, and
+// how many bits a chunk needed is the count of places in which that chunk of the received word and the codeword that it reads as
 // differ, at most t.
 pub fn read_word(card: &[u8], word: &[u8]) -> ReadAnswer
     ensures answer { λ r. ⌜ r ≡ readAnswer (now (card .entry)) (now (word .entry)) ⌝ }

@@ -83,9 +83,9 @@ fn bits_value(bits: ChunkBits) -> u32
 // Reads a received word: position, residual, rule, and the bits that chunk 1 and chunk 2 needed, into five numbers. Of the word of any
 // position on the track, with at most t bits turned in each chunk, the status is 0 where five numbers are lent, and the position put
 // into the first of them is at most twice as many steps off as bits are turned, and at most as many as bits are turned and the
-// residual, the second, together; and the bits of a chunk that the rule names are those turned in it. Of any word that is read, they
-// are the count of places in which that chunk of the word and the codeword that it reads as differ, at most t; those of any other
-// chunk are NOT_READ.
+// residual, the second, together; and the number put for a chunk that the rule names is that of the bits turned in it. Of any word that
+// is read, it is the count of places in which that chunk of the word and the codeword that it reads as differ, at most t; for any
+// other chunk NOT_READ is put.
 #[no_mangle]
 pub extern "C" fn dunnavish_read_word(card: &[u8], word: &[u8], values: &mut [u32]) -> u32
     ensures status { λ r. ⌜ r ≡ statusFor readCount (now (values .entry)) (readStatus (readAnswer (now (card .entry)) (now (word .entry)))) ⌝ }

@@ -31,7 +31,7 @@ use Rattle.position_theory.specs.Damage.{turnedIn}
 use Rattle.position_theory.specs.ChunkBits.{TellsBits, BitsOfChunks, TellsBitsOfChunks, NeededAsTurned}
 use Rattle.position_theory.proofs.RuleReads.{NamedReads, word-reads}
 use Rattle.position_theory.proofs.WordBytes.{place-of-word, reading, read-if-whole}
-use Rattle.position_theory.proofs.NamedChunks.{In, named-hold}
+use Rattle.position_theory.proofs.NamedChunks.{InRange, named-hold}
 use Rattle.position_theory.proofs.BoundedError.{turned-in-ext, position-allowed}
 use Rattle.position_theory.proofs.Demands.{card-promise, read-sound}
 
@@ -94,7 +94,7 @@ needed-is C false chunk p answered not-read whole holds named = absurd (false≢
 
 module _ (C : Code) (promise : ChunkPromise C) where
   -- at every position that a word allows: the bits needed are those in which a chunk differs from that of the position's word
-  unlike-allowed : (x : ℕ → ℕ) → firstRefusal (rowsOf C x) ≡ 0 → (q : ℕ) → In (allowed C x) q
+  unlike-allowed : (x : ℕ → ℕ) → firstRefusal (rowsOf C x) ≡ 0 → (q : ℕ) → InRange (allowed C x) q
       → let r : Reading = nearest (residual C x) (seen C x) (ruleNamed C x) (allowed C x) in
       (namesFirst (r .rule) ≡ true → bitsValue (r .chunk1) ≡ turnedIn C 1 (wordAt C q) x)
       × (namesSecond (r .rule) ≡ true → bitsValue (r .chunk2) ≡ turnedIn C 3 (wordAt C q) x)

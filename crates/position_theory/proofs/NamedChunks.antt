@@ -24,12 +24,12 @@ use Rattle.position_theory.proofs.Separators.{of-every-rule}
 use Rattle.position_theory.proofs.RuleReads.{WordReads, word-reads}
 
 -- chunk c of a position's word holds c(p)
-abbrev pub Holds : Code → (position c p : ℕ) → Type 0
-Holds C position c p = (b : ℕ) → b < C .n → chunkOf C c (wordAt C position) b ≡ bit (codeword C p) b
+abbrev pub HoldsCodeword : Code → (position c p : ℕ) → Type 0
+HoldsCodeword C position c p = (b : ℕ) → b < C .n → chunkOf C c (wordAt C position) b ≡ bit (codeword C p) b
 
 -- a position of a range
-abbrev pub In : Range → (position : ℕ) → Type 0
-In range position = (range .low ≤ position) × (position ≤ range .high)
+abbrev pub InRange : Range → (position : ℕ) → Type 0
+InRange range position = (range .low ≤ position) × (position ≤ range .high)
 
 module _ (C : Code) (promise : ChunkPromise C) where
   -- m steps into block i: a chunk that the walk has not reached holds what w(i) holds there, one that it has passed what w(i + 1) does
@@ -47,24 +47,24 @@ module _ (C : Code) (promise : ChunkPromise C) where
         ∙ chunk-passed C (next-codeword C promise i inside) c m five h b l
 
     -- the two code chunks
-    both-ahead : m ≤ C .D → Holds C (start C i + m) 1 i × Holds C (start C i + m) 3 i
+    both-ahead : m ≤ C .D → HoldsCodeword C (start C i + m) 1 i × HoldsCodeword C (start C i + m) 3 i
     unfolding placesBefore chunkSize content
     both-ahead h = (ahead 1 (omega arith) (omega arith), ahead 3 (omega arith) (omega arith))
 
-    second-ahead : m ≤ 2 * C .D + changedWeight C i → Holds C (start C i + m) 3 i
+    second-ahead : m ≤ 2 * C .D + changedWeight C i → HoldsCodeword C (start C i + m) 3 i
     unfolding placesBefore chunkSize content
     second-ahead h = ahead 3 (omega arith) (omega arith)
 
-    first-passed : C .D + changedWeight C i ≤ m → Holds C (start C i + m) 1 (i + 1)
+    first-passed : C .D + changedWeight C i ≤ m → HoldsCodeword C (start C i + m) 1 (i + 1)
     unfolding placesBefore chunkSize content
     first-passed h = passed 1 (omega arith) (omega arith)
 
-    both-passed : 2 * C .D + 2 * changedWeight C i ≤ m → Holds C (start C i + m) 1 (i + 1) × Holds C (start C i + m) 3 (i + 1)
+    both-passed : 2 * C .D + 2 * changedWeight C i ≤ m → HoldsCodeword C (start C i + m) 1 (i + 1) × HoldsCodeword C (start C i + m) 3 (i + 1)
     unfolding placesBefore chunkSize content
     both-passed h = (passed 1 (omega arith) (omega arith), passed 3 (omega arith) (omega arith))
 
   -- by rule 1, in block p - 1
-  rule₁-holds : (p q : ℕ) → p ≤ lastCodeword C → (p ≡ 0 → ⊥) → In (range₁ C p) q → Holds C q 1 p
+  rule₁-holds : (p q : ℕ) → p ≤ lastCodeword C → (p ≡ 0 → ⊥) → InRange (range₁ C p) q → HoldsCodeword C q 1 p
   rule₁-holds p q h ne (low, high) =
       let before : (i : ℕ) × (1 + i ≡ p) = le-dest {n = 1} {m = p} (omega arith) in
       let i : ℕ = before .0 in
@@ -76,13 +76,13 @@ module _ (C : Code) (promise : ChunkPromise C) where
       rw (here, ← (steps .1)) (first-passed i (steps .0) (omega arith) (omega arith) (omega arith))
 
   -- by rule 2, in block p
-  rule₂-holds : (p q : ℕ) → p < lastCodeword C → In (range₂ C p) q → Holds C q 3 p
+  rule₂-holds : (p q : ℕ) → p < lastCodeword C → InRange (range₂ C p) q → HoldsCodeword C q 3 p
   rule₂-holds p q inside (low, high) =
       let steps : (m : ℕ) × (start C p + m ≡ q) = le-dest low in
       rw (← (steps .1)) (second-ahead p (steps .0) inside (omega arith) (omega arith))
 
   -- by rule 3, at the end of block p - 1, up to the start of block p; and after that start, where p is not the last number
-  up-to-start : (p q : ℕ) → p ≤ lastCodeword C → start C p ≤ q + C .D → q ≤ start C p → Holds C q 1 p × Holds C q 3 p
+  up-to-start : (p q : ℕ) → p ≤ lastCodeword C → start C p ≤ q + C .D → q ≤ start C p → HoldsCodeword C q 1 p × HoldsCodeword C q 3 p
   up-to-start p q h low high =
       ⊎-elim
       (λ (first : p ≡ 0).
@@ -100,29 +100,29 @@ module _ (C : Code) (promise : ChunkPromise C) where
       (eq-or-ne p 0)
 
   after-start : (p q : ℕ) → p ≤ lastCodeword C → start C p < q → q ≤ start C p + C .D → q ≤ lastPosition C
-      → Holds C q 1 p × Holds C q 3 p
+      → HoldsCodeword C q 1 p × HoldsCodeword C q 3 p
   unfolding lastPosition
   after-start p q h past high on-track =
       let not-last : p ≡ lastCodeword C → ⊥ = λ e. omega (arith, rw e at past) in
       let steps : (m : ℕ) × (start C p + m ≡ q) = le-dest (omega arith) in
       rw (← (steps .1)) (both-ahead p (steps .0) (omega arith) (omega arith) (omega arith))
 
-  rule₃-holds : (p q : ℕ) → p ≤ lastCodeword C → In (range₃ C p) q → Holds C q 1 p × Holds C q 3 p
+  rule₃-holds : (p q : ℕ) → p ≤ lastCodeword C → InRange (range₃ C p) q → HoldsCodeword C q 1 p × HoldsCodeword C q 3 p
   rule₃-holds p q h (low, high) =
       ⊎-elim (λ (past : start C p < q). after-start p q h past (omega arith) (omega arith))
       (λ (up-to : q ≤ start C p). up-to-start p q h (omega arith) up-to) (lt-or-le (start C p) q)
 
   -- at every position that a word allows
-  module _ (x : ℕ → ℕ) (none : firstRefusal (rowsOf C x) ≡ 0) (q : ℕ) (within : In (allowed C x) q) where
+  module _ (x : ℕ → ℕ) (none : firstRefusal (rowsOf C x) ≡ 0) (q : ℕ) (within : InRange (allowed C x) q) where
     abbrev NamedHold : (rule : ℕ) → Type 0
     NamedHold rule =
         let p : ℕ = numberBy (seen C x) rule in
-        (namesFirst rule ≡ true → Holds C q 1 p) × (namesSecond rule ≡ true → Holds C q 3 p)
+        (namesFirst rule ≡ true → HoldsCodeword C q 1 p) × (namesSecond rule ≡ true → HoldsCodeword C q 3 p)
 
     pub named-hold : NamedHold (ruleNamed C x)
     unfolding allowed ruleNamed twoEnds
     named-hold =
-        of-every-rule (λ rule. WordReads C x rule → In (rangeSeen (twoEnds C) (seen C x) rule) q → NamedHold rule)
+        of-every-rule (λ rule. WordReads C x rule → InRange (rangeSeen (twoEnds C) (seen C x) rule) q → NamedHold rule)
         (λ reads there. absurd (reads .some-rule refl))
         (λ reads there. (
           λ named. rule₁-holds _ q (reads .kind) (eqb-false _ 0 (or-false-left _ _ (reads .block))) there,
