@@ -12,16 +12,16 @@ use Rattle.bits.specs.Places.{weight}
 use Rattle.bits.proofs.Sums.{sum-zero, sum-one-place}
 use Rattle.bits.proofs.Binary.{weight-le}
 use Rattle.model.specs.Card.{Code}
-use Rattle.model.specs.Order.{lastCodeword, changedRow, changedWeight, blockLength, start, lastPosition}
+use Rattle.model.specs.Order.{lastCodeword, changedRow, changedWeight, blockLength, start, lastPosition, correctedCount}
 use Rattle.model.specs.Words.{wordBits}
 use Rattle.code_theory.specs.Promise.{Sound}
 use Rattle.code_theory.proofs.TrailingZeros.{trailing-zeros-ind}
 use Rattle.code_theory.proofs.Codewords.{changed-row, changed-row-below}
 use Rattle.code_theory.proofs.LeastDistance.{D-high}
 
--- how often row z has been added on the way to c(i)
-abbrev pub times : ℕ → ℕ → ℕ
-times z i = (i + 2 ^ z) / 2 ^ (z + 1)
+-- how often row z has been added on the way to c(i): its corrected count
+abbrev times : (z i : ℕ) → ℕ
+times z i = correctedCount i z
 
 times-half : (z i : ℕ) → times (suc z) i ≡ times z (i / 2)
 times-half z i =

@@ -9,7 +9,7 @@ use Rattle.model.specs.Refusals.{firstRefusal, unlessRefused}
 use Rattle.model.specs.Card.{highFirst, trackOf, rowOf, twosComplement, offsetOf, storedCheck, computedCheck, sumOfRows, leastWeight, codeOf}
 use Rattle.model.specs.Card.{withinLimits, rowTooWide, unusedRowSet, unusedByteSet, misplaced, offsetOutside, dependent, cardRefusal}
 use Rattle.model.specs.CardBytes.{bytesOf, rowBytes, sealed, cardOf}
-use Rattle.model.specs.Order.{gray, lastCodeword, codeword, changedRow, changedWeight, start, lastPosition}
+use Rattle.model.specs.Order.{gray, lastCodeword, codeword, changedRow, changedWeight, start, lastPosition, sumAfterRow, sumBeforeRow}
 use Rattle.model.specs.Words.{fiveChunks, word, blockOf, wordAt, wordBytes, millimetresOf}
 use Rattle.model.specs.Reading.{majority, chunkDistance, withinRadius, readFirst, chunkReading, unreadable, numberRead, seen}
 use Rattle.model.specs.Reading.{ruleOf, numberBy, twoEnds, rowsSeen, ruleNamed, rowsOf, allowed, residual, nearestIn, bitsNeeded, nearest}
@@ -30,7 +30,7 @@ unfolding sumBelow sumOver distance joinAt
     anyBelow firstFrom first leastAt greatest
     highFirst trackOf rowOf twosComplement offsetOf storedCheck computedCheck sumOfRows leastWeight codeOf
     firstRefusal unlessRefused withinLimits rowTooWide unusedRowSet unusedByteSet misplaced offsetOutside dependent cardRefusal
-    gray lastCodeword codeword changedRow changedWeight start lastPosition
+    gray lastCodeword codeword changedRow changedWeight start lastPosition sumAfterRow sumBeforeRow
     fiveChunks word blockOf wordAt wordBytes millimetresOf
     majority chunkDistance withinRadius readFirst chunkReading unreadable numberRead seen
     ruleOf numberBy twoEnds rowsSeen ruleNamed rowsOf allowed residual nearestIn bitsNeeded nearest

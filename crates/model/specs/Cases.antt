@@ -1,5 +1,5 @@
 -- Document 01, "Two cards to try": every case marked *, and with them the cards' figures and the refused cards and words that it
--- names; and the borders of document 02's P1 to P3. One table of questions and answers, whose numbers are signed, since a distance
+-- names; and the borders of document 02's P1 to P4. One table of questions and answers, whose numbers are signed, since a distance
 -- may be below zero. That the definitions answer so is one theorem, `starred-cases`. Assumes nothing.
 use mathlib.Core.List.{List, [], _∷_, _++_, map}
 use Prim.Native.Nat.{ℕ, zero, suc, _-_}
@@ -9,7 +9,7 @@ use Rattle.bits.specs.Sums.{sumBelow}
 use Rattle.bits.specs.Places.{bit, place, listOf, differingBits}
 use Rattle.model.specs.Card.{Code, rowOf, offsetOf, storedCheck, codeOf}
 use Rattle.model.specs.CardBytes.{cardEnding, cardOf}
-use Rattle.model.specs.Order.{codeword, lastPosition, start}
+use Rattle.model.specs.Order.{codeword, lastPosition, start, rowShare, sumAfterRow, sumBeforeRow}
 use Rattle.model.specs.Words.{separator₁, separator₂, separator₃, wordBytes, millimetresOf}
 use Rattle.model.specs.Answers.{cardAnswer, writeAnswer, lentAfterWrite, readAnswer, millimetresAnswer, makeAnswer, voteAnswer}
 use Rattle.model.specs.Statuses.{cardStatus, cardValues, writeStatus, writeValues, readStatus, readValues}
@@ -31,6 +31,10 @@ cardA = cardWith 3 2 0 (3 ∷ 6 ∷ [])
 
 unfoldable pub cardB : List ℕ
 cardB = cardWith 3 1 14 (7 ∷ [])
+
+-- rows of weights 4, 2, 2 and 1
+abbrev pub cardOf4Rows : List ℕ
+cardOf4Rows = cardWith 4 4 0 (0b1111 ∷ 0b1010 ∷ 0b1100 ∷ 0b1000 ∷ [])
 
 -- card B with these bytes from byte 100 on
 unfoldable pub cardBFrom100 : List ℕ → List ℕ
@@ -64,6 +68,9 @@ pub data Question : Type 0 where
   order : (card : List ℕ) (codewords : ℕ) → Question
   -- the starts of so many blocks, and the last position
   starts : (card : List ℕ) (blocks : ℕ) → Question
+  -- the shares of rows 0 to k - 1 in the start of a block; the sum for it before row 0, and after each row
+  rowShares : (card : List ℕ) (block : ℕ) → Question
+  rowSums : (card : List ℕ) (block : ℕ) → Question
   -- the answer to a write, and the bytes that the lent word is left with
   write : (card : List ℕ) (position : ℕ) (lent : List ℕ) → Question
   -- the answer to a read
@@ -101,6 +108,8 @@ answerTo (carriedOffset card) = offsetOf card ∷ []
 answerTo (checkCard card) = naturals (numbersOf cardStatus cardValues (cardAnswer card))
 answerTo (order card m) = naturals (codewordPlaces card m)
 answerTo (starts card m) = naturals (listOf m (start (codeOf card)) ++ (lastPosition (codeOf card) ∷ []))
+answerTo (rowShares card i) = naturals (listOf (codeOf card .k) (rowShare (codeOf card) i))
+answerTo (rowSums card i) = naturals (sumBeforeRow (codeOf card) i 0 ∷ listOf (codeOf card .k) (sumAfterRow (codeOf card) i))
 answerTo (write card position lent) =
     naturals (numbersOf writeStatus writeValues (writeAnswer card position lent) ++ lentAfterWrite card position lent)
 answerTo (read card received) = naturals (numbersOf readStatus readValues (readAnswer card received))
@@ -222,4 +231,17 @@ starredCases =
     -- n 8, row ff: D 8, t 3, five bytes, one a chunk; 0 by rule 3 with t bits turned in chunk 1 and two in chunk 2; one more is refusal 10
     ∷ case (read (cardWith 8 1 0 (0xff ∷ [])) (0 ∷ 0b111 ∷ 0 ∷ 0b11 ∷ 0 ∷ [])) (0 ∷ 0 ∷ 5 ∷ 3 ∷ 3 ∷ 2 ∷ [])
     ∷ case (read (cardWith 8 1 0 (0xff ∷ [])) (0 ∷ 0b1111 ∷ 0 ∷ 0b11 ∷ 0 ∷ [])) (10 ∷ [])
+    -- document 02, P4, with 3D × i first: card B's one row, of weight 3, is added at codeword 1
+    ∷ case (rowSums cardB 0) (0 ∷ 0 ∷ [])
+    ∷ case (rowSums cardB 1) (9 ∷ 15 ∷ [])
+    -- card A's two rows, of weight 2, are first added at codewords 1 and 2, and row 0 again at 3
+    ∷ case (rowSums cardA 0) (0 ∷ 0 ∷ 0 ∷ [])
+    ∷ case (rowSums cardA 1) (6 ∷ 10 ∷ 10 ∷ [])
+    ∷ case (rowSums cardA 2) (12 ∷ 16 ∷ 20 ∷ [])
+    ∷ case (rowSums cardA 3) (18 ∷ 26 ∷ 30 ∷ [])
+    -- four rows and D 1: just before row 3 is added, where it is, and at the last codeword
+    ∷ case (rowShares cardOf4Rows 7) (32 ∷ 8 ∷ 4 ∷ 0 ∷ [])
+    ∷ case (rowShares cardOf4Rows 8) (32 ∷ 8 ∷ 4 ∷ 2 ∷ [])
+    ∷ case (rowShares cardOf4Rows 15) (64 ∷ 16 ∷ 8 ∷ 2 ∷ [])
+    ∷ case (rowSums cardOf4Rows 15) (45 ∷ 109 ∷ 125 ∷ 133 ∷ 135 ∷ [])
     ∷ []

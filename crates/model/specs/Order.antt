@@ -1,6 +1,6 @@
--- Document 01, "Order and words", first half: the Gray order, the codewords c(i), and the starts r(i) of the blocks.
--- Assumes nothing.
-use Prim.Native.Nat.{ℕ, _+_, _-_, _*_, _/_, _^_}
+-- Document 01, "Order and words", first half: the Gray order, the codewords c(i), and the starts r(i) of the blocks; and the sums
+-- by which document 02's P4 comes to a start row by row. Assumes nothing.
+use Prim.Native.Nat.{ℕ, zero, suc, _+_, _-_, _*_, _/_, _^_}
 use lib.Bits.{bitXor}
 use lib.Dec.{eqb}
 use Rattle.bits.specs.Sums.{sumBelow, unlike}
@@ -40,3 +40,26 @@ start C i = 3 * C .D * i + 2 * sumBelow (λ z. weight (C .n) (C .row z) * ((i + 
 -- the last position: r(2^k - 1)
 unfoldable pub lastPosition : Code → ℕ
 lastPosition C = start C (lastCodeword C)
+
+-- ---- document 02, P4: r(i) summed in the order of document 003's Algorithm 1, rows 0 to k - 1
+
+-- the corrected count of row z, which document 01 has in r(i): (i + 2^z) / 2^(z+1), rounded down
+abbrev pub correctedCount : (i z : ℕ) → ℕ
+correctedCount i z = (i + 2 ^ z) / 2 ^ (z + 1)
+
+-- the weight of row z
+abbrev pub rowWeight : Code → (z : ℕ) → ℕ
+rowWeight C z = weight (C .n) (C .row z)
+
+-- the share of row z: 2 × its weight × its corrected count
+abbrev pub rowShare : Code → (i z : ℕ) → ℕ
+rowShare C i z = 2 * rowWeight C z * correctedCount i z
+
+-- the sum after row z: 3D × i and the shares of rows 0 to z
+unfoldable pub sumAfterRow : Code → (i z : ℕ) → ℕ
+sumAfterRow C i z = 3 * C .D * i + sumBelow (rowShare C i) (z + 1)
+
+-- the sum to which row z's share is added: 3D × i before row 0, from there on the sum after the row before
+unfoldable pub sumBeforeRow : Code → (i z : ℕ) → ℕ
+sumBeforeRow C i zero = 3 * C .D * i
+sumBeforeRow C i (suc z) = sumAfterRow C i z

@@ -1,51 +1,79 @@
--- The start of a block as a sum that goes row by row: no partial sum exceeds the whole, which is bounded, so each of them fits.
--- Assumes nothing.
-use mathlib.Core.Path.{_≡_, refl, sym}
-use Prim.Native.Nat.{ℕ, _+_, _-_, _*_, _/_, _^_, _≤_, _<_}
-use native.Mathlib.Nat.{add-mul-div-right, div-eq-of-lt}
+-- The start of a block as a sum that goes row by row. Each row's share takes the sum from before the row to after it, and after the
+-- last row it is the start; no sum on the way exceeds that, which is bounded, so each of them fits. And what document 01 corrects in
+-- the count of document 003's Algorithm 1. Assumes nothing.
+use mathlib.Core.Logic.{⊎-elim}
+use mathlib.Core.Path.{_≡_, refl, sym, ap}
+use Prim.Native.Nat.{ℕ, zero, suc, _+_, _-_, _*_, _/_, _^_, _≤_, _<_}
+use native.Mathlib.Nat.{add-mul-div-right, div-eq-of-lt, div-le-self}
 use native.Mathlib.Numerals.{add-one}
 use native.Mathlib.Omega.{arith}
 use lib.Pow.{pow-pos}
 use Rattle.bits.specs.Sums.{sumBelow}
 use Rattle.bits.specs.Places.{weight}
+use Rattle.bits.proofs.Numbers.{lt-or-le}
 use Rattle.bits.proofs.Sums.{sum-longer, sum-more}
 use Rattle.model.specs.Card.{Code}
-use Rattle.model.specs.Order.{lastCodeword, start}
+use Rattle.model.specs.Order.{lastCodeword, start, correctedCount, rowShare, sumAfterRow, sumBeforeRow}
 use Rattle.code_theory.specs.Promise.{Sound}
-use Rattle.code_theory.proofs.Starts.{times, start-bound, last-codeword-bound}
+use Rattle.code_theory.proofs.Starts.{start-bound, last-codeword-bound}
 
--- row z is added for the first time at codeword 2^z, and again each 2^(z+1) codewords
+-- how often Algorithm 1 counts row z: max(i - 2^z, 0) / 2^(z+1), rounded down (a difference of natural numbers is never below 0)
+abbrev pub algorithm1Count : (i z : ℕ) → ℕ
+algorithm1Count i z = (i - 2 ^ z) / 2 ^ (z + 1)
+
+-- the row is added for the first time at codeword 2^z; from there on Algorithm 1 counts one too few
 module _ (i z : ℕ) where
-  pub not-added : i < 2 ^ z → 0 ≡ times z i
-  not-added before = rw (add-one z) (sym (div-eq-of-lt (omega arith)))
+  pub not-yet-added : i < 2 ^ z → 0 ≡ correctedCount i z
+  not-yet-added before = rw (add-one z) (sym (div-eq-of-lt (omega arith)))
 
-  pub added-again : 2 ^ z ≤ i → (i - 2 ^ z) / 2 ^ (z + 1) + 1 ≡ times z i
-  added-again since =
+  pub one-too-few : 2 ^ z ≤ i → algorithm1Count i z + 1 ≡ correctedCount i z
+  one-too-few since =
       let once-more : i + 2 ^ z ≡ i - 2 ^ z + 1 * 2 ^ (z + 1) = rw (add-one z) (omega arith) in
       rw once-more (sym (add-mul-div-right (i - 2 ^ z) 1 (pow-pos (z + 1))))
 
--- what row z adds to the start of block i, apart from the factor 2
-abbrev pub rowPart : Code → ℕ → ℕ → ℕ
-rowPart C i z = weight (C .n) (C .row z) * times z i
-
--- the start of block i as far as the rows below z go
-unfoldable pub startUpTo : Code → ℕ → ℕ → ℕ
-startUpTo C i z = 3 * C .D * i + 2 * sumBelow (rowPart C i) z
+  pub count-at-most : correctedCount i z ≤ i
+  count-at-most = ⊎-elim (λ before. omega (arith, not-yet-added before)) after (lt-or-le i (2 ^ z))
+    where
+      after : 2 ^ z ≤ i → correctedCount i z ≤ i
+      after since = omega (arith, one-too-few since, div-le-self (i - 2 ^ z) (2 ^ (z + 1)), pow-pos z)
 
 module _ (C : Code) (i : ℕ) where
-  pub up-to-none : startUpTo C i 0 ≡ 3 * C .D * i
-  unfolding startUpTo sumBelow
-  up-to-none = omega arith
+  before-sum : (z : ℕ) → sumBeforeRow C i z ≡ 3 * C .D * i + sumBelow (rowShare C i) z
+  unfolding sumBeforeRow sumAfterRow sumBelow
+  before-sum zero = omega arith
+  before-sum (suc z) = ap (λ (rows : ℕ). 3 * C .D * i + sumBelow (rowShare C i) rows) (add-one z)
 
-  pub up-to-more : (z : ℕ) → startUpTo C i (z + 1) ≡ startUpTo C i z + 2 * rowPart C i z
-  unfolding startUpTo
-  up-to-more z = omega (arith, sum-more (rowPart C i) z)
+  pub before-any-row : sumBeforeRow C i 0 ≡ 3 * C .D * i
+  unfolding sumBeforeRow
+  before-any-row = refl
 
-  pub up-to-all : startUpTo C i (C .k) ≡ start C i
-  unfolding startUpTo start
-  up-to-all = refl
+  -- the sum after a row is the one that the next row's share is added to
+  pub next-row : (z : ℕ) → sumBeforeRow C i (z + 1) ≡ sumAfterRow C i z
+  unfolding sumBeforeRow
+  next-row z = rw (add-one z) refl
 
-  pub up-to-bound : Sound C → i ≤ lastCodeword C → (z : ℕ) → z ≤ C .k → startUpTo C i z ≤ 1310400
-  unfolding startUpTo start
-  up-to-bound S h z l =
-      omega (arith, start-bound C S i h, last-codeword-bound C S, sum-longer (rowPart C i) {a = z} {d = C .k} l)
+  pub share-added : (z : ℕ) → sumAfterRow C i z ≡ sumBeforeRow C i z + rowShare C i z
+  unfolding sumAfterRow
+  share-added z = omega (arith, before-sum z, sum-more (rowShare C i) z)
+
+  -- twice a sum of products is the sum of their doubles
+  doubled : (d : ℕ) → 2 * sumBelow (λ z. weight (C .n) (C .row z) * correctedCount i z) d ≡ sumBelow (rowShare C i) d
+  unfolding sumBelow
+  doubled zero = refl
+  doubled (suc d) = omega (arith, doubled d)
+
+  pub whole-sum : sumBeforeRow C i (C .k) ≡ start C i
+  unfolding start
+  whole-sum = omega (arith, before-sum (C .k), doubled (C .k))
+
+  pub sum-bound : Sound C → i ≤ lastCodeword C → (z : ℕ) → z ≤ C .k → sumBeforeRow C i z ≤ 1310400
+  sum-bound S h z l =
+      omega (
+        arith,
+        before-sum z,
+        before-sum (C .k),
+        whole-sum,
+        start-bound C S i h,
+        last-codeword-bound C S,
+        sum-longer (rowShare C i) {a = z} {d = C .k} l,
+      )

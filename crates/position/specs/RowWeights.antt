@@ -3,8 +3,8 @@ use mathlib.Core.Path.{_≡_}
 use mathlib.Core.List.{List}
 use Prim.Native.Nat.{ℕ, _<_}
 use lib.ListN.{getD}
-use Rattle.bits.specs.Places.{weight}
 use Rattle.model.specs.Card.{Code}
+use Rattle.model.specs.Order.{rowWeight}
 
 abbrev pub RowWeights : Code → (weights : List ℕ) → Type 0
-RowWeights C weights = (z : ℕ) → z < C .k → getD weights z 0 ≡ weight (C .n) (C .row z)
+RowWeights C weights = (z : ℕ) → z < C .k → getD weights z 0 ≡ rowWeight C z

@@ -1,8 +1,9 @@
 // The blocks of a track: where each one starts, and the block of a position.
 ghost use mathlib.Core.Path.{_≡_};
-ghost use Prim.Native.Nat.{_+_, _/_, _^_, _≤_, _<_};
+ghost use Prim.Native.Nat.{_≤_, _<_};
+ghost use Rattle.model.specs.Card.{Code};
 ghost use Rattle.model.specs.Decoded.{meaning};
-ghost use Rattle.model.specs.Order.{lastCodeword, start, lastPosition};
+ghost use Rattle.model.specs.Order.{lastCodeword, start, lastPosition, rowWeight, correctedCount, sumAfterRow, sumBeforeRow};
 ghost use Rattle.model.specs.Words.{blockOf};
 ghost use Rattle.code_theory.specs.Promise.{Sound};
 ghost use Rattle.position.specs.RowWeights.{RowWeights};
@@ -16,18 +17,6 @@ pub fn last_codeword(code: DecodedCode) -> u32
     ensures { λ r. ⌜ r ≡ lastCodeword (meaning code) ⌝ }
 {
     powers::two_to(code.k) - 1
-}
-
-// How often row z has been added on the way from codeword 0 to codeword i: at codeword 2^z, and again each 2^(z+1) codewords.
-fn times_added(i: u32, z: u32) -> u32
-    requires { ⌜ z < 12 ⌝ }
-    ensures { λ r. ⌜ r ≡ (i + 2 ^ z) / 2 ^ (z + 1) ⌝ }
-{
-    let first = powers::two_to(z);
-    if i < first {
-        return 0;
-    }
-    ((i - first) >> (z + 1)) + 1
 }
 
 // The weights of the rows.
@@ -45,18 +34,46 @@ fn row_weights(code: DecodedCode) -> [u32; 12]
     weights
 }
 
-// The start of block i, from the weights of the rows. The rows are added in order, from row 0 on.
+// The corrected count of row z: how often the row is added on the way from codeword 0 to codeword i, at codeword 2^z and again each
+// 2^(z+1) codewords. Algorithm 1 counts max(i - 2^z, 0) / 2^(z+1), rounded down; document 01 corrects that: one more where i is at
+// least 2^z.
+fn corrected_count(i: u32, z: u32) -> u32
+    requires { ⌜ z < 12 ⌝ }
+    ensures { λ r. ⌜ r ≡ correctedCount i z ⌝ }
+{
+    let first = powers::two_to(z);
+    if i < first {
+        return 0;
+    }
+    ((i - first) >> (z + 1)) + 1
+}
+
+// The sum for the start of block i after row z, from the sum before it: the row's share is added, 2 × its weight × its corrected
+// count. It takes the row's weight and no code, so the contract speaks of every code in which row z has that weight.
+fn sum_after_row(weight: u32, i: u32, z: u32, sum: u32) -> u32
+    requires { ⌜ (weight ≤ 64) × (i ≤ 4095) × (z < 12) × (sum ≤ 1310400) ⌝ }
+    ensures { λ r. ⌜ ((C : Code) → weight ≡ rowWeight C z → sum ≡ sumBeforeRow C i z → r ≡ sumAfterRow C i z) ⌝ }
+{
+    sum + 2 * weight * corrected_count(i, z)
+}
+
+// The start of block i, from the weights of the rows, as Algorithm 1 of document 003 (compute-r) sums it: rows 0 to k - 1, each row's
+// share added as it comes. Its lines stand in quotes beside the code, each with what document 01 corrects.
 fn start_by(code: DecodedCode, weights: [u32; 12], i: u32) -> u32
     requires { ⌜ Sound (meaning code) × (i ≤ lastCodeword (meaning code)) × RowWeights (meaning code) weights ⌝ }
     ensures { λ r. ⌜ r ≡ start (meaning code) i ⌝ }
 {
-    let mut begin = 3 * code.distance * i;
-    let mut z: u32 = 0;
-    while z < code.k {
-        begin += 2 * (weights[z as usize] * times_added(i, z));
-        z += 1;
+    let rows = code.k;
+    let distance = code.distance;
+    // "r = 0". Corrected: 3D × i, since 3D counts once for each of the i blocks before this one, and not once a row.
+    let mut sum = 3 * distance * i;
+    // "for z in {0, ..., k - 1} do"
+    for z in 0..rows {
+        // "r = r + 2 floor(max(i - 2^z, 0) / 2^(z+1)) ||a_z|| + 3D". Corrected: the count, by `corrected_count`; and no 3D.
+        sum = sum_after_row(weights[z as usize], i, z, sum);
     }
-    begin
+    // "Return: r"
+    sum
 }
 
 // The start of block i.

@@ -1,5 +1,5 @@
 //! A second reader of robust Gray position words: cards, words, positions and readings, written from the words of document 01 and
-//! of requests P1 to P3 by plain search, to be compared with the library.
+//! of requests P1 to P4 by plain search, to be compared with the library.
 //!
 //! Words are single bits, made by walking from position 0 and turning one bit a step; block starts add up the places in which one
 //! whole word and the next differ; the least distance is found by summing every set of rows, a chunk's codeword by trying all, the

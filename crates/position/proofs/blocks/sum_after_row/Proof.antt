@@ -1,0 +1,30 @@
+-- `position::blocks::sum_after_row` meets its contract: what it adds is the row's share. A count is at most i, so the sum fits.
+-- Assumes nothing.
+use Prim.Native.Nat.{ℕ, _+_, _*_, _≤_}
+use mathlib.Core.Path.{_≡_, ap₂}
+use borrow.Author.Needs.{needs}
+use native.Mathlib.Omega.{arith}
+use native.Mathlib.Nat.{mul-le-mul}
+use Rattle.position.proofs.StartSum.{share-added, count-at-most}
+use Rattle.position.proofs.blocks.sum_after_row.Statement.{statement}
+use Rattle.position.proofs.blocks.sum_after_row.Tie as tie
+
+share-fits : (c : tie.After-corrected-count) → 2 * c .before .args .weight * c .corrected-count .result ≤ 128 * 4095
+share-fits c =
+    let args = c .before .args in
+    mul-le-mul {n₂ = 128} {m₂ = 4095} (omega arith) (omega (arith, c .corrected-count .ensures, count-at-most (args .i) (args .z)))
+
+returns : tie.Need-returns
+returns c C weighs before =
+    let share = ap₂ (λ (weight count : ℕ). 2 * weight * count) weighs (c .corrected-count .ensures) in
+    omega (arith, before, share, share-added C (c .before .args .i) (c .before .args .z))
+
+pub sum-after-row-spec : {M : Type 1} → statement M
+sum-after-row-spec =
+    tie.close
+    (tie.spec
+    (λ c. search needs)
+    (λ c κs. search needs)
+    (λ c. omega (arith, share-fits c))
+    (λ c. omega (arith, share-fits c))
+    returns)
