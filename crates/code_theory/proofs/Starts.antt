@@ -19,7 +19,7 @@ use Rattle.code_theory.proofs.TrailingZeros.{trailing-zeros-ind}
 use Rattle.code_theory.proofs.Codewords.{changed-row, changed-row-below}
 use Rattle.code_theory.proofs.LeastDistance.{D-high}
 
--- how often row z has been added on the way to c(i): its corrected count
+-- how often row z has been added on the way to c(i), its corrected count, with the row first
 abbrev times : (z i : ℕ) → ℕ
 times z i = correctedCount i z
 

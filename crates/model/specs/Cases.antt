@@ -32,9 +32,9 @@ cardA = cardWith 3 2 0 (3 ∷ 6 ∷ [])
 unfoldable pub cardB : List ℕ
 cardB = cardWith 3 1 14 (7 ∷ [])
 
--- rows of weights 4, 2, 2 and 1
-abbrev pub cardOf4Rows : List ℕ
-cardOf4Rows = cardWith 4 4 0 (0b1111 ∷ 0b1010 ∷ 0b1100 ∷ 0b1000 ∷ [])
+-- four rows, of weights 4, 3, 2 and 1
+abbrev pub fourRowCard : List ℕ
+fourRowCard = cardWith 4 4 0 (0b1111 ∷ 0b0111 ∷ 0b0011 ∷ 0b0001 ∷ [])
 
 -- card B with these bytes from byte 100 on
 unfoldable pub cardBFrom100 : List ℕ → List ℕ
@@ -68,8 +68,9 @@ pub data Question : Type 0 where
   order : (card : List ℕ) (codewords : ℕ) → Question
   -- the starts of so many blocks, and the last position
   starts : (card : List ℕ) (blocks : ℕ) → Question
-  -- the shares of rows 0 to k - 1 in the start of a block; the sum for it before row 0, and after each row
+  -- the shares of rows 0 to k - 1 in the start of a block
   rowShares : (card : List ℕ) (block : ℕ) → Question
+  -- the sum for the start of a block, before row 0 and after each row
   rowSums : (card : List ℕ) (block : ℕ) → Question
   -- the answer to a write, and the bytes that the lent word is left with
   write : (card : List ℕ) (position : ℕ) (lent : List ℕ) → Question
@@ -240,8 +241,8 @@ starredCases =
     ∷ case (rowSums cardA 2) (12 ∷ 16 ∷ 20 ∷ [])
     ∷ case (rowSums cardA 3) (18 ∷ 26 ∷ 30 ∷ [])
     -- four rows and D 1: just before row 3 is added, where it is, and at the last codeword
-    ∷ case (rowShares cardOf4Rows 7) (32 ∷ 8 ∷ 4 ∷ 0 ∷ [])
-    ∷ case (rowShares cardOf4Rows 8) (32 ∷ 8 ∷ 4 ∷ 2 ∷ [])
-    ∷ case (rowShares cardOf4Rows 15) (64 ∷ 16 ∷ 8 ∷ 2 ∷ [])
-    ∷ case (rowSums cardOf4Rows 15) (45 ∷ 109 ∷ 125 ∷ 133 ∷ 135 ∷ [])
+    ∷ case (rowShares fourRowCard 7) (32 ∷ 12 ∷ 4 ∷ 0 ∷ [])
+    ∷ case (rowShares fourRowCard 8) (32 ∷ 12 ∷ 4 ∷ 2 ∷ [])
+    ∷ case (rowShares fourRowCard 15) (64 ∷ 24 ∷ 8 ∷ 2 ∷ [])
+    ∷ case (rowSums fourRowCard 15) (45 ∷ 109 ∷ 133 ∷ 141 ∷ 143 ∷ [])
     ∷ []

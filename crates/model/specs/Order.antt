@@ -51,15 +51,20 @@ correctedCount i z = (i + 2 ^ z) / 2 ^ (z + 1)
 abbrev pub rowWeight : Code → (z : ℕ) → ℕ
 rowWeight C z = weight (C .n) (C .row z)
 
--- the share of row z: 2 × its weight × its corrected count
-abbrev pub rowShare : Code → (i z : ℕ) → ℕ
-rowShare C i z = 2 * rowWeight C z * correctedCount i z
+-- the share of a row z of this weight: 2 × its weight × its corrected count
+abbrev pub shareOf : (weight i z : ℕ) → ℕ
+shareOf weight i z = 2 * weight * correctedCount i z
 
--- the sum after row z: 3D × i and the shares of rows 0 to z
+-- the share of row z of a code
+abbrev pub rowShare : Code → (i z : ℕ) → ℕ
+rowShare C i z = shareOf (rowWeight C z) i z
+
+-- the sum after row z, for z below k: 3D × i and the shares of rows 0 to z
 unfoldable pub sumAfterRow : Code → (i z : ℕ) → ℕ
 sumAfterRow C i z = 3 * C .D * i + sumBelow (rowShare C i) (z + 1)
 
 -- the sum to which row z's share is added: 3D × i before row 0, from there on the sum after the row before
+-- (before row k, which is no row, it is the sum after the last one)
 unfoldable pub sumBeforeRow : Code → (i z : ℕ) → ℕ
 sumBeforeRow C i zero = 3 * C .D * i
 sumBeforeRow C i (suc z) = sumAfterRow C i z

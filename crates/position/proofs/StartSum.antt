@@ -2,18 +2,17 @@
 -- last row it is the start; no sum on the way exceeds that, which is bounded, so each of them fits. And what document 01 corrects in
 -- the count of document 003's Algorithm 1. Assumes nothing.
 use mathlib.Core.Logic.{⊎-elim}
-use mathlib.Core.Path.{_≡_, refl, sym, ap}
+use mathlib.Core.Path.{_≡_, refl, sym, ap, _∙_}
 use Prim.Native.Nat.{ℕ, zero, suc, _+_, _-_, _*_, _/_, _^_, _≤_, _<_}
 use native.Mathlib.Nat.{add-mul-div-right, div-eq-of-lt, div-le-self}
 use native.Mathlib.Numerals.{add-one}
 use native.Mathlib.Omega.{arith}
 use lib.Pow.{pow-pos}
 use Rattle.bits.specs.Sums.{sumBelow}
-use Rattle.bits.specs.Places.{weight}
 use Rattle.bits.proofs.Numbers.{lt-or-le}
 use Rattle.bits.proofs.Sums.{sum-longer, sum-more}
 use Rattle.model.specs.Card.{Code}
-use Rattle.model.specs.Order.{lastCodeword, start, correctedCount, rowShare, sumAfterRow, sumBeforeRow}
+use Rattle.model.specs.Order.{lastCodeword, start, correctedCount, rowWeight, rowShare, sumAfterRow, sumBeforeRow}
 use Rattle.code_theory.specs.Promise.{Sound}
 use Rattle.code_theory.proofs.Starts.{start-bound, last-codeword-bound}
 
@@ -31,6 +30,7 @@ module _ (i z : ℕ) where
       let once-more : i + 2 ^ z ≡ i - 2 ^ z + 1 * 2 ^ (z + 1) = rw (add-one z) (omega arith) in
       rw once-more (sym (add-mul-div-right (i - 2 ^ z) 1 (pow-pos (z + 1))))
 
+  -- the first i codewords after codeword 0 add i rows in all, and so row z at most i times
   pub count-at-most : correctedCount i z ≤ i
   count-at-most = ⊎-elim (λ before. omega (arith, not-yet-added before)) after (lt-or-le i (2 ^ z))
     where
@@ -38,11 +38,6 @@ module _ (i z : ℕ) where
       after since = omega (arith, one-too-few since, div-le-self (i - 2 ^ z) (2 ^ (z + 1)), pow-pos z)
 
 module _ (C : Code) (i : ℕ) where
-  before-sum : (z : ℕ) → sumBeforeRow C i z ≡ 3 * C .D * i + sumBelow (rowShare C i) z
-  unfolding sumBeforeRow sumAfterRow sumBelow
-  before-sum zero = omega arith
-  before-sum (suc z) = ap (λ (rows : ℕ). 3 * C .D * i + sumBelow (rowShare C i) rows) (add-one z)
-
   pub before-any-row : sumBeforeRow C i 0 ≡ 3 * C .D * i
   unfolding sumBeforeRow
   before-any-row = refl
@@ -52,27 +47,39 @@ module _ (C : Code) (i : ℕ) where
   unfolding sumBeforeRow
   next-row z = rw (add-one z) refl
 
+  -- the sum before row z: 3D × i and the shares of the rows below z
+  before-sum : (z : ℕ) → sumBeforeRow C i z ≡ 3 * C .D * i + sumBelow (rowShare C i) z
+  unfolding sumBeforeRow sumAfterRow sumBelow
+  before-sum zero = omega arith
+  before-sum (suc z) = ap (λ (rows : ℕ). 3 * C .D * i + sumBelow (rowShare C i) rows) (add-one z)
+
+  -- a row's share takes the sum before the row to the sum after it
   pub share-added : (z : ℕ) → sumAfterRow C i z ≡ sumBeforeRow C i z + rowShare C i z
   unfolding sumAfterRow
   share-added z = omega (arith, before-sum z, sum-more (rowShare C i) z)
 
   -- twice a sum of products is the sum of their doubles
-  doubled : (d : ℕ) → 2 * sumBelow (λ z. weight (C .n) (C .row z) * correctedCount i z) d ≡ sumBelow (rowShare C i) d
+  doubled : (d : ℕ) → 2 * sumBelow (λ z. rowWeight C z * correctedCount i z) d ≡ sumBelow (rowShare C i) d
   unfolding sumBelow
   doubled zero = refl
   doubled (suc d) = omega (arith, doubled d)
 
-  pub whole-sum : sumBeforeRow C i (C .k) ≡ start C i
+  all-rows : sumBeforeRow C i (C .k) ≡ start C i
   unfolding start
-  whole-sum = omega (arith, before-sum (C .k), doubled (C .k))
+  all-rows = omega (arith, before-sum (C .k), doubled (C .k))
 
+  -- after the last row the sum is r(i)
+  pub whole-sum : (z : ℕ) → z + 1 ≡ C .k → sumAfterRow C i z ≡ start C i
+  whole-sum z last = sym (next-row z) ∙ ap (sumBeforeRow C i) last ∙ all-rows
+
+  -- no sum on the way exceeds the start, and no start 4,095 blocks of 320 steps
   pub sum-bound : Sound C → i ≤ lastCodeword C → (z : ℕ) → z ≤ C .k → sumBeforeRow C i z ≤ 1310400
   sum-bound S h z l =
       omega (
         arith,
         before-sum z,
         before-sum (C .k),
-        whole-sum,
+        all-rows,
         start-bound C S i h,
         last-codeword-bound C S,
         sum-longer (rowShare C i) {a = z} {d = C .k} l,

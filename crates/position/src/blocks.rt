@@ -1,9 +1,9 @@
 // The blocks of a track: where each one starts, and the block of a position.
 ghost use mathlib.Core.Path.{_≡_};
-ghost use Prim.Native.Nat.{_≤_, _<_};
+ghost use Prim.Native.Nat.{_+_, _≤_, _<_};
 ghost use Rattle.model.specs.Card.{Code};
 ghost use Rattle.model.specs.Decoded.{meaning};
-ghost use Rattle.model.specs.Order.{lastCodeword, start, lastPosition, rowWeight, correctedCount, sumAfterRow, sumBeforeRow};
+ghost use Rattle.model.specs.Order.{lastCodeword, start, lastPosition, correctedCount, rowWeight, shareOf, sumAfterRow, sumBeforeRow};
 ghost use Rattle.model.specs.Words.{blockOf};
 ghost use Rattle.code_theory.specs.Promise.{Sound};
 ghost use Rattle.position.specs.RowWeights.{RowWeights};
@@ -35,8 +35,8 @@ fn row_weights(code: DecodedCode) -> [u32; 12]
 }
 
 // The corrected count of row z: how often the row is added on the way from codeword 0 to codeword i, at codeword 2^z and again each
-// 2^(z+1) codewords. Algorithm 1 counts max(i - 2^z, 0) / 2^(z+1), rounded down; document 01 corrects that: one more where i is at
-// least 2^z.
+// 2^(z+1) codewords. Document 003's Algorithm 1 counts max(i - 2^z, 0) / 2^(z+1), rounded down; document 01 corrects that to
+// (i + 2^z) / 2^(z+1), rounded down, which is one more where i is at least 2^z.
 fn corrected_count(i: u32, z: u32) -> u32
     requires { ⌜ z < 12 ⌝ }
     ensures { λ r. ⌜ r ≡ correctedCount i z ⌝ }
@@ -49,26 +49,29 @@ fn corrected_count(i: u32, z: u32) -> u32
 }
 
 // The sum for the start of block i after row z, from the sum before it: the row's share is added, 2 × its weight × its corrected
-// count. It takes the row's weight and no code, so the contract speaks of every code in which row z has that weight.
+// count. It stands for the line in the loop of Algorithm 1, less its 3D. It takes the row's weight and no code, so the contract
+// speaks of every code in which row z has that weight. The limits are a sound card's: places, codewords, rows, last position.
 fn sum_after_row(weight: u32, i: u32, z: u32, sum: u32) -> u32
     requires { ⌜ (weight ≤ 64) × (i ≤ 4095) × (z < 12) × (sum ≤ 1310400) ⌝ }
-    ensures { λ r. ⌜ ((C : Code) → weight ≡ rowWeight C z → sum ≡ sumBeforeRow C i z → r ≡ sumAfterRow C i z) ⌝ }
+    ensures added { λ r. ⌜ r ≡ sum + shareOf weight i z ⌝ }
+    ensures after_row { λ r. ⌜ ((C : Code) → weight ≡ rowWeight C z → sum ≡ sumBeforeRow C i z → r ≡ sumAfterRow C i z) ⌝ }
 {
     sum + 2 * weight * corrected_count(i, z)
 }
 
 // The start of block i, from the weights of the rows, as Algorithm 1 of document 003 (compute-r) sums it: rows 0 to k - 1, each row's
-// share added as it comes. Its lines stand in quotes beside the code, each with what document 01 corrects.
+// share added as it comes. Its lines stand in quotes beside the code, with what document 01 corrects in them (r is its sum for block
+// i, ||a_z|| the weight of row z).
 fn start_by(code: DecodedCode, weights: [u32; 12], i: u32) -> u32
     requires { ⌜ Sound (meaning code) × (i ≤ lastCodeword (meaning code)) × RowWeights (meaning code) weights ⌝ }
     ensures { λ r. ⌜ r ≡ start (meaning code) i ⌝ }
 {
-    let rows = code.k;
+    let k = code.k;
     let distance = code.distance;
     // "r = 0". Corrected: 3D × i, since 3D counts once for each of the i blocks before this one, and not once a row.
     let mut sum = 3 * distance * i;
     // "for z in {0, ..., k - 1} do"
-    for z in 0..rows {
+    for z in 0..k {
         // "r = r + 2 floor(max(i - 2^z, 0) / 2^(z+1)) ||a_z|| + 3D". Corrected: the count, by `corrected_count`; and no 3D.
         sum = sum_after_row(weights[z as usize], i, z, sum);
     }

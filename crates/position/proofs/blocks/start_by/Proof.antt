@@ -1,8 +1,9 @@
 -- `position::blocks::start_by` meets its contract. The loop keeps that `sum` is the sum before row `z`: 3D × i at first, then what
--- the row before left, and the start when all rows are added. `code` is not at hand in the loop, so that is said of every code with
--- these figures. No sum on the way exceeds the start, which is bounded. The measure is the rows that are left. Assumes nothing.
-use Prim.Native.Nat.{_-_, _≤_}
-use mathlib.Core.Path.{_≡_, refl, sym, _∙_}
+-- the row before left, and after the last row the start. An invariant names only what the loop keeps, which `code` is not, so this one
+-- speaks of every code with this k, this D and these weights. No sum on the way exceeds the start, which is bounded. The measure is
+-- the rows that are left. Assumes nothing.
+use Prim.Native.Nat.{_+_, _-_, _≤_}
+use mathlib.Core.Path.{_≡_, refl, sym, ap, _∙_}
 use borrow.Author.Needs.{needs}
 use native.Mathlib.Omega.{arith}
 use Rattle.bits.proofs.Binary.{weight-le}
@@ -17,16 +18,16 @@ use Rattle.position.proofs.blocks.start_by.Statement.{statement}
 use Rattle.position.proofs.blocks.start_by.Tie as tie
 
 abbrev Inv-loop : tie.InvT-loop
-Inv-loop i weights rows distance sum₀ z₀ sum z =
-    (z ≤ rows) × ((C : Code) → C .k ≡ rows → C .D ≡ distance → RowWeights C weights → sum ≡ sumBeforeRow C i z)
+Inv-loop i weights k distance sum₀ z₀ sum z =
+    (z ≤ k) × ((C : Code) → C .k ≡ k → C .D ≡ distance → RowWeights C weights → sum ≡ sumBeforeRow C i z)
 
 abbrev μ-loop : tie.MeasureT-loop
-μ-loop i weights rows distance sum₀ z₀ sum z = rows - z
+μ-loop i weights k distance sum₀ z₀ sum z = k - z
 
 loop-holds : tie.Need-loop-holds Inv-loop μ-loop
 loop-holds c = (
   omega arith,
-  λ C rows distance weights. rw (← distance) (sym (before-any-row C (c .args .i))),
+  λ C k distance weights. rw (← distance) (sym (before-any-row C (c .args .i))),
 )
 
 loop-again : tie.Need-loop-again Inv-loop μ-loop
@@ -34,9 +35,9 @@ loop-again c =
     let turn = c .before .before in
     let z = turn .loop .z in (
       omega arith,
-      λ C rows distance weights.
-          let before = turn .loop .inv .1 C rows distance weights in
-          c .sum-after-row .ensures C (weights z (omega arith)) before ∙ sym (next-row C (turn .before .args .i) z),
+      λ C k distance weights.
+          let before = turn .loop .inv .1 C k distance weights in
+          c .sum-after-row .ensures .1 C (weights z (omega arith)) before ∙ sym (next-row C (turn .before .args .i) z),
     )
 
 -- of the code that is summed: the sum before row z
@@ -46,9 +47,14 @@ sum-is c = c .loop .inv .1 (meaning (c .before .args .code)) refl refl (c .befor
 
 returns : tie.Need-returns Inv-loop μ-loop
 returns c =
-    let args = c .before .before .args in
-    let all : c .before .loop .z ≡ args .code .k = omega arith in
-    sum-is (c .before) ∙ rw all (whole-sum (meaning (args .code)) (args .i))
+    let first = c .before .before in
+    let C : Code = meaning (first .args .code) in
+    let last : C .k - 1 + 1 ≡ C .k = omega (arith, first .pre .0 .k-low) in
+    let all : c .before .loop .z ≡ C .k - 1 + 1 = omega (arith, last) in
+    sum-is (c .before)
+    ∙ ap (sumBeforeRow C (first .args .i)) all
+    ∙ next-row C (first .args .i) (C .k - 1)
+    ∙ whole-sum C (first .args .i) (C .k - 1) last
 
 -- ---- what fits
 
