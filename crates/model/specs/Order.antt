@@ -51,9 +51,9 @@ correctedCount i z = (i + 2 ^ z) / 2 ^ (z + 1)
 abbrev pub rowWeight : Code → (z : ℕ) → ℕ
 rowWeight C z = weight (C .n) (C .row z)
 
--- the share of a row z of this weight: 2 × its weight × its corrected count
-abbrev pub shareOf : (weight i z : ℕ) → ℕ
-shareOf weight i z = 2 * weight * correctedCount i z
+-- the share of row z where its weight is a: 2 × its weight × its corrected count
+abbrev pub shareOf : (a i z : ℕ) → ℕ
+shareOf a i z = 2 * a * correctedCount i z
 
 -- the share of row z of a code
 abbrev pub rowShare : Code → (i z : ℕ) → ℕ
