@@ -1,13 +1,13 @@
 //! A second reader of robust Gray position words: cards, words, positions and readings, written from the words of document 01 and
-//! of requests P1 to P4 by plain search, to be compared with the library.
+//! of requests P1 to P5 by plain search, to be compared with the library.
 //!
 //! Words are single bits, made by walking from position 0 and turning one bit a step; block starts add up the places in which one
 //! whole word and the next differ; the least distance is found by summing every set of rows, a chunk's codeword by trying all, the
 //! bits that the chunk needed by comparing the two bit by bit, and the nearest allowed position by trying each with its full word.
 //! Where there is a short way and a plain one, this is the plain one: a chunk of a Reed-Muller code too is read by trying all
-//! codewords, not by votes.
+//! codewords, not by votes. A word of levels is read by the same search, over the bits that aren't lost.
 //!
-//! The calls below are the library's seven. [`track::Track`] and [`walk::Walk`] are for a caller with many words of one card,
+//! The calls below are the library's eight. [`track::Track`] and [`walk::Walk`] are for a caller with many words of one card,
 //! [`reed_muller::ReedMuller`] for one with many chunks of one code.
 #![deny(unsafe_code)]
 #![deny(unsafe_op_in_unsafe_fn)]
@@ -16,13 +16,20 @@
 mod c_calls;
 pub mod card;
 pub mod code;
+#[cfg(test)]
+mod level_promises;
+pub mod levels;
 pub mod reading;
 pub mod reed_muller;
+mod rules;
+#[cfg(test)]
+mod test_cards;
 pub mod track;
 pub mod walk;
 pub mod word;
 
 use card::Card;
+pub use levels::Strength;
 pub use reading::Reading;
 use reed_muller::ReedMuller;
 pub use reed_muller::Vote;
@@ -30,7 +37,7 @@ pub use track::Facts;
 use track::Track;
 use walk::Walk;
 
-/// Why a call is turned down: the number in document 01's table, request P1's 13 or request P2's 14.
+/// Why a call is turned down: the number in document 01's table, or a request's: P1's 13, P2's 14, P5's 15 and 16.
 pub type Refusal = u32;
 
 /// Checks a card.
@@ -54,6 +61,11 @@ pub fn write_word(card: &[u8], position: u32, lent: &mut [u8]) -> Result<(), Ref
 /// Reads a received word.
 pub fn read_word(card: &[u8], received: &[u8]) -> Result<Reading, Refusal> {
     reading::read_from(&Walk::new(&Track::of_card(card)?), received)
+}
+
+/// Reads a received word whose bits came as levels, and keeps the receiver's strength beside the answer.
+pub fn read_levels(card: &[u8], levels: &[f32]) -> Result<(Reading, Strength), Refusal> {
+    levels::read_levels_from(&Walk::new(&Track::of_card(card)?), levels)
 }
 
 /// The start of a block.

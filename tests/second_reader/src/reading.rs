@@ -1,10 +1,9 @@
-//! Reading a received word: its separators, the rule that they name, the allowed positions, the nearest of these, and the bits
-//! that the chunks needed.
-use crate::track::Track;
+//! Reading a plain received word, which travels as bytes: its bits, and how the rules see them.
+use crate::code::Code;
+use crate::rules::{self, Received};
 use crate::walk::Walk;
 use crate::word::{unlike, unpacked};
 use crate::Refusal;
-use std::ops::RangeInclusive;
 
 /// A received word's position, residual and rule, and the bits that its chunks needed.
 #[derive(Clone, Copy, Debug, PartialEq, Eq)]
@@ -19,14 +18,6 @@ pub struct Reading {
     pub chunk2_bits: Option<u32>,
 }
 
-/// What the reading rules leave: the rule, the positions that it allows, and the bits of the chunks that it names.
-struct Allowed {
-    rule: u32,
-    positions: RangeInclusive<u32>,
-    chunk1_bits: Option<u32>,
-    chunk2_bits: Option<u32>,
-}
-
 /// Reads a received word of a walk's track. The search sets out from where the walk stands, or from position 0 if that is past the
 /// first allowed position. The answer is the same from anywhere; words read in the order of their positions take fewer steps.
 pub fn read_from(walk: &Walk, bytes: &[u8]) -> Result<Reading, Refusal> {
@@ -39,69 +30,24 @@ pub fn read_from(walk: &Walk, bytes: &[u8]) -> Result<Reading, Refusal> {
     if spare.contains(&true) {
         return Err(8);
     }
-    let Allowed { rule, positions, chunk1_bits, chunk2_bits } = allowed(walk.track, received)?;
-    let (residual, position) = nearest(walk.clone(), positions, received);
-    Ok(Reading { position, residual, rule, chunk1_bits, chunk2_bits })
+    rules::read(walk, received)
 }
 
-/// The allowed positions of a received word, by the rule that its separators name, and the bits of the chunks that it names.
-fn allowed(track: &Track, received: &[bool]) -> Result<Allowed, Refusal> {
-    let code = &track.card.code;
-    let [separator_1, chunk_1, separator_2, chunk_2, separator_3] = code.chunks().map(|places| &received[places]);
-    let read = |chunk| code.read_chunk(chunk).ok_or(10u32);
-    match [separator_1, separator_2, separator_3].map(separator) {
-        [a, b, c] if a == b && b == c => rule_3(track, read(chunk_1)?, read(chunk_2)?),
-        [a, b, _] if a == b => rule_1(track, read(chunk_1)?),
-        [_, b, c] if b == c => rule_2(track, read(chunk_2)?),
-        _ => Err(9),
+impl Received for [bool] {
+    /// A separator reads 1 if more than half its bits are 1, else 0; a tie reads 0.
+    fn separator(&self) -> bool {
+        self.len() < 2 * self.iter().filter(|&&bit| bit).count()
     }
-}
 
-/// A separator reads 1 if more than half its bits are 1, else 0; a tie reads 0.
-fn separator(bits: &[bool]) -> bool {
-    bits.len() < 2 * bits.iter().filter(|&&bit| bit).count()
-}
-
-/// Rule 1, b b c: chunk 1 reads p, with so many bits unlike c(p); allowed are r(p-1) + D + A(p-1) to r(p).
-fn rule_1(track: &Track, (p, bits): (usize, usize)) -> Result<Allowed, Refusal> {
-    if p == 0 {
-        return Err(12);
+    /// The codeword within t bits.
+    fn code_chunk(&self, code: &Code) -> Option<(usize, usize)> {
+        code.read_chunk(self)
     }
-    let code = &track.card.code;
-    let before = code.distance + code.step_weight(p - 1);
-    let positions = track.starts[p - 1] + before as u32..=track.starts[p];
-    Ok(Allowed { rule: 1, positions, chunk1_bits: Some(bits as u32), chunk2_bits: None })
-}
 
-/// Rule 2, b c c: chunk 2 reads p, with so many bits unlike c(p); allowed are r(p) to r(p) + 2D + A(p).
-fn rule_2(track: &Track, (p, bits): (usize, usize)) -> Result<Allowed, Refusal> {
-    let code = &track.card.code;
-    if p == code.codewords() - 1 {
-        return Err(12);
+    /// All d bits count.
+    fn unlike(&self, word: &[bool]) -> usize {
+        unlike(word, self)
     }
-    let after = 2 * code.distance + code.step_weight(p);
-    let positions = track.starts[p]..=track.starts[p] + after as u32;
-    Ok(Allowed { rule: 2, positions, chunk1_bits: None, chunk2_bits: Some(bits as u32) })
-}
-
-/// Rule 3, b b b: both chunks read the same p, each with its own bits unlike c(p); allowed are r(p) - D to r(p) + D, cut to 0 and
-/// the last position.
-fn rule_3(track: &Track, (p, bits_1): (usize, usize), (other, bits_2): (usize, usize)) -> Result<Allowed, Refusal> {
-    if p != other {
-        return Err(11);
-    }
-    let (start, distance) = (track.starts[p], track.card.code.distance as u32);
-    let positions = start.saturating_sub(distance)..=track.last().min(start + distance);
-    Ok(Allowed { rule: 3, positions, chunk1_bits: Some(bits_1 as u32), chunk2_bits: Some(bits_2 as u32) })
-}
-
-/// The residual and the position of the nearest of these positions, the smallest on a tie: each is tried with its full word.
-fn nearest(mut walk: Walk, positions: RangeInclusive<u32>, received: &[bool]) -> (u32, u32) {
-    let tried = positions.map(|position| {
-        walk.go_to(position);
-        (unlike(&walk.word, received) as u32, position)
-    });
-    tried.min().expect("every rule allows some position")
 }
 
 /// Expected values are worked out by hand from document 01 and request P3. In a word's chunks place 0 stands leftmost.
@@ -109,36 +55,7 @@ fn nearest(mut walk: Walk, positions: RangeInclusive<u32>, received: &[bool]) ->
 mod tests {
     use super::Reading;
     use crate::read_word;
-
-    /// A card with rows below 256, which stand in the last byte of their eight, and a check added up by hand.
-    fn card(n: u8, track: u8, rows: &[u8], check: u16) -> [u8; 512] {
-        let mut card = [0; 512];
-        card[0] = n;
-        card[1] = rows.len() as u8;
-        card[3] = track;
-        for (z, &row) in rows.iter().enumerate() {
-            card[11 + 8 * z] = row;
-        }
-        card[510..].copy_from_slice(&check.to_be_bytes());
-        card
-    }
-
-    /// Card A, rows 3 and 6, track 0: check 1 × 3 + 2 × 2 + 12 × 3 + 20 × 6 = 163. D 2, t 0, places 0-1, 2-4, 5-6, 7-9, 10-11.
-    fn card_a() -> [u8; 512] {
-        card(3, 0, &[3, 6], 163)
-    }
-
-    /// Card B, row 7, track 14: check 1 × 3 + 2 × 1 + 4 × 14 + 12 × 7 = 145. D 3, t 1, places 0-2, 3-5, 6-8, 9-11, 12-14.
-    /// c(0) is 000 and c(1) 111, so the word of position m has ones in its first m places and zeros in the rest.
-    fn card_b() -> [u8; 512] {
-        card(3, 14, &[7], 145)
-    }
-
-    /// Row 31, track 0: check 1 × 5 + 2 × 1 + 12 × 31 = 379. D 5, t 2, places 0-4, 5-9, 10-14, 15-19, 20-24. The last position is
-    /// 3 × 5 + 2 × 5 = 25. c(0) is 00000 and c(1) 11111, so here too the word of position m has m ones and then zeros.
-    fn card_of_five() -> [u8; 512] {
-        card(5, 0, &[31], 379)
-    }
+    use crate::test_cards::{card_a, card_b, card_of_five};
 
     /// Asserts what a word reads as: position, residual and rule, then the bits of both chunks.
     fn reads(card: [u8; 512], word: &[u8], [position, residual, rule]: [u32; 3], bits: [Option<u32>; 2]) {

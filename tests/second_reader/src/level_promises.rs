@@ -1,0 +1,127 @@
+//! What request P5 promises of levels 1, -1 and 0, tried on words of small cards.
+use crate::levels::read_levels_from;
+use crate::reading::{read_from, Reading};
+use crate::test_cards::{card_a, card_b, card_of_one};
+use crate::track::Track;
+use crate::walk::Walk;
+use crate::word::{packed, Word};
+use crate::Refusal;
+
+/// The track of a small card.
+fn track_of(card: [u8; 512]) -> Track {
+    Track::of_card(&card).expect("the card is sound")
+}
+
+/// What levels of a track's word read as.
+fn position_answer(track: &Track, levels: &[f32]) -> Result<Reading, Refusal> {
+    read_levels_from(&Walk::new(track), levels).map(|(reading, _)| reading)
+}
+
+/// The words of all positions, in order.
+fn words_of(track: &Track) -> Vec<Word> {
+    let mut walk = Walk::new(track);
+    let word_at = |position| {
+        walk.go_to(position);
+        walk.word.clone()
+    };
+    (0..=track.last()).map(word_at).collect()
+}
+
+/// The d levels that a number stands for, each a digit of it: 0 is the level 1, 1 is -1, and 2, in base 3, is 0.
+fn levels_of(number: u32, base: u32, d: usize) -> Vec<f32> {
+    let digits = (0..d as u32).map(|place| number / base.pow(place) % base);
+    digits.map(|digit| [1.0, -1.0, 0.0][digit as usize]).collect()
+}
+
+/// 2 × wrong + lost of levels in these places against a position's word. Each place has 0, 1 or 2.
+fn damage(word: &[bool], levels: &[f32]) -> usize {
+    let in_place = |(sent, level): (&bool, &f32)| match *level < 0.0 {
+        _ if *level == 0.0 => 1,
+        came if came == *sent => 0,
+        _ => 2,
+    };
+    word.iter().zip(levels).map(in_place).sum()
+}
+
+/// Whether levels come under the promise for a position, their damage being below D in every chunk. If so, asserts it: they are
+/// read, off by at most the whole word's damage.
+fn promise_holds(track: &Track, position: u32, word: &[bool], levels: &[f32]) -> bool {
+    let code = &track.card.code;
+    let under = code.chunks().into_iter().all(|places| damage(&word[places.clone()], &levels[places]) < code.distance);
+    if under {
+        let reading = position_answer(track, levels).unwrap_or_else(|number| panic!("{levels:?}: refusal {number}"));
+        let off = reading.position.abs_diff(position) as usize;
+        assert!(off <= damage(word, levels), "{levels:?}: {position} read as {reading:?}");
+    }
+    under
+}
+
+/// For how many positions levels come under the promise, which holds for each of them.
+fn positions_under(track: &Track, words: &[Word], levels: &[f32]) -> usize {
+    (0..).zip(words).filter(|(position, word)| promise_holds(track, *position, word, levels)).count()
+}
+
+/// All levels of 1, -1 and 0 whose damage against a position's word is below D in every chunk, added chunk by chunk.
+fn damaged(track: &Track, word: &[bool]) -> Vec<Vec<f32>> {
+    let code = &track.card.code;
+    let mut all: Vec<Vec<f32>> = vec![vec![]];
+    for places in code.chunks() {
+        let size = places.len();
+        let chunks = (0..3u32.pow(size as u32)).map(|number| levels_of(number, 3, size));
+        let borne: Vec<Vec<f32>> = chunks.filter(|chunk| damage(&word[places.clone()], chunk) < code.distance).collect();
+        all = all.iter().flat_map(|before| borne.iter().map(move |chunk| [&before[..], chunk].concat())).collect();
+    }
+    all
+}
+
+/// Every word of bits, as levels of 1 and -1, is read or refused as the plain word is.
+#[test]
+fn levels_of_one_read_as_the_plain_word() {
+    for track in [card_of_one(), card_a(), card_b()].map(track_of) {
+        let d = track.card.code.word_bits();
+        for number in 0..1 << d {
+            let levels = levels_of(number, 2, d);
+            let bits: Word = levels.iter().map(|level| *level < 0.0).collect();
+            assert_eq!(position_answer(&track, &levels), read_from(&Walk::new(&track), &packed(&bits)), "{levels:?}");
+        }
+    }
+}
+
+/// All 3^5 words of the card with D 1, where only the six undamaged words come under the promise.
+#[test]
+fn every_word_of_the_least_card() {
+    let track = track_of(card_of_one());
+    let words = words_of(&track);
+    let positions: usize = (0..243).map(|number| positions_under(&track, &words, &levels_of(number, 3, 5))).sum();
+    assert_eq!(positions, 6);
+}
+
+/// All words of card A, D 2, that come under the promise. A chunk bears one lost bit, which leaves 3 ways for a separator and 4
+/// for a code chunk: 3 × 4 × 3 × 4 × 3 = 432 words for each of the 31 positions.
+#[test]
+fn every_bearable_word_of_card_a() {
+    let track = track_of(card_a());
+    let words = words_of(&track);
+    assert_eq!(words.len(), 31);
+    for (position, word) in (0..).zip(&words) {
+        let all = damaged(&track, word);
+        assert_eq!(all.len(), 432, "position {position}");
+        assert!(all.iter().all(|levels| promise_holds(&track, position, word, levels)), "position {position}");
+    }
+}
+
+/// 20,000 of the 3^15 words of card B, D 3, drawn by a linear congruential generator. A chunk bears one turned bit or up to two
+/// lost ones, 3 + 1 + 3 + 3 = 10 of its 27 ways, so that about 20,000 × 16 × 10^5 / 27^5, or 2,230, positions come under the
+/// promise.
+#[test]
+fn many_words_of_card_b() {
+    let track = track_of(card_b());
+    let words = words_of(&track);
+    let (mut state, mut positions) = (5u64, 0);
+    for _ in 0..20_000 {
+        state = state.wrapping_mul(6_364_136_223_846_793_005).wrapping_add(1_442_695_040_888_963_407);
+        let number = (state >> 33) % 14_348_907;
+        positions += positions_under(&track, &words, &levels_of(number as u32, 3, 15));
+    }
+    assert!((2_000..2_500).contains(&positions), "{positions} positions");
+}
