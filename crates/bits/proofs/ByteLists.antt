@@ -1,18 +1,21 @@
--- Lists of bytes: filled entry by entry, of zeros alone, and in how many bits two of them differ, byte by byte and as words that are
+-- Lists of bytes: filled entry by entry, of zeros or of ones alone, and in how many bits two of them differ, byte by byte and as words that are
 -- packed into bytes. Assumes nothing.
-use mathlib.Core.Path.{_≡_, sym, _∙_}
+use mathlib.Core.Path.{_≡_, sym, ap, _∙_}
 use mathlib.Core.List.{List}
 use mathlib.Core.Logic.{⊎-elim}
 use Prim.Native.Nat.{ℕ, _+_, _*_, _/_, _%_, _≤_, _<_}
 use native.Mathlib.Omega.{arith}
 use borrow.Author.Count.{below-more}
+use lib.Dec.{eqb}
 use lib.ListN.{length, getD, set, replicate, length-replicate, getD-replicate, List·getD-eq-default}
 use lib.Seq.{getD-set-same, getD-set-other}
-use Rattle.bits.specs.Sums.{distance}
+use Rattle.bits.specs.Sums.{distance, distanceHeard, marked}
 use Rattle.bits.specs.Places.{bit, bytesFor, place, pack, differingBits}
 use Rattle.bits.proofs.Numbers.{lt-or-le}
 use Rattle.bits.proofs.Binary.{bit-zero}
+use Rattle.bits.proofs.Shifts.{bit-all-ones}
 use Rattle.bits.proofs.Distance.{distance-ext, distance-split, distance-alike-after}
+use Rattle.bits.proofs.Heard.{heard-ext, heard-split}
 use Rattle.bits.proofs.Places.{places-of-byte, length-pack, place-packed, place-spare}
 
 -- ---- filled entry by entry
@@ -38,6 +41,12 @@ pub zero-place : (n p : ℕ) → place (zeros n) p ≡ 0
 unfolding place
 zero-place n p = rw (zero-byte n (p / 8)) (bit-zero (p % 8))
 
+-- ---- bytes of ones: each place before the end is 1
+
+pub ones-place : (n p : ℕ) → p < 8 * n → place (replicate n 255) p ≡ 1
+unfolding place
+ones-place n p h = rw (getD-replicate {A = ℕ} n (p / 8) 255 0 (omega arith)) (bit-all-ones 8 (p % 8) (omega arith))
+
 -- ---- in how many bits two differ
 
 -- one byte more
@@ -50,6 +59,19 @@ distance-byte a b j =
       more,
       distance-split (8 * j) 8 (place a) (place b),
       distance-ext 8 (places-of-byte a j) (places-of-byte b j),
+    )
+
+-- over the places that a third one marks as heard
+pub heard-byte : (a b h : List ℕ) (j : ℕ)
+    → distanceHeard (marked (place h)) (8 * (j + 1)) (place a) (place b)
+    ≡ distanceHeard (marked (place h)) (8 * j) (place a) (place b)
+    + distanceHeard (marked (bit (getD h j 0))) 8 (bit (getD a j 0)) (bit (getD b j 0))
+heard-byte a b h j =
+    let more : 8 * (j + 1) ≡ 8 * j + 8 = omega arith in
+    rw (
+      more,
+      heard-split (marked (place h)) (8 * j) 8 (place a) (place b),
+      heard-ext 8 (λ q l. ap (λ (c : ℕ). eqb c 1) (places-of-byte h j q l)) (places-of-byte a j) (places-of-byte b j),
     )
 
 -- where their spare bits are alike, in as many as their first d places

@@ -1,12 +1,12 @@
--- The Hamming distance is a metric that adds up over parts of a word, and along a third word that agrees at each place
--- with one of the two. Assumes nothing.
+-- The Hamming distance is symmetric, and adds up over parts of a word, and along a third word that agrees at each place with one of the
+-- two. (The triangle inequality stands in Heard.antt, with lost places.) Assumes nothing.
 use mathlib.Core.Path.{_≡_, refl, _∙_}
 use mathlib.Core.Logic.{_⊎_, ⊎-elim}
 use Prim.Native.Nat.{ℕ, zero, suc, _+_, _≤_, _<_}
 use native.Mathlib.Nat.{le-dest}
 use native.Mathlib.Omega.{arith}
 use Rattle.bits.specs.Sums.{sumBelow, distance, unlike, fromPlace}
-use Rattle.bits.proofs.Sums.{sum-ext, sum-mono, sum-add, sum-split, sum-zero, sum-longer, sum-of-bits, sum-one-place}
+use Rattle.bits.proofs.Sums.{sum-ext, sum-add, sum-split, sum-zero, sum-longer, sum-of-bits}
 
 -- the distance is fixed by the bits below d
 pub distance-ext : {u u′ v v′ : ℕ → ℕ} (d : ℕ) → ((p : ℕ) → p < d → u p ≡ u′ p) → ((p : ℕ) → p < d → v p ≡ v′ p)
@@ -24,11 +24,6 @@ distance-comm d u v = sum-ext d (λ p b. omega arith)
 pub distance-self : (d : ℕ) (u : ℕ → ℕ) → distance d u u ≡ 0
 unfolding distance
 distance-self d u = sum-zero d (λ p b. omega arith)
-
-pub distance-triangle : (d : ℕ) (u v w : ℕ → ℕ) → distance d u w ≤ distance d u v + distance d v w
-unfolding distance
-distance-triangle d u v w =
-    rw (← (sum-add (λ p. unlike (u p) (v p)) (λ p. unlike (v p) (w p)) d)) (sum-mono d (λ p b. omega arith))
 
 -- one place more
 pub distance-suc : (d : ℕ) (u v : ℕ → ℕ) → distance (suc d) u v ≡ distance d u v + unlike (u d) (v d)
@@ -65,13 +60,6 @@ unfolding distance
 distance-through {u} {c} {v} d h =
     rw (← (sum-add (λ p. unlike (u p) (c p)) (λ p. unlike (c p) (v p)) d))
     (sum-ext d (λ p b. ⊎-elim (λ e. omega arith) (λ e. omega arith) (h p b)))
-
--- words that agree at all places but one are as far from a third one but for that place
-pub distance-one-place : (f g x : ℕ → ℕ) (d q : ℕ) → q < d → ((p : ℕ) → p < d → (p ≡ q → ⊥) → f p ≡ g p)
-    → distance d f x + unlike (g q) (x q) ≡ distance d g x + unlike (f q) (x q)
-unfolding distance
-distance-one-place f g x d q h same =
-    sum-one-place (λ p. unlike (f p) (x p)) (λ p. unlike (g p) (x p)) d q h (λ p b ne. rw (same p b ne))
 
 -- no two words differ in more places than there are
 pub distance-le : (d : ℕ) (u v : ℕ → ℕ) → distance d u v ≤ d

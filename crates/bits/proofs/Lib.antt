@@ -1,11 +1,13 @@
 pub mod Numbers
 pub mod Sums
 pub mod Distance
+pub mod Heard
 pub mod Joins
 pub mod Walk
 pub mod Binary
 pub mod Searches
 pub mod Places
 pub mod ByteLists
+pub mod Masks
 pub mod LowestOne
 pub mod Shifts

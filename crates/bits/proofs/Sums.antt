@@ -12,7 +12,7 @@ use Rattle.bits.specs.Sums.{sumBelow, sumOver, fromPlace}
 use Rattle.bits.proofs.Numbers.{lt-or-le}
 
 -- what starts at place 0 is the whole
-pub from-place-zero : (x : ℕ → ℕ) → fromPlace 0 x ≡ x
+pub from-place-zero : {A : Type 0} (x : ℕ → A) → fromPlace 0 x ≡ x
 from-place-zero x = fun-ext (λ p. ap x (zero-add p))
 
 -- two functions that agree below d have the same sum

@@ -1,9 +1,9 @@
 -- Sums over places, the Hamming distance of two bit functions, and bit functions taken apart and joined. A bit function gives
 -- each place 0 or 1. Assumes nothing.
-use mathlib.Core.Bool.{cond}
+use mathlib.Core.Bool.{Bool, true, cond}
 use mathlib.Core.List.{List, [], _∷_}
 use Prim.Native.Nat.{ℕ, zero, suc, _+_, _-_, _%_}
-use lib.Dec.{ltb}
+use lib.Dec.{ltb, eqb}
 
 -- f(0) + … + f(d - 1)
 unfoldable pub sumBelow : (f : ℕ → ℕ) (d : ℕ) → ℕ
@@ -23,8 +23,24 @@ unlike a b = (a + b) % 2
 unfoldable pub distance : (d : ℕ) (u v : ℕ → ℕ) → ℕ
 distance d u v = sumBelow (λ p. unlike (u p) (v p)) d
 
--- the part of a bit function that starts at place a
-abbrev pub fromPlace : (a : ℕ) (x : ℕ → ℕ) (p : ℕ) → ℕ
+-- Hamming distance over the places that are heard: in how many of them, of the places 0 to d - 1, two bit functions differ
+unfoldable pub distanceHeard : (heard : ℕ → Bool) (d : ℕ) (u v : ℕ → ℕ) → ℕ
+distanceHeard heard d u v = sumBelow (λ p. cond (heard p) (unlike (u p) (v p)) 0) d
+
+-- how many of the places 0 to d - 1 are lost, so not heard
+unfoldable pub lostBelow : (heard : ℕ → Bool) (d : ℕ) → ℕ
+lostBelow heard d = sumBelow (λ p. cond (heard p) 0 1) d
+
+-- the places at which a bit function is 1, and no others
+abbrev pub marked : (m : ℕ → ℕ) (p : ℕ) → Bool
+marked m p = eqb (m p) 1
+
+-- every place is heard: nothing is lost
+abbrev pub everywhere : ℕ → Bool
+everywhere p = true
+
+-- the part that starts at place a of what stands at places: bits, or what else is told of a place
+abbrev pub fromPlace : {A : Type 0} (a : ℕ) (x : ℕ → A) (p : ℕ) → A
 fromPlace a x p = x (a + p)
 
 -- the first a places of u, then v

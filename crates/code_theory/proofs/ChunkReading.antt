@@ -1,20 +1,24 @@
 -- What a chunk reads as by a search: the first of so many codewords that is near enough, by any test and any count. A search that has
 -- passed over the codewords before p and finds p near has read the chunk. The reading of a chunk depends on its n places alone, and
 -- its status and values are those that stand beside it. Assumes nothing.
-use mathlib.Core.Path.{_≡_, refl, sym, ap, fun-ext, _∙_}
+use mathlib.Core.Path.{_≡_, refl, sym, ap, ap₂, fun-ext, _∙_}
 use mathlib.Core.Bool.{Bool, true, false, cond, not}
 use mathlib.Core.Logic.{⊎-elim}
-use Prim.Native.Nat.{ℕ, _^_, _<_, _≤_}
+use Prim.Native.Nat.{ℕ, _+_, _-_, _*_, _/_, _^_, _<_, _≤_}
 use native.Mathlib.Omega.{arith}
 use lib.Dec.{leb, ltb}
-use borrow.Author.Tests.{lt-ltb, le-ltb}
+use borrow.Author.Tests.{lt-ltb, le-ltb, le-leb, lt-leb}
+use Rattle.bits.specs.Sums.{everywhere}
+use Rattle.bits.specs.Places.{bit}
 use Rattle.bits.specs.Searches.{first}
 use Rattle.bits.proofs.Numbers.{lt-or-le}
-use Rattle.bits.proofs.Distance.{distance-ext}
+use Rattle.bits.proofs.Heard.{all-heard, none-lost, heard-ext, lost-ext}
 use Rattle.bits.proofs.Searches.{first-is, first-holds, first-none}
 use Rattle.model.specs.Refusals.{firstRefusal}
 use Rattle.model.specs.Card.{Code, radius}
 use Rattle.model.specs.Reading.{chunkDistance, withinRadius, readFirst, chunkReading, chunkRefusal, chunkFigures}
+use Rattle.model.specs.Order.{codeword}
+use Rattle.model.specs.Levels.{chunkWrong, withinLosses, heardReading}
 use Rattle.model.specs.Statuses.{ifServed, chunkStatus, chunkValues}
 use Rattle.model.specs.declared.Chunk.{Chunk}
 use Rattle.model.specs.declared.Chunk.the-variants.{Codeword, Unreadable}
@@ -57,11 +61,37 @@ module _ (near : ℕ → Bool) (count : ℕ → ℕ) (many : ℕ) where
       let no : _≡_ {A = ℕ} 0 1 = cc in absurd (omega arith))
       (lt-or-le found many)
 
--- chunks that agree below n read alike
-pub chunkReading-ext : (C : Code) (x y : ℕ → ℕ) → ((p : ℕ) → p < C .n → x p ≡ y p) → chunkReading C x ≡ chunkReading C y
-unfolding chunkReading withinRadius chunkDistance
-chunkReading-ext C x y same =
-    ap (λ (far : ℕ → ℕ). readFirst (λ i. leb (far i) (radius C)) far (2 ^ C .k)) (fun-ext (λ i. distance-ext (C .n) (λ p b. refl) same))
+-- chunks of which the same places are heard and agree below n read alike
+pub heard-reading-ext : (C : Code) {heard heard′ : ℕ → Bool} {x y : ℕ → ℕ} → ((p : ℕ) → p < C .n → heard p ≡ heard′ p)
+    → ((p : ℕ) → p < C .n → x p ≡ y p) → heardReading C heard x ≡ heardReading C heard′ y
+unfolding heardReading withinLosses chunkWrong
+heard-reading-ext C {heard} same-heard same =
+    ap₂ (λ (wrong : ℕ → ℕ) (lost : ℕ). readFirst (λ i. ltb (2 * wrong i + lost) (C .D)) wrong (2 ^ C .k))
+    (fun-ext (λ i. heard-ext (C .n) same-heard (λ p b. refl) same)) (lost-ext (C .n) same-heard)
+
+-- where nothing is lost, 2 × wrong + lost is below D within the radius, and only there
+module _ (C : Code) where
+  pub plain-count : (x : ℕ → ℕ) → chunkDistance C x ≡ chunkWrong C everywhere x
+  unfolding chunkDistance chunkWrong
+  plain-count x = fun-ext (λ p. sym (all-heard (C .n) (bit (codeword C p)) x))
+
+  half : (D wrong lost : ℕ) → 1 ≤ D → lost ≡ 0 → leb wrong ((D - 1) / 2) ≡ ltb (2 * wrong + lost) D
+  half D wrong lost pos none =
+      ⊎-elim (λ (l : 2 * wrong < D). le-leb wrong ((D - 1) / 2) (omega arith) ∙ sym (lt-ltb (2 * wrong + lost) D (omega arith)))
+      (λ (l : D ≤ 2 * wrong). lt-leb wrong ((D - 1) / 2) (omega arith) ∙ sym (le-ltb (2 * wrong + lost) D (omega arith)))
+      (lt-or-le (2 * wrong) D)
+
+  module _ (D-pos : 1 ≤ C .D) where
+    pub plain-near : (x : ℕ → ℕ) → withinRadius C x ≡ withinLosses C everywhere x
+    unfolding withinRadius withinLosses
+    plain-near x =
+        fun-ext (λ p.
+        ap (λ (count : ℕ → ℕ). leb (count p) (radius C)) (plain-count x)
+        ∙ half (C .D) (chunkWrong C everywhere x p) _ D-pos (none-lost everywhere (C .n) (λ q b. refl)))
+
+    pub plain-reading : (x : ℕ → ℕ) → chunkReading C x ≡ heardReading C everywhere x
+    unfolding chunkReading heardReading
+    plain-reading x = ap₂ (λ (near : ℕ → Bool) (count : ℕ → ℕ). readFirst near count (2 ^ C .k)) (plain-near x) (plain-count x)
 
 -- the status and the values of a chunk's reading
 abbrev pub ChunkTold : (refusal : ℕ) → Code → (x : ℕ → ℕ) → Chunk → Type 0

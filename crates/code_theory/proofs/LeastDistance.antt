@@ -1,21 +1,25 @@
 -- D is the least distance of two different codewords. The exclusive-or of two codewords is a codeword, whose weight is their
--- distance, and a nonzero one has weight D at least. So at most one codeword lies within the radius, less than half of D, of a chunk.
+-- distance, and a nonzero one has weight D at least. So of a chunk at most one codeword has 2 × wrong + lost below D; where nothing is lost,
+-- it lies within the radius, less than half of D.
 -- Assumes nothing.
-use mathlib.Core.Path.{_≡_, sym, ap, _∙_}
+use mathlib.Core.Path.{_≡_, refl, sym, ap, _∙_}
+use mathlib.Core.Bool.{Bool}
 use mathlib.Core.Logic.{_⊎_, inl, inr, ⊎-elim}
-use Prim.Native.Nat.{ℕ, _^_, _≤_, _<_}
+use Prim.Native.Nat.{ℕ, _+_, _*_, _^_, _≤_, _<_}
 use native.Mathlib.Nat.{eq-zero-or-pos}
 use native.Mathlib.Omega.{arith}
 use lib.Bits.{bitXor, xor-lt}
 use lib.Pow.{pow-mono, lt-of-le-ones, le-ones}
-use Rattle.bits.specs.Sums.{distance}
+use Rattle.bits.specs.Sums.{distance, lostBelow, everywhere}
 use Rattle.bits.specs.Places.{bit, weight}
 use Rattle.bits.proofs.Numbers.{eq-or-ne}
-use Rattle.bits.proofs.Distance.{distance-comm, distance-self, distance-triangle}
+use Rattle.bits.proofs.Distance.{distance-self}
+use Rattle.bits.proofs.Heard.{all-heard, none-lost, heard-triangle}
 use Rattle.bits.proofs.Binary.{weight-le, weight-xor, eq-of-xor-zero}
 use Rattle.model.specs.Card.{Code, sumOfRows, leastWeight, radius}
 use Rattle.model.specs.Order.{gray, codeword, lastCodeword}
 use Rattle.model.specs.Reading.{chunkDistance}
+use Rattle.model.specs.Levels.{chunkWrong}
 use Rattle.code_theory.specs.LeastDistance.{LeastDistance, codewordDistance}
 use Rattle.code_theory.specs.Promise.{Sound}
 use Rattle.code_theory.proofs.Gray.{gray-below, gray-positive, gray-injective, gray-onto}
@@ -124,15 +128,19 @@ module _ (C : Code) (S : Sound C) where
             ∙ light,
       )
 
-  -- two codewords never both lie within the radius of a chunk
+  -- two codewords never both have 2 × wrong + lost below D of a chunk
+  pub one-within-losses : (heard : ℕ → Bool) (x : ℕ → ℕ) (i j : ℕ) → i ≤ lastCodeword C → j ≤ lastCodeword C
+      → 2 * chunkWrong C heard x i + lostBelow heard (C .n) < C .D → 2 * chunkWrong C heard x j + lostBelow heard (C .n) < C .D → i ≡ j
+  unfolding chunkWrong
+  one-within-losses heard x i j li lj hi hj =
+      same-if-nearer i j li lj (omega (arith, heard-triangle heard (C .n) (bit (codeword C i)) (bit (codeword C j)) x))
+
+  -- so, where nothing is lost, they never both lie within the radius
   pub one-within-radius : (x : ℕ → ℕ) (i j : ℕ) → i ≤ lastCodeword C → j ≤ lastCodeword C
       → chunkDistance C x i ≤ radius C → chunkDistance C x j ≤ radius C → i ≡ j
-  unfolding chunkDistance
+  unfolding chunkDistance chunkWrong
   one-within-radius x i j li lj hi hj =
-      same-if-nearer i j li lj
-      (omega (
-        arith,
-        D-low,
-        distance-triangle (C .n) (bit (codeword C i)) x (bit (codeword C j)),
-        distance-comm (C .n) x (bit (codeword C j)),
-      ))
+      let none = none-lost everywhere (C .n) (λ p b. refl) in
+      one-within-losses everywhere x i j li lj
+      (omega (arith, D-low, none, all-heard (C .n) (bit (codeword C i)) x))
+      (omega (arith, D-low, none, all-heard (C .n) (bit (codeword C j)) x))

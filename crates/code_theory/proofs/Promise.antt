@@ -1,22 +1,24 @@
--- A sound card's code keeps the chunk promise: the first codeword within the radius of a chunk is the only one, blocks
--- follow one another, and consecutive codewords differ in one row. Assumes nothing.
-use mathlib.Core.Path.{_∙_, _≡_, refl, sym}
+-- A sound card's code keeps the chunk promise: the first codeword for which 2 × wrong + lost is below D is the only one, blocks follow
+-- one another, and consecutive codewords differ in one row. Assumes nothing.
+use mathlib.Core.Path.{_∙_, _≡_, refl, sym, fun-ext}
 use mathlib.Core.Bool.{Bool, true}
 use Prim.Native.Nat.{ℕ, _+_, _^_, _≤_}
 use native.Mathlib.Omega.{arith}
 use lib.Pow.{pow-mono, pow-pos}
-use borrow.Author.Tests.{leb-true}
+use borrow.Author.Tests.{ltb-true}
+use Rattle.bits.specs.Sums.{everywhere}
 use Rattle.bits.proofs.Numbers.{not-true}
 use Rattle.model.specs.Card.{Code}
 use Rattle.model.specs.Order.{lastCodeword}
-use Rattle.model.specs.Reading.{withinRadius, readFirst, chunkReading}
+use Rattle.model.specs.Reading.{readFirst, chunkReading}
+use Rattle.model.specs.Levels.{withinLosses, heardReading}
 use Rattle.model.specs.declared.Chunk.{Chunk}
 use Rattle.model.specs.declared.Chunk.the-variants.{Codeword, Unreadable}
-use Rattle.code_theory.specs.Promise.{Sound, ReadsNear, ReadsChunks, ChunkPromise}
+use Rattle.code_theory.specs.Promise.{Sound, ReadsNear, ReadsHeard, ReadsChunks, ChunkPromise}
 use Rattle.code_theory.proofs.Codewords.{step-distance}
-use Rattle.code_theory.proofs.LeastDistance.{D-low, one-within-radius}
+use Rattle.code_theory.proofs.LeastDistance.{D-low, one-within-losses}
 use Rattle.code_theory.proofs.Starts.{start-zero, start-next}
-use Rattle.code_theory.proofs.ChunkReading.{reading-first, reading-near}
+use Rattle.code_theory.proofs.ChunkReading.{reading-first, reading-near, plain-count, plain-near, plain-reading}
 
 -- Where no chunk has two codewords near to it, the first one is the one, and the search keeps the promise.
 pub first-reads : {X : Type 0} {last : ℕ} {near : X → ℕ → Bool} {count : X → ℕ → ℕ}
@@ -31,15 +33,15 @@ first-reads {near = near} {count = count} one many all =
           let is = reading-near (near x) (count x) many p e r in (omega arith, is .1, is .2);
     }
 
--- no chunk has two codewords within the radius
-one-near : (C : Code) → Sound C → (x : ℕ → ℕ) (i j : ℕ) → i ≤ lastCodeword C → j ≤ lastCodeword C
-    → withinRadius C x i ≡ true → withinRadius C x j ≡ true → i ≡ j
-unfolding withinRadius
-one-near C S x i j li lj hi hj = one-within-radius C S x i j li lj (leb-true _ _ hi) (leb-true _ _ hj)
+-- no chunk has two codewords for which 2 × wrong + lost is below D
+pub one-near : (C : Code) → Sound C → (heard : ℕ → Bool) (x : ℕ → ℕ) (i j : ℕ) → i ≤ lastCodeword C → j ≤ lastCodeword C
+    → withinLosses C heard x i ≡ true → withinLosses C heard x j ≡ true → i ≡ j
+unfolding withinLosses
+one-near C S heard x i j li lj hi hj = one-within-losses C S heard x i j li lj (ltb-true _ _ hi) (ltb-true _ _ hj)
 
-search-keeps : (C : Code) → Sound C → ReadsChunks C (chunkReading C)
-unfolding chunkReading lastCodeword
-search-keeps C S = first-reads (one-near C S) (2 ^ C .k) (omega (arith, pow-pos (C .k)))
+search-keeps : (C : Code) → Sound C → (heard : ℕ → Bool) → ReadsHeard C heard (heardReading C heard)
+unfolding heardReading lastCodeword
+search-keeps C S heard = first-reads (one-near C S heard) (2 ^ C .k) (omega (arith, pow-pos (C .k)))
 
 -- a code of one row or more has two codewords or more
 two-codewords : (C : Code) → Sound C → 1 ≤ lastCodeword C
@@ -56,6 +58,11 @@ promise C S =
       start-next = start-next C;
       step = step-distance C;
     }
+
+-- so the plain reading of chunks keeps its own: the codeword within the radius, the case of nothing lost
+pub plain-keeps : (C : Code) → ChunkPromise C → ReadsChunks C (chunkReading C)
+plain-keeps C P =
+    rw (fun-ext (plain-near C (P .D-pos)), fun-ext (plain-reading C (P .D-pos)), fun-ext (plain-count C)) (P .chunks everywhere)
 
 -- two readers that promise to read chunks answer alike on every chunk, readable or not
 pub readers-agree : {X : Type 0} {last : ℕ} {near : X → ℕ → Bool} {count : X → ℕ → ℕ} (f g : X → Chunk) → ReadsNear X last near count f

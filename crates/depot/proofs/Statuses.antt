@@ -6,19 +6,22 @@ use mathlib.Core.List.{List, [], _∷_}
 use mathlib.Core.Logic.{⊎-elim}
 use Prim.Native.Nat.{ℕ}
 use borrow.Author.Tests.{ne-eqb}
+use lib.Ieee.{Float}
 use Rattle.bits.specs.Places.{bit}
 use Rattle.bits.proofs.Numbers.{eq-or-ne}
 use Rattle.model.specs.Refusals.{unlessRefused}
 use Rattle.model.specs.Card.{cardRefusal, codeOf, offsetOf}
 use Rattle.model.specs.Order.{start}
-use Rattle.model.specs.Words.{millimetresOf}
+use Rattle.model.specs.Words.{wordBits, millimetresOf}
 use Rattle.model.specs.Answers.{summaryOf, cardAnswer, cardFigures, writeRefusal, writeAnswer, readingOf}
 use Rattle.model.specs.Answers.{readRefusal, readAnswer, readFigures}
+use Rattle.model.specs.Answers.{readingTold, levelsAnswered, levelsAnswer, levelsRefusal, levelsFigures, strengthFigures}
 use Rattle.model.specs.Answers.{startRefusal, startAnswer, millimetresRefusal, millimetresAnswer, voteRefusal, voteAnswer, voteFigures}
+use Rattle.model.specs.Levels.{toldAt, noStrength, strengthOf}
 use Rattle.model.specs.ReedMuller.{votedNumber, votedDistance}
 use Rattle.model.specs.Statuses.{ifServed, cardStatus, cardValues, writeStatus, writeValues}
 use Rattle.model.specs.Statuses.{readStatus, readValues, numberStatus, numberValues, millimetresStatus, millimetresValues}
-use Rattle.model.specs.Statuses.{voteStatus, voteValues}
+use Rattle.model.specs.Statuses.{levelsStatus, levelsValues, strengthValues, voteStatus, voteValues}
 use Rattle.model.specs.declared.CardAnswer.the-variants.{Sound, Refused as CardRefused}
 use Rattle.model.specs.declared.WriteAnswer.{WriteAnswer}
 use Rattle.model.specs.declared.WriteAnswer.the-variants.{Written, Refused as WriteRefused}
@@ -62,6 +65,25 @@ unfolding readAnswer readStatus readValues readFigures
 read-told card received =
     told readStatus readValues (readRefusal card received) (readFigures card received) ReadRefused (At (readingOf (codeOf card) received))
     (λ number. refl) (λ number. refl) refl refl
+
+pub levels-told : (card : List ℕ) (levels : List Float)
+    → Told levelsStatus levelsValues (levelsRefusal card levels) (levelsFigures card levels) (levelsAnswer card levels)
+unfolding levelsAnswer levelsAnswered readStatus readValues levelsFigures
+levels-told card levels =
+    told readStatus readValues (levelsRefusal card levels) (levelsFigures card levels) ReadRefused
+    (At (readingTold (codeOf card) (toldAt levels))) (λ number. refl) (λ number. refl) refl refl
+
+-- the strength of a word that is read
+pub strength-told : (card : List ℕ) (levels : List Float)
+    → strengthValues (levelsAnswer card levels) ≡ ifServed (levelsStatus (levelsAnswer card levels)) (strengthFigures card levels)
+unfolding strengthValues ifServed strengthFigures levelsAnswer levelsAnswered
+strength-told card levels =
+    let refusal = levelsRefusal card levels in
+    ⊎-elim
+    (λ (none : refusal ≡ 0).
+    rw (served-if-none refusal (λ refusal. noStrength) (strengthOf (toldAt levels) (wordBits (codeOf card))) none))
+    (λ (some : refusal ≡ 0 → ⊥). rw (levels-told card levels .0, ne-eqb refusal 0 some))
+    (eq-or-ne refusal 0)
 
 pub start-told : (card : List ℕ) (block : ℕ)
     → Told numberStatus numberValues (startRefusal card block) (start (codeOf card) block ∷ []) (startAnswer card block)

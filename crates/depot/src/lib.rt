@@ -1,8 +1,9 @@
-// The public calls. Each answers every input: a card's bytes may be any list of bytes, and a number any number of its type. A call
+// The public calls. Each answers every input: a card's bytes may be any list of bytes, levels any list of floats, and a number any number
+// of its type. A call
 // that is given a card checks it itself; one that isn't, as the one that makes a card, checks none. What an answer means is said by
 // the definitions that the contracts name: its status is the refusal's number in documents 01 and 02, or 0 where the call is served;
 // its values are those named, or none where it is refused. The call that makes a card answers the card's bytes instead, 512 zeros
-// where it is refused.
+// where it is refused; and beside the answer to a read of levels stands the strength, two zeros where it is refused.
 ghost use mathlib.Core.Path.{_≡_};
 ghost use mathlib.Core.Bool.{true, false};
 ghost use mathlib.Core.List.{[], _∷_};
@@ -13,20 +14,24 @@ ghost use Rattle.model.specs.Words.{millimetresOf};
 ghost use Rattle.model.specs.ReedMuller.{orderWithinLimits};
 ghost use Rattle.model.specs.Answers.{cardAnswer, writeAnswer, lentAfterWrite, readAnswer, startAnswer, millimetresAnswer};
 ghost use Rattle.model.specs.Answers.{cardFigures, writeRefusal, readRefusal, readFigures, startRefusal, millimetresRefusal};
+ghost use Rattle.model.specs.Answers.{levelsAnswer, levelsRefusal, levelsFigures, strengthFigures};
 ghost use Rattle.model.specs.Answers.{makeRefusal, makeAnswer, voteRefusal, voteAnswer, voteFigures};
 ghost use Rattle.model.specs.Statuses.{ifServed, cardStatus, cardValues, writeStatus, writeValues};
 ghost use Rattle.model.specs.Statuses.{readStatus, readValues, numberStatus, numberValues, millimetresStatus, millimetresValues};
-ghost use Rattle.model.specs.Statuses.{voteStatus, voteValues};
+ghost use Rattle.model.specs.Statuses.{levelsStatus, levelsValues, strengthValues, voteStatus, voteValues};
 ghost use Rattle.model.specs.declared.WriteAnswer.the-variants.{Written};
 ghost use Rattle.code_theory.specs.Offsets.{CheckedAsBefore, DistanceAsBefore};
 ghost use Rattle.position_theory.specs.Demands.{WrittenIfServable, UnchangedIfRefused, NeighboursDifferInOneBit, NoOtherPositionsWord};
 ghost use Rattle.position_theory.specs.Demands.{NearestOfAllowed, OffByAtMostTwiceTurned, OffByAtMostTurnedAndResidual};
 ghost use Rattle.position_theory.specs.ChunkBits.{TellsBitsOfChunks, NeededAsTurned};
+ghost use Rattle.level_theory.specs.LevelPromises.{ChunksReadBelowD, NearestOverHeard, TellsWrongOfChunks, AsPlainReading};
+ghost use Rattle.level_theory.specs.LevelPromises.{OffByAtMostTwiceWrongAndLost};
 ghost use Rattle.reed_muller_theory.specs.MadeCards.{IsReedMullerCard};
 ghost use Rattle.reed_muller_theory.specs.Votes.{KeepsPromise, AnswersAsSearch};
 use linear_code::decode;
 use model::CardAnswer;
 use model::Chunk;
+use model::LevelsAnswer;
 use model::MadeCard;
 use model::MillimetresAnswer;
 use model::NumberAnswer;
@@ -109,6 +114,32 @@ pub fn read_word(card: &[u8], word: &[u8]) -> ReadAnswer
         return ReadAnswer::Refused(decoded.refusal);
     }
     reading::read(decoded.code, word)
+}
+
+// Reads a word from a receiver that gives levels, negative for 1: what a plain read answers, over the bits that aren't lost, and beside the
+// answer the receiver's strength, the sum of the magnitudes and the greatest. A level that is zero, of either sign, is a lost bit. Refused:
+// the card, 1 to 5 or 14; not exactly d levels, 15; any of them not a number, infinite, or above 1,000,000 in magnitude, 16; and then 9 to
+// 12 as a plain word. The strength of a refused word is two zeros.
+// A code chunk reads as the codeword for which 2 × wrong + lost is below D, one at most (`chunks`, a law of the definition that the other
+// clauses name), and how many bits it needed is the count of its wrong places. Of d levels of 1 and -1 the answer is that of the plain reading of the word of these bits. Of d levels of 1, -1 and 0 that
+// have, against the word of any position on the track, 2 × wrong + lost below D in every chunk, the answer is a position, and it is at most
+// 2 × wrong + lost over the whole word off.
+pub fn read_levels(card: &[u8], levels: &[f32]) -> LevelsAnswer
+    ensures answer { λ r. ⌜ r ≡ levelsAnswer (now (card .entry)) (now (levels .entry)) ⌝ }
+    ensures status { λ r. ⌜ levelsStatus r ≡ levelsRefusal (now (card .entry)) (now (levels .entry)) ⌝ }
+    ensures values { λ r. ⌜ levelsValues r ≡ ifServed (levelsStatus r) (levelsFigures (now (card .entry)) (now (levels .entry))) ⌝ }
+    ensures strength { λ r. ⌜ strengthValues r ≡ ifServed (levelsStatus r) (strengthFigures (now (card .entry)) (now (levels .entry))) ⌝ }
+    ensures chunks { λ r. ⌜ ChunksReadBelowD (now (card .entry)) ⌝ }
+    ensures nearest { λ r. ⌜ NearestOverHeard (now (card .entry)) (now (levels .entry)) (r .answer) ⌝ }
+    ensures bits { λ r. ⌜ TellsWrongOfChunks (now (card .entry)) (now (levels .entry)) (r .answer) ⌝ }
+    ensures plain { λ r. ⌜ AsPlainReading (now (card .entry)) (now (levels .entry)) (r .answer) ⌝ }
+    ensures bounded { λ r. ⌜ OffByAtMostTwiceWrongAndLost (now (card .entry)) (now (levels .entry)) (r .answer) ⌝ }
+{
+    let decoded = decode::decode(card);
+    if decoded.refusal != 0 {
+        return level_reader::refused(decoded.refusal);
+    }
+    level_reader::read(decoded.code, levels)
 }
 
 // The position at which a block starts. Refused: the card, 1 to 5 or 14, or a block above 2^k - 1, 7.

@@ -1,5 +1,6 @@
 pub mod Lent
 pub mod OldCards
 pub mod ReadDemands
+pub mod LevelDemands
 pub mod MadeCards
 pub mod VotePromise

@@ -27,7 +27,7 @@ use Rattle.dunnavish.specs.Demands.{LeavesBits, LeavesBitsOfChunks, Leav
 use Rattle.dunnavish.proofs.Lent.{Crosses, wrong-count-changes-nothing, refusal-nonzero}
 
 -- where the count is right, an answer near a position is served, and leaves its values: a position as near, and its residual
-near-crosses : (lent : List ℕ) → length lent ≡ readCount → (answer : ReadAnswer) (status : ℕ) (left : List ℕ)
+pub near-crosses : (lent : List ℕ) → length lent ≡ readCount → (answer : ReadAnswer) (status : ℕ) (left : List ℕ)
     → status ≡ statusFor readCount lent (readStatus answer) → left ≡ leftBy status (readValues answer) lent
     → (position e : ℕ) → Near answer position e → ServedNear status left position e × (residualLeft left ≡ residualOf answer)
 unfolding statusFor leftBy readStatus readValues Near ServedNear residualOf

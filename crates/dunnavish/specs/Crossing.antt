@@ -1,5 +1,5 @@
 -- How an answer of the library crosses to a caller in C: its status, and its values in numbers that the caller lends, signed ones for a
--- distance. The status and the values of each answer are those of the model's Statuses.antt; of a made card they are its refusal and
+-- distance, floats for a strength. The status and the values of each answer are those of the model's Statuses.antt; of a made card they are its refusal and
 -- its bytes. Assumes nothing.
 use Prim.Native.Nat.{ℕ}
 use mathlib.Core.Path.{_≡_}
@@ -20,6 +20,10 @@ numberCount = 1
 
 abbrev pub voteCount : ℕ
 voteCount = 2
+
+-- how many floats the strength of a read of levels is
+abbrev pub strengthCount : ℕ
+strengthCount = 2
 
 -- how many bytes a card has: those that are lent for one to be made
 abbrev pub cardBytes : ℕ

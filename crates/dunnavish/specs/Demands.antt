@@ -1,26 +1,33 @@
 -- Demand 3 of the reading call for C, over its status and the five numbers that it leaves: position, residual, rule, and the bits that
 -- chunks 1 and 2 needed. The premises on card, position and word are those of the library's reading call; the caller lends five
--- numbers besides. And what the calls of document 02, P1, promise: a made card, and a vote; what P2 promises of old cards; and what P3
--- promises of the bits of a chunk. Assumes nothing.
+-- numbers besides. And what the calls of document 02, P1, promise: a made card, and a vote; what P2 promises of old cards; what P3
+-- promises of the bits of a chunk; and what P5 promises of a word of levels. Assumes nothing.
 use mathlib.Core.Path.{_≡_}
 use mathlib.Core.Bool.{Bool, true, false}
 use mathlib.Core.List.{List, [], _∷_, map}
 use Prim.Native.Nat.{ℕ, _+_, _*_, _^_, _≤_, _<_}
 use lib.IntN.{ℤ, pos}
+use lib.Ieee.{Float}
 use lib.ListN.{length, getD}
 use Rattle.bits.specs.Places.{bit, place}
 use Rattle.model.specs.Card.{Code, codeOf, SoundCard}
 use Rattle.model.specs.Order.{lastCodeword, lastPosition}
+use Rattle.model.specs.Words.{wordBits, wordBytes}
+use Rattle.model.specs.Answers.{readAnswer}
 use Rattle.model.specs.Reading.{chunkDistance, withinRadius, chunkReading}
 use Rattle.model.specs.ReedMuller.{reedMuller, reedMullerCard, orderWithinLimits}
-use Rattle.model.specs.Statuses.{chunkStatus, chunkValues, notRead, cardStatus, cardValues, numberStatus, numberValues}
+use Rattle.model.specs.Statuses.{chunkStatus, chunkValues, notRead, cardStatus, cardValues, readStatus, readValues}
+use Rattle.model.specs.Statuses.{numberStatus, numberValues}
 use Rattle.model.specs.declared.Chunk.{Chunk}
 use Rattle.model.specs.declared.NumberAnswer.{NumberAnswer}
+use Rattle.model.specs.declared.ReadAnswer.{ReadAnswer}
 use Rattle.code_theory.specs.Offsets.{OldCard, oldCardAnswer, oldMillimetresAnswer}
-use Rattle.position_theory.specs.Damage.{WithinRadius, turned}
+use Rattle.position_theory.specs.Damage.{WithinRadius, turned, ChunksBelowD, wrongInAll, lostInAll}
 use Rattle.position_theory.specs.ChunkBits.{CountsDiffering, BitsOfChunks, AreTurned}
+use Rattle.level_theory.specs.UnitLevels.{OneLevels, UnitLevels}
+use Rattle.level_theory.specs.LevelPromises.{heardOf, bitsOf, wordOfBits}
 use Rattle.reed_muller_theory.specs.MadeCards.{IsReedMullerCard}
-use Rattle.dunnavish.specs.Crossing.{cardBytes, cardCount, numberCount, readCount, voteCount, leftBy}
+use Rattle.dunnavish.specs.Crossing.{cardBytes, cardCount, numberCount, readCount, strengthCount, voteCount, leftBy}
 
 -- the position, the residual, the rule and the bits of either code chunk among the numbers that a read leaves
 abbrev pub positionLeft : (left : List ℕ) → ℕ
@@ -57,6 +64,29 @@ ServedWithinTurnedAndResidual card received lent status left =
     length lent ≡ readCount → (position : ℕ) → SoundCard card → position ≤ lastPosition (codeOf card)
     → WithinRadius (codeOf card) position received
     → ServedNear status left position (turned (codeOf card) position received + residualLeft left)
+
+-- Document 02, P5, where five numbers and two floats are lent: for a sound card, every position on its track and d levels of 1, -1 and 0
+-- that have, against that position's word, 2 × wrong + lost below D in every chunk: the status is 0, and the position left is no further
+-- off than 2 × wrong + lost over the whole word
+unfoldable pub ServedWithinTwiceWrongAndLost : (card : List ℕ) (levels : List Float) (lent : List ℕ) (lentStrength : List Float) (status : ℕ)
+    (left : List ℕ) → Type 0
+ServedWithinTwiceWrongAndLost card levels lent lentStrength status left =
+    let C : Code = codeOf card in
+    length lent ≡ readCount → length lentStrength ≡ strengthCount → (position : ℕ) → SoundCard card → position ≤ lastPosition C
+    → length levels ≡ wordBits C → UnitLevels levels (wordBits C)
+    → ChunksBelowD C (heardOf levels) (place (wordBytes C position)) (bitsOf levels)
+    → ServedNear status left position
+    (2 * wrongInAll C (heardOf levels) (place (wordBytes C position)) (bitsOf levels) + lostInAll C (heardOf levels))
+
+-- Document 02, P5, where five numbers and two floats are lent: of d levels of 1 and -1 the status and the numbers left are those of the
+-- plain reading of the word of these bits
+unfoldable pub LeavesAsPlain : (card : List ℕ) (levels : List Float) (lent : List ℕ) (lentStrength : List Float) (status : ℕ) (left : List ℕ)
+    → Type 0
+LeavesAsPlain card levels lent lentStrength status left =
+    length lent ≡ readCount → length lentStrength ≡ strengthCount → length levels ≡ wordBits (codeOf card)
+    → OneLevels levels (wordBits (codeOf card))
+    → let answer : ReadAnswer = readAnswer card (wordOfBits card levels) in
+    (status ≡ readStatus answer) × (left ≡ leftBy status (readValues answer) lent)
 
 -- Document 02, P1, where 512 bytes are lent: for every r and m within the limits the status is 0, and the bytes left are the card of the
 -- Reed-Muller code for the track

@@ -1,24 +1,29 @@
 // The library's calls for programs in C, Rust and other languages: numbers and slices alone, no state, no `requires`. Each returns a
-// status, 0 or the refusal's number, and puts the values of its answer into numbers that the caller lends, signed ones for a distance,
-// or a made card's bytes into lent bytes. Lent numbers that are not exactly as many as the answer has values, or a lent card that has
+// status, 0 or the refusal's number, and puts the values of its answer into numbers that the caller lends, signed ones for a distance and
+// floats for a strength, or a made card's bytes into lent bytes. Lent numbers that are not exactly as many as the answer has values, or a lent card that has
 // not 512 bytes, are answered 100, before anything else is looked at. Whenever the status is not 0, nothing that was lent has changed.
 // include/dunnavish.h says the same to a programmer in C.
 ghost use mathlib.Core.Path.{_≡_};
 ghost use lib.ListN.{length};
 ghost use Rattle.model.specs.Answers.{cardAnswer, writeAnswer, lentAfterWrite, readAnswer, startAnswer, millimetresAnswer};
-ghost use Rattle.model.specs.Answers.{makeRefusal, makeAnswer, voteAnswer};
+ghost use Rattle.model.specs.Answers.{levelsAnswer, makeRefusal, makeAnswer, voteAnswer};
 ghost use Rattle.model.specs.Statuses.{cardStatus, cardValues, writeStatus, bitsValue, readStatus, readValues, numberStatus, numberValues};
+ghost use Rattle.model.specs.Statuses.{levelsStatus, levelsValues, strengthValues};
 ghost use Rattle.model.specs.Statuses.{millimetresStatus, millimetresValues, voteStatus, voteValues};
-ghost use Rattle.dunnavish.specs.Crossing.{cardCount, readCount, numberCount, voteCount, cardBytes, statusFor, leftBy, UnchangedUnlessZero};
+ghost use Rattle.model.specs.declared.ReadAnswer.the-variants.{At};
+ghost use Rattle.dunnavish.specs.Crossing.{cardCount, readCount, strengthCount, numberCount, voteCount, cardBytes};
+ghost use Rattle.dunnavish.specs.Crossing.{statusFor, leftBy, UnchangedUnlessZero};
 ghost use Rattle.dunnavish.specs.Demands.{CheckLeftAsBefore, DistanceLeftAsBefore};
 ghost use Rattle.dunnavish.specs.Demands.{ServedWithinTwiceTurned, ServedWithinTurnedAndResidual};
 ghost use Rattle.dunnavish.specs.Demands.{LeavesBitsOfChunks, LeavesBitsTurned};
+ghost use Rattle.dunnavish.specs.Demands.{ServedWithinTwiceWrongAndLost, LeavesAsPlain};
 ghost use Rattle.dunnavish.specs.Demands.{MadeWithinLimits, VotedAsPromised, VotedAsSearch};
 use model::CardAnswer;
 use model::ChunkBits;
 use model::MillimetresAnswer;
 use model::NumberAnswer;
 use model::ReadAnswer;
+use model::Reading;
 use model::VoteAnswer;
 use model::WriteAnswer;
 
@@ -80,6 +85,22 @@ fn bits_value(bits: ChunkBits) -> u32
     }
 }
 
+// The values of a word that is read into five lent numbers.
+fn put_reading(read: Reading, values: &mut [u32])
+    requires { ⌜ length (now values) ≡ readCount ⌝ }
+    ensures { λ _. ⌜ now (values .exit) ≡ readValues (At read) ⌝ }
+{
+    let chunk1 = read.chunk1;
+    let chunk2 = read.chunk2;
+    let bits1 = bits_value(chunk1);
+    let bits2 = bits_value(chunk2);
+    values[0] = read.position;
+    values[1] = read.residual;
+    values[2] = read.rule;
+    values[3] = bits1;
+    values[4] = bits2;
+}
+
 // Reads a received word: position, residual, rule, and the bits that chunk 1 and chunk 2 needed, into five numbers. Of the word of any
 // position on the track, with at most t bits turned in each chunk, the status is 0 where five numbers are lent, and the position put
 // into the first of them is at most twice as many steps off as bits are turned, and at most as many as bits are turned and the
@@ -103,15 +124,47 @@ pub extern "C" fn dunnavish_read_word(card: &[u8], word: &[u8], values: &mut [u3
     match answer {
         ReadAnswer::Refused(refusal) => refusal,
         ReadAnswer::At(read) => {
-            let chunk1 = read.chunk1;
-            let chunk2 = read.chunk2;
-            let bits1 = bits_value(chunk1);
-            let bits2 = bits_value(chunk2);
-            values[0] = read.position;
-            values[1] = read.residual;
-            values[2] = read.rule;
-            values[3] = bits1;
-            values[4] = bits2;
+            put_reading(read, values);
+            0
+        }
+    }
+}
+
+// Reads a word of levels: the numbers of a plain read, over the bits that aren't lost, into five numbers, and the receiver's strength, the
+// sum of the magnitudes and the greatest, into two floats. Of d levels of 1 and -1 the status and the five numbers are those of the plain
+// read of the word of these bits. Of d levels of 1, -1 and 0 that have, against the word of any position on the track, 2 × wrong + lost
+// below D in every chunk, the status is 0 where five numbers and two floats are lent, and the position put into the first number is at most
+// 2 × wrong + lost over the whole word off.
+#[no_mangle]
+pub extern "C" fn dunnavish_read_levels(
+    card: &[u8],
+    levels: &[f32],
+    values: &mut [u32],
+    strength: &mut [f32],
+) -> u32
+    ensures status { λ r. ⌜ r ≡ statusFor readCount (now (values .entry)) (statusFor strengthCount (now (strength .entry)) (levelsStatus (levelsAnswer (now (card .entry)) (now (levels .entry))))) ⌝ }
+    ensures left { λ r. ⌜ now (values .exit) ≡ leftBy r (levelsValues (levelsAnswer (now (card .entry)) (now (levels .entry)))) (now (values .entry)) ⌝ }
+    ensures strength_left { λ r. ⌜ now (strength .exit) ≡ leftBy r (strengthValues (levelsAnswer (now (card .entry)) (now (levels .entry)))) (now (strength .entry)) ⌝ }
+    ensures unchanged { λ r. ⌜ UnchangedUnlessZero (now (values .entry)) r (now (values .exit)) ⌝ }
+    ensures strength_unchanged { λ r. ⌜ UnchangedUnlessZero (now (strength .entry)) r (now (strength .exit)) ⌝ }
+    ensures plain { λ r. ⌜ LeavesAsPlain (now (card .entry)) (now (levels .entry)) (now (values .entry)) (now (strength .entry)) r (now (values .exit)) ⌝ }
+    ensures bounded { λ r. ⌜ ServedWithinTwiceWrongAndLost (now (card .entry)) (now (levels .entry)) (now (values .entry)) (now (strength .entry)) r (now (values .exit)) ⌝ }
+{
+    if values.len() != 5 {
+        return WRONG_COUNT;
+    }
+    if strength.len() != 2 {
+        return WRONG_COUNT;
+    }
+    let levels_answer = depot::read_levels(card, levels);
+    let answer = levels_answer.answer;
+    let kept = levels_answer.strength;
+    match answer {
+        ReadAnswer::Refused(refusal_of_levels) => refusal_of_levels,
+        ReadAnswer::At(read) => {
+            put_reading(read, values);
+            strength[0] = kept.sum;
+            strength[1] = kept.greatest;
             0
         }
     }

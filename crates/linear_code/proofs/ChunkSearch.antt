@@ -1,25 +1,20 @@
--- The search for a chunk's codeword: what holds as it stands at codeword i, that a codeword that is too far is passed, and
+-- The search for the first codeword near to x: what holds as it stands at codeword i, that a codeword that is too far is passed, and
 -- what the two ways out of the search have found. The places in which codeword and chunk differ are the ones of their
 -- exclusive-or, and these are met one after the other. Assumes nothing.
-use mathlib.Core.Path.{_≡_, sym, ap, fun-ext, _∙_}
+use mathlib.Core.Path.{_≡_, sym, ap, _∙_}
 use mathlib.Core.Bool.{Bool, true, false}
 use mathlib.Core.Logic.{⊎-elim}
 use Prim.Native.Nat.{ℕ, _+_, _-_, _^_, _≤_, _<_}
 use native.Mathlib.Omega.{arith}
 use lib.Bits.{bitAnd, bitXor, xor-comm, xor-zero-l}
 use lib.Count.{trailingZeros, ones}
-use lib.Dec.{leb}
-use Rattle.bits.specs.Places.{bit}
-use Rattle.bits.proofs.Binary.{xor-assoc, ones-xor}
+use Rattle.bits.proofs.Binary.{xor-assoc}
 use Rattle.bits.proofs.LowestOne.{one-fewer}
 use Rattle.bits.proofs.Numbers.{eq-or-ne}
-use Rattle.model.specs.Card.{Code, sumOfRows, radius}
-use Rattle.model.specs.Order.{gray, codeword}
-use Rattle.model.specs.Reading.{chunkDistance, withinRadius, readFirst, chunkReading}
+use Rattle.model.specs.Reading.{readFirst}
 use Rattle.model.specs.declared.Chunk.the-variants.{Codeword, Unreadable}
-use Rattle.code_theory.specs.Promise.{Sound}
-use Rattle.code_theory.proofs.LeastDistance.{codeword-narrow}
 use Rattle.code_theory.proofs.ChunkReading.{reading-first, reading-passed}
+use Rattle.linear_code.specs.FirstWithin.{unlikeBits}
 use Rattle.linear_code.proofs.GrayStep.{AtSet, set-start, set-next}
 
 -- ---- the bits of one codeword
@@ -85,23 +80,7 @@ module _ (k : ℕ) (row : ℕ → ℕ) (x : ℕ) (near : ℕ → Bool) where
     search-failed count done here =
         sym (reading-passed near count (2 ^ k) (λ j b. passed-too here j (omega (arith, stand .at .end))))
 
--- ---- the count and the test of this search: the ones of codeword j and the chunk x, joined by exclusive-or, and a limit of them
-
-abbrev pub unlikeBits : (k : ℕ) (row : ℕ → ℕ) (x j : ℕ) → ℕ
-unlikeBits k row x j = ones (bitXor (sumOfRows row k (gray j)) x)
-
-abbrev pub nearBits : (k : ℕ) (row : ℕ → ℕ) (x limit j : ℕ) → Bool
-nearBits k row x limit j = leb (unlikeBits k row x j) limit
-
+-- the ones of `apart` are the count of this search
 pub bits-apart : {k x last apart i : ℕ} {row : ℕ → ℕ} {near : ℕ → Bool} → AtCandidate k row x near last apart i
     → ones apart ≡ unlikeBits k row x i
 bits-apart stand = rw (stand .differ, stand .at .current)
-
--- codeword and chunk are numbers of n places, so it counts the places in which they differ, and the search reads the chunk
-pub search-reads : (C : Code) → Sound C → (x : ℕ) → x < 2 ^ C .n → (t : ℕ) → t ≡ radius C
-    → readFirst (nearBits (C .k) (C .row) x t) (unlikeBits (C .k) (C .row) x) (2 ^ C .k) ≡ chunkReading C (bit x)
-unfolding chunkReading withinRadius chunkDistance codeword
-search-reads C sound x fits t is-radius =
-    rw is-radius
-    (ap (λ (far : ℕ → ℕ). readFirst (λ j. leb (far j) (radius C)) far (2 ^ C .k))
-    (fun-ext (λ j. ones-xor (C .n) (codeword C j) x (codeword-narrow C sound j) fits)))

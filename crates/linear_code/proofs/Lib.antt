@@ -8,3 +8,4 @@ pub mod LowSums
 pub mod LeastOf
 pub mod LeastWeightLoop
 pub mod ChunkSearch
+pub mod HeardSearch

@@ -1,1 +1,2 @@
 pub mod DecodedFrom
+pub mod FirstWithin

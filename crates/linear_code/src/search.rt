@@ -1,12 +1,17 @@
 // Reading a code chunk by search.
 ghost use mathlib.Core.Path.{_≡_};
-ghost use Prim.Native.Nat.{_^_, _<_};
+ghost use Prim.Native.Nat.{ℕ, _-_, _^_, _≤_, _<_};
+ghost use lib.Bits.{bitAnd};
+ghost use lib.ListN.{getD};
+ghost use Rattle.bits.specs.Sums.{marked};
 ghost use Rattle.bits.specs.Places.{bit};
 ghost use Rattle.model.specs.Card.{radius};
 ghost use Rattle.model.specs.Decoded.{meaning};
 ghost use Rattle.model.specs.Statuses.{ifServed, chunkStatus, chunkValues};
 ghost use Rattle.model.specs.Reading.{chunkReading, chunkRefusal, chunkFigures};
+ghost use Rattle.model.specs.Levels.{heardReading};
 ghost use Rattle.code_theory.specs.Promise.{Sound};
+ghost use Rattle.linear_code.specs.FirstWithin.{firstWithin};
 use super::powers;
 use model::Chunk;
 use model::DecodedCode;
@@ -19,22 +24,32 @@ pub fn radius_of(code: DecodedCode) -> u32
     (code.distance - 1) / 2
 }
 
-// The codeword within the radius of the chunk `x`, with the count of places in which the two differ: the status is 0, and the
-// values are the codeword's number and the count; the status is 10 where there is no such codeword.
-// Document 01 names the form: nested loops, over codewords and, inside, over bits. A label leaves the bit loop once the radius
-// is passed, and the loop over codewords yields its value by `break`. What is kept of codeword i is `apart`, the places in which
-// it and the chunk differ: from one codeword to the next they change by one row. The bits met are those: each turn counts one
-// and, unless the radius is passed, clears the lowest that is left. The count that is answered is the number of ones of `apart`, taken
-// once the codeword is found: where the bit loop's own count is not kept, each of its turns is compiled to one instruction fewer.
-pub fn read_chunk(code: DecodedCode, x: u64) -> Chunk
-    requires { ⌜ Sound (meaning code) × (x < 2 ^ code .n) ⌝ }
-    ensures answer { λ r. ⌜ r ≡ chunkReading (meaning code) (bit x) ⌝ }
-    ensures status { λ r. ⌜ chunkStatus r ≡ chunkRefusal (meaning code) (bit x) ⌝ }
-    ensures values { λ r. ⌜ chunkValues r ≡ ifServed (chunkStatus r) (chunkFigures (meaning code) (bit x)) ⌝ }
+// The rows of a code at the places that are heard, and 0 at the others.
+fn heard_rows(code: DecodedCode, heard: u64) -> [u64; 12]
+    requires { ⌜ code .k ≤ 12 ⌝ }
+    ensures { λ r. ⌜ ((z : ℕ) → z < code .k → getD r z 0 ≡ bitAnd (getD (code .rows) z 0) heard) ⌝ }
 {
-    let k = code.k;
-    let rows = code.rows;
-    let radius = radius_of(code);
+    let k = code.k as usize;
+    let mut rows: [u64; 12] = [0; 12];
+    let mut z: usize = 0;
+    while z < k {
+        rows[z] = code.rows[z] & heard;
+        z += 1;
+    }
+    rows
+}
+
+// The first codeword that differs from `x` in at most `limit` places, with the count of these places; the codewords are the sums of the
+// first k of these rows, in their order.
+// Document 01 names the form: nested loops, over codewords and, inside, over bits. A label leaves the bit loop once the limit
+// is passed, and the loop over codewords yields its value by `break`. What is kept of codeword i is `apart`, the places in which
+// it and x differ: from one codeword to the next they change by one row. The bits met are those: each turn counts one
+// and, unless the limit is passed, clears the lowest that is left. The count that is answered is the number of ones of `apart`, taken
+// once the codeword is found: where the bit loop's own count is not kept, each of its turns is compiled to one instruction fewer.
+fn search(k: u32, rows: [u64; 12], x: u64, limit: u32) -> Chunk
+    requires { ⌜ (k ≤ 12) × (limit ≤ 64) ⌝ }
+    ensures { λ r. ⌜ r ≡ firstWithin k rows x limit ⌝ }
+{
     let size = powers::two_to(k);
     let mut apart = x;
     let mut i: u32 = 0;
@@ -43,12 +58,12 @@ pub fn read_chunk(code: DecodedCode, x: u64) -> Chunk
         let mut unlike: u32 = 0;
         'bits: while rest != 0 {
             unlike += 1;
-            if radius < unlike {
+            if limit < unlike {
                 break 'bits;
             }
             rest &= rest - 1;
         }
-        if unlike <= radius {
+        if unlike <= limit {
             let bits = u64::count_ones(apart);
             break Chunk::Codeword {
                 number: i,
@@ -63,4 +78,24 @@ pub fn read_chunk(code: DecodedCode, x: u64) -> Chunk
         apart ^= rows[z];
     };
     found
+}
+
+// What the chunk `x` reads as, of which the places marked in `heard` are heard: the codeword for which 2 × wrong + lost is below D, with
+// the count of wrong places. Rows and chunk are cut to the places that are heard, so that the search counts wrong places alone; and its
+// limit is the most that may be wrong. Of a plain chunk, all of which is heard, this is the codeword within the radius, with the count of
+// places in which the two differ: the status is 0, and the values are the codeword's number and the count; the status is 10 where
+// there is no such codeword.
+pub fn read_chunk(code: DecodedCode, x: u64, heard: u64) -> Chunk
+    requires { ⌜ Sound (meaning code) × (x < 2 ^ code .n) × (heard < 2 ^ code .n) ⌝ }
+    ensures heard { λ r. ⌜ r ≡ heardReading (meaning code) (marked (bit heard)) (bit x) ⌝ }
+    ensures answer { λ r. ⌜ (heard ≡ 2 ^ code .n - 1 → r ≡ chunkReading (meaning code) (bit x)) ⌝ }
+    ensures status { λ r. ⌜ (heard ≡ 2 ^ code .n - 1 → chunkStatus r ≡ chunkRefusal (meaning code) (bit x)) ⌝ }
+    ensures values { λ r. ⌜ (heard ≡ 2 ^ code .n - 1 → chunkValues r ≡ ifServed (chunkStatus r) (chunkFigures (meaning code) (bit x))) ⌝ }
+{
+    let lost = code.n - u64::count_ones(heard);
+    if code.distance <= lost {
+        return Chunk::Unreadable;
+    }
+    let limit = (code.distance - 1 - lost) / 2;
+    search(code.k, heard_rows(code, heard), x & heard, limit)
 }

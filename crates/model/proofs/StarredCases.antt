@@ -1,7 +1,9 @@
 -- The definitions answer every case of the table as the documents say: computed, all at once. Assumes nothing.
 use mathlib.Core.Path.{_≡_, refl}
 use mathlib.Core.List.{map}
-use Rattle.bits.specs.Sums.{sumBelow, sumOver, distance, joinAt}
+use lib.Ieee.{span, climb, size, odd, units, round as roundFloat, neg, sum, add, lt, eq, isNan, ofInt, ofFields, ofBits, toBits}
+use lib.Count.{trailingZeros}
+use Rattle.bits.specs.Sums.{sumBelow, sumOver, distance, distanceHeard, lostBelow, joinAt}
 use Rattle.bits.specs.Walk.{walk}
 use Rattle.bits.specs.Places.{weight, place, cut, byteOf, listOf, pack, differingBits}
 use Rattle.bits.specs.Searches.{anyBelow, firstFrom, first, leastAt, greatest}
@@ -15,16 +17,21 @@ use Rattle.model.specs.Reading.{majority, chunkDistance, withinRadius, r
 use Rattle.model.specs.Reading.{ruleOf, numberBy, twoEnds, rowsSeen, ruleNamed, rowsOf, allowed, residual, nearestIn, bitsNeeded, nearest}
 use Rattle.model.specs.Answers.{summaryOf, cardAnswer, writeRefusal, writeAnswer, lentAfterWrite}
 use Rattle.model.specs.Answers.{spareSet, rowsOfWord, readRefusal, readAnswer, millimetresRefusal, millimetresAnswer}
+use Rattle.model.specs.Levels.{magnitude, infinite, outside, anyOutside, told, toldAt, isHeard, bitTold, plusLevel, sumOfLevels}
+use Rattle.model.specs.Levels.{separatorReading, chunkWrong, withinLosses, heardReading, seenTold, residualHeard, withLevel, strengthOf}
+use Rattle.model.specs.Answers.{rowsOfLevels, levelsAnswered, levelsRefusal, levelsAnswer}
 use Rattle.model.specs.Answers.{makeRefusal, makeAnswer, voteRefusal, voteAnswer}
 use Rattle.model.specs.ReedMuller.{product, those, setsOf, setsUpTo, countOfSets, productRow, productOf, reedMullerCard, orderWithinLimits}
 use Rattle.model.specs.ReedMuller.{classSum, classes, votesForOne, coefficient, round, afterRounds, voted, votedRows, votedNumber}
 use Rattle.model.specs.ReedMuller.{votedDistance, votedWithin}
 use Rattle.model.specs.Statuses.{cardStatus, cardValues, writeStatus, writeValues, bitsValue, readStatus, readValues}
+use Rattle.model.specs.Statuses.{ifServed, strengthValues}
 use Rattle.model.specs.Statuses.{millimetresStatus, millimetresValues, voteStatus, voteValues}
 use Rattle.model.specs.Cases.{Case, cardA, cardB, cardBFrom100, numbersOf, codewordPlaces, answerTo, starredCases}
 
 pub starred-cases : map (λ (c : Case). answerTo (c .question)) starredCases ≡ map (λ (c : Case). c .answer) starredCases
-unfolding sumBelow sumOver distance joinAt
+unfolding sumBelow sumOver distance distanceHeard lostBelow joinAt
+    span climb size odd units roundFloat neg sum add lt eq isNan ofInt ofFields ofBits toBits trailingZeros
     walk
     weight place cut byteOf listOf pack differingBits
     anyBelow firstFrom first leastAt greatest
@@ -33,6 +40,9 @@ unfolding sumBelow sumOver distance joinAt
     gray lastCodeword codeword changedRow changedWeight start lastPosition sumAfterRow sumBeforeRow
     fiveChunks word blockOf wordAt wordBytes millimetresOf
     majority chunkDistance withinRadius readFirst chunkReading unreadable numberRead seen
+    magnitude infinite outside anyOutside told toldAt isHeard bitTold plusLevel sumOfLevels
+    separatorReading chunkWrong withinLosses heardReading seenTold residualHeard withLevel strengthOf
+    rowsOfLevels levelsAnswered levelsRefusal levelsAnswer ifServed strengthValues
     ruleOf numberBy twoEnds rowsSeen ruleNamed rowsOf allowed residual nearestIn bitsNeeded nearest
     summaryOf cardAnswer writeRefusal writeAnswer lentAfterWrite spareSet rowsOfWord readRefusal readAnswer millimetresRefusal millimetresAnswer
     makeRefusal makeAnswer voteRefusal voteAnswer

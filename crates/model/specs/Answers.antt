@@ -6,6 +6,7 @@ use mathlib.Core.Bool.{Bool, not}
 use mathlib.Core.List.{List, [], _∷_}
 use Prim.Native.Nat.{ℕ, _+_, _-_, _*_, _^_}
 use lib.Dec.{leb, ltb, eqb}
+use lib.Ieee.{Float}
 use lib.ListN.{length, replicate}
 use Rattle.bits.specs.Places.{bit, bytesFor, place}
 use Rattle.bits.specs.Searches.{anyBelow}
@@ -13,7 +14,8 @@ use Rattle.model.specs.Refusals.{Row, refuses, refusedAs, firstRefusal, 
 use Rattle.model.specs.Card.{Code, cardRefusal, codeOf, offsetOf, radius, trackOf}
 use Rattle.model.specs.Order.{lastCodeword, lastPosition, start}
 use Rattle.model.specs.Words.{wordBits, wordBytes, millimetresOf}
-use Rattle.model.specs.Reading.{seen, ruleNamed, rowsOf, allowed, residual, nearest}
+use Rattle.model.specs.Reading.{Seen, seen, ruleSeen, twoEnds, rowsSeen, rangeSeen, ruleNamed, rowsOf, allowed, residual, nearest}
+use Rattle.model.specs.Levels.{anyOutside, toldAt, heardIn, bitsIn, seenTold, residualHeard, noStrength, strengthOf}
 use Rattle.model.specs.ReedMuller.{reedMullerCard, orderWithinLimits, votedNumber, votedDistance, votedWithin}
 use Rattle.model.specs.Statuses.{bitsValue}
 use Rattle.model.specs.declared.Reading.{Reading}
@@ -24,6 +26,9 @@ use Rattle.model.specs.declared.WriteAnswer.{WriteAnswer}
 use Rattle.model.specs.declared.WriteAnswer.the-variants.{Written, Refused as WriteRefused}
 use Rattle.model.specs.declared.ReadAnswer.{ReadAnswer}
 use Rattle.model.specs.declared.ReadAnswer.the-variants.{At, Refused as ReadRefused}
+use Rattle.model.specs.declared.Told.{Told}
+use Rattle.model.specs.declared.Strength.{Strength}
+use Rattle.model.specs.declared.LevelsAnswer.{LevelsAnswer}
 use Rattle.model.specs.declared.NumberAnswer.{NumberAnswer}
 use Rattle.model.specs.declared.NumberAnswer.the-variants.{Number, Refused as NumberRefused}
 use Rattle.model.specs.declared.MillimetresAnswer.{MillimetresAnswer}
@@ -111,6 +116,52 @@ unfoldable pub readFigures : (card received : List ℕ) → List ℕ
 readFigures card received =
     let r : Reading = readingOf (codeOf card) received in
     r .position ∷ r .residual ∷ r .rule ∷ bitsValue (r .chunk1) ∷ bitsValue (r .chunk2) ∷ []
+
+-- read levels: the rows of what is seen of a word of told bits, and the position nearest to it over bits that aren't lost
+abbrev pub rowsTold : Code → (word : ℕ → Told) → List Row
+rowsTold C word = let s : Seen = seenTold C word in rowsSeen (twoEnds C) s (ruleSeen s)
+
+abbrev pub readingTold : Code → (word : ℕ → Told) → Reading
+readingTold C word =
+    let s : Seen = seenTold C word in
+    nearest (residualHeard C (heardIn word) (bitsIn word)) s (ruleSeen s) (rangeSeen (twoEnds C) s (ruleSeen s))
+
+-- read levels: the rows of a list of levels, once its card is sound: 15 in the place of 6, and 16 in the place of 8
+unfoldable pub rowsOfLevels : Code → (levels : List Float) → List Row
+rowsOfLevels C levels =
+    refuses 15 (not (eqb (length levels) (wordBits C)))
+    ∷ refuses 16 (anyOutside (wordBits C) levels)
+    ∷ rowsTold C (toldAt levels)
+
+-- what is answered of levels whose refusal has this number: the refusal, with no strength; or the reading, with the strength of all levels
+unfoldable pub levelsAnswered : Code → (levels : List Float) (refusal : ℕ) → LevelsAnswer
+levelsAnswered C levels refusal =
+    record {
+      answer = unlessRefused refusal ReadRefused (At (readingTold C (toldAt levels)));
+      strength = unlessRefused refusal (λ refusal. noStrength) (strengthOf (toldAt levels) (wordBits C));
+    }
+
+-- read levels, for the code of a sound card
+unfoldable pub readLevels : Code → (levels : List Float) → LevelsAnswer
+readLevels C levels = levelsAnswered C levels (firstRefusal (rowsOfLevels C levels))
+
+-- read levels: the refusal's number, or 0 where the word is read
+unfoldable pub levelsRefusal : (card : List ℕ) (levels : List Float) → ℕ
+levelsRefusal card levels = firstRefusal (refusedAs (cardRefusal card) ∷ rowsOfLevels (codeOf card) levels)
+
+-- read levels: the answer
+unfoldable pub levelsAnswer : (card : List ℕ) (levels : List Float) → LevelsAnswer
+levelsAnswer card levels = levelsAnswered (codeOf card) levels (levelsRefusal card levels)
+
+-- the values of a word of levels that is read, as those of a plain word; and beside them the strength's two floats
+unfoldable pub levelsFigures : (card : List ℕ) (levels : List Float) → List ℕ
+levelsFigures card levels =
+    let r : Reading = readingTold (codeOf card) (toldAt levels) in
+    r .position ∷ r .residual ∷ r .rule ∷ bitsValue (r .chunk1) ∷ bitsValue (r .chunk2) ∷ []
+
+unfoldable pub strengthFigures : (card : List ℕ) (levels : List Float) → List Float
+strengthFigures card levels =
+    let s : Strength = strengthOf (toldAt levels) (wordBits (codeOf card)) in s .sum ∷ s .greatest ∷ []
 
 -- block start: the refusal's number, or 0
 unfoldable pub startRefusal : (card : List ℕ) (block : ℕ) → ℕ

@@ -1,9 +1,10 @@
 -- Document 01, "Two cards to try": every case marked *, and with them the cards' figures and the refused cards and words that it
--- names; and the borders of document 02's P1 to P4. One table of questions and answers, whose numbers are signed, since a distance
+-- names; and the borders of document 02's P1 to P5. One table of questions and answers, whose numbers are signed, since a distance
 -- may be below zero. That the definitions answer so is one theorem, `starred-cases`. Assumes nothing.
 use mathlib.Core.List.{List, [], _∷_, _++_, map}
 use Prim.Native.Nat.{ℕ, zero, suc, _-_}
 use lib.IntN.{ℤ, pos, negℤ}
+use lib.Ieee.{binary32, ofBits, toBits}
 use lib.ListN.{length, getD, replicate}
 use Rattle.bits.specs.Sums.{sumBelow}
 use Rattle.bits.specs.Places.{bit, place, listOf, differingBits}
@@ -11,9 +12,11 @@ use Rattle.model.specs.Card.{Code, rowOf, offsetOf, storedCheck, codeOf}
 use Rattle.model.specs.CardBytes.{cardEnding, cardOf}
 use Rattle.model.specs.Order.{codeword, lastPosition, start, rowShare, sumAfterRow, sumBeforeRow}
 use Rattle.model.specs.Words.{separator₁, separator₂, separator₃, wordBytes, millimetresOf}
-use Rattle.model.specs.Answers.{cardAnswer, writeAnswer, lentAfterWrite, readAnswer, millimetresAnswer, makeAnswer, voteAnswer}
+use Rattle.model.specs.Answers.{cardAnswer, writeAnswer, lentAfterWrite, readAnswer, levelsAnswer, millimetresAnswer, makeAnswer, voteAnswer}
 use Rattle.model.specs.Statuses.{cardStatus, cardValues, writeStatus, writeValues, readStatus, readValues}
+use Rattle.model.specs.Statuses.{levelsStatus, levelsValues, strengthValues}
 use Rattle.model.specs.Statuses.{millimetresStatus, millimetresValues, voteStatus, voteValues}
+use Rattle.model.specs.declared.LevelsAnswer.{LevelsAnswer}
 use Rattle.model.specs.declared.MillimetresAnswer.{MillimetresAnswer}
 use Rattle.model.specs.declared.MadeCard.{MadeCard}
 
@@ -76,6 +79,8 @@ pub data Question : Type 0 where
   write : (card : List ℕ) (position : ℕ) (lent : List ℕ) → Question
   -- the answer to a read
   read : (card received : List ℕ) → Question
+  -- the answer to a read of levels, given as bit patterns, and after its values the bit patterns of the strength
+  levels : (card patterns : List ℕ) → Question
   -- in how many bits the position's word and the received word differ
   bitsUnlike : (card : List ℕ) (position : ℕ) (received : List ℕ) → Question
   -- how many bits of each separator are 1
@@ -114,6 +119,9 @@ answerTo (rowSums card i) = naturals (sumBeforeRow (codeOf card) i 0 ∷ listOf 
 answerTo (write card position lent) =
     naturals (numbersOf writeStatus writeValues (writeAnswer card position lent) ++ lentAfterWrite card position lent)
 answerTo (read card received) = naturals (numbersOf readStatus readValues (readAnswer card received))
+answerTo (levels card patterns) =
+    let answer : LevelsAnswer = levelsAnswer card (map (ofBits binary32) patterns) in
+    naturals (numbersOf levelsStatus levelsValues answer ++ map (toBits binary32) (strengthValues answer))
 answerTo (bitsUnlike card position received) = naturals (differingBits (wordBytes (codeOf card) position) received ∷ [])
 answerTo (onesOfSeparators card received) =
     let C : Code = codeOf card in
@@ -127,6 +135,48 @@ answerTo (made track r m rows) =
     let card : MadeCard = makeAnswer track r m in
     naturals (card .refusal ∷ (numbersOf cardStatus cardValues (cardAnswer (card .bytes)) ++ listOf rows (rowOf (card .bytes))))
 answerTo (vote r m chunk) = naturals (numbersOf voteStatus voteValues (voteAnswer r m chunk))
+
+-- levels as bit patterns: so many of 1, of -1 and of zero, which are told as bits 0 and 1 and as lost bits; and zero of the other sign
+abbrev pub zeroBits : ℕ → List ℕ
+zeroBits m = replicate m 0x3f800000
+
+abbrev pub oneBits : ℕ → List ℕ
+oneBits m = replicate m 0xbf800000
+
+abbrev lostBits : ℕ → List ℕ
+lostBits m = replicate m 0x00000000
+
+abbrev minusZero : ℕ
+minusZero = 0x80000000
+
+-- 1,000,000 and -1,000,000; -0.03; the next levels past these limits, not a number, both infinite ones, and -2^-149, the negative level
+-- nearest to zero
+abbrev million : ℕ
+million = 0x49742400
+
+abbrev minusMillion : ℕ
+minusMillion = 0xc9742400
+
+abbrev minusThreeHundredths : ℕ
+minusThreeHundredths = 0xbcf5c28f
+
+abbrev aboveMillion : ℕ
+aboveMillion = 0x49742401
+
+abbrev belowMinusMillion : ℕ
+belowMinusMillion = 0xc9742401
+
+abbrev notANumber : ℕ
+notANumber = 0x7fc00000
+
+abbrev infinity : ℕ
+infinity = 0x7f800000
+
+abbrev minusInfinity : ℕ
+minusInfinity = 0xff800000
+
+abbrev nearestBelowZero : ℕ
+nearestBelowZero = 0x80000001
 
 -- a question and what the documents say
 pub record Case : Type 0 where
@@ -245,4 +295,40 @@ starredCases =
     ∷ case (rowShares fourRowCard 8) (32 ∷ 12 ∷ 4 ∷ 2 ∷ [])
     ∷ case (rowShares fourRowCard 15) (64 ∷ 24 ∷ 8 ∷ 2 ∷ [])
     ∷ case (rowSums fourRowCard 15) (45 ∷ 109 ∷ 133 ∷ 141 ∷ 143 ∷ [])
+    -- document 02, P5, on card B: levels of 1 and -1 read as the plain words above, with strength 15 and 1; refusals 12 and 11
+    ∷ case (levels cardB (oneBits 7 ++ zeroBits 8)) (0 ∷ 7 ∷ 0 ∷ 2 ∷ 4294967295 ∷ 0 ∷ 0x41700000 ∷ 0x3f800000 ∷ [])
+    ∷ case (levels cardB (oneBits 5 ++ zeroBits 1 ++ oneBits 1 ++ zeroBits 8))
+    (0 ∷ 5 ∷ 1 ∷ 2 ∷ 4294967295 ∷ 0 ∷ 0x41700000 ∷ 0x3f800000 ∷ [])
+    ∷ case (levels cardB (zeroBits 12 ++ oneBits 3)) (12 ∷ [])
+    ∷ case (levels cardB (zeroBits 9 ++ oneBits 3 ++ zeroBits 3)) (11 ∷ [])
+    -- lost bits, of either sign: 7 with one lost in chunk 1 and one in chunk 2; with place 6 lost, 6 and 7 are as near, and it is 6
+    ∷ case (levels cardB (oneBits 5 ++ lostBits 1 ++ oneBits 1 ++ zeroBits 2 ++ (minusZero ∷ []) ++ zeroBits 5))
+    (0 ∷ 7 ∷ 0 ∷ 2 ∷ 4294967295 ∷ 0 ∷ 0x41500000 ∷ 0x3f800000 ∷ [])
+    ∷ case (levels cardB (oneBits 6 ++ lostBits 1 ++ zeroBits 8)) (0 ∷ 6 ∷ 0 ∷ 2 ∷ 4294967295 ∷ 0 ∷ 0x41600000 ∷ 0x3f800000 ∷ [])
+    -- D 3: two lost in chunk 1 and one wrong in chunk 2 are read; one wrong and one lost in chunk 1, or three lost, are refusal 10
+    ∷ case (levels cardB (zeroBits 3 ++ lostBits 2 ++ zeroBits 4 ++ oneBits 1 ++ zeroBits 5))
+    (0 ∷ 0 ∷ 1 ∷ 3 ∷ 0 ∷ 1 ∷ 0x41500000 ∷ 0x3f800000 ∷ [])
+    ∷ case (levels cardB (zeroBits 3 ++ lostBits 1 ++ oneBits 1 ++ zeroBits 10)) (10 ∷ [])
+    ∷ case (levels cardB (zeroBits 3 ++ lostBits 3 ++ zeroBits 9)) (10 ∷ [])
+    -- 1,000,000, -0.03 and -1,000,000 in separator 1 sum to 0, which reads 0; with -0.03 last the sum is below zero, and reads 1
+    ∷ case (levels cardB (million ∷ minusThreeHundredths ∷ minusMillion ∷ zeroBits 12))
+    (0 ∷ 3 ∷ 1 ∷ 3 ∷ 0 ∷ 0 ∷ 0x49f42460 ∷ million ∷ [])
+    ∷ case (levels cardB (million ∷ minusMillion ∷ minusThreeHundredths ∷ zeroBits 12))
+    (0 ∷ 3 ∷ 1 ∷ 2 ∷ 4294967295 ∷ 0 ∷ 0x49f42460 ∷ million ∷ [])
+    -- the negative level nearest to zero, the two others of separator 1 lost: the sum is below zero, and 1, 2 and 3 are as near
+    ∷ case (levels cardB (nearestBelowZero ∷ minusZero ∷ lostBits 1 ++ zeroBits 12))
+    (0 ∷ 1 ∷ 0 ∷ 2 ∷ 4294967295 ∷ 0 ∷ 0x41400000 ∷ 0x3f800000 ∷ [])
+    -- 15: no levels, one too few and one too many, ahead of 16; the card's refusal is ahead of both
+    ∷ case (levels cardB []) (15 ∷ [])
+    ∷ case (levels cardB (notANumber ∷ zeroBits 13)) (15 ∷ [])
+    ∷ case (levels cardB (notANumber ∷ zeroBits 15)) (15 ∷ [])
+    ∷ case (levels (replicate 511 0) (notANumber ∷ [])) (1 ∷ [])
+    -- 16: not a number, infinite, and above 1,000,000, in the last place, in a chunk that is not read, and ahead of 9, which it is else
+    ∷ case (levels cardB (zeroBits 14 ++ (notANumber ∷ []))) (16 ∷ [])
+    ∷ case (levels cardB (zeroBits 14 ++ (infinity ∷ []))) (16 ∷ [])
+    ∷ case (levels cardB (zeroBits 14 ++ (minusInfinity ∷ []))) (16 ∷ [])
+    ∷ case (levels cardB (zeroBits 14 ++ (belowMinusMillion ∷ []))) (16 ∷ [])
+    ∷ case (levels cardB (oneBits 3 ++ (aboveMillion ∷ []) ++ zeroBits 11)) (16 ∷ [])
+    ∷ case (levels cardB (zeroBits 6 ++ oneBits 3 ++ zeroBits 5 ++ (notANumber ∷ []))) (16 ∷ [])
+    ∷ case (levels cardB (zeroBits 6 ++ oneBits 3 ++ zeroBits 6)) (9 ∷ [])
     ∷ []

@@ -5,6 +5,7 @@ pub mod CardBytes
 pub mod Order
 pub mod Words
 pub mod Reading
+pub mod Levels
 pub mod ReedMuller
 pub mod Statuses
 pub mod Answers

@@ -7,6 +7,7 @@ use mathlib.Core.List.{List, [], _∷_}
 use Prim.Native.Nat.{ℕ}
 use lib.Dec.{eqb}
 use lib.IntN.{ℤ}
+use lib.Ieee.{Float}
 use Rattle.model.specs.declared.Chunk.{Chunk}
 use Rattle.model.specs.declared.Chunk.the-variants.{Codeword, Unreadable}
 use Rattle.model.specs.declared.ChunkBits.{ChunkBits}
@@ -17,6 +18,7 @@ use Rattle.model.specs.declared.WriteAnswer.{WriteAnswer}
 use Rattle.model.specs.declared.WriteAnswer.the-variants.{Written, Refused as WriteRefused}
 use Rattle.model.specs.declared.ReadAnswer.{ReadAnswer}
 use Rattle.model.specs.declared.ReadAnswer.the-variants.{At, Refused as ReadRefused}
+use Rattle.model.specs.declared.LevelsAnswer.{LevelsAnswer}
 use Rattle.model.specs.declared.NumberAnswer.{NumberAnswer}
 use Rattle.model.specs.declared.NumberAnswer.the-variants.{Number, Refused as NumberRefused}
 use Rattle.model.specs.declared.MillimetresAnswer.{MillimetresAnswer}
@@ -24,11 +26,11 @@ use Rattle.model.specs.declared.MillimetresAnswer.the-variants.{Millimet
 use Rattle.model.specs.declared.VoteAnswer.{VoteAnswer}
 use Rattle.model.specs.declared.VoteAnswer.the-variants.{Voted, Refused as VoteRefused}
 
--- the values of an answer with this status: these where it is 0, and none of a refusal. They are numbers, or signed ones
+-- the values of an answer with this status: these where it is 0, and none of a refusal. They are numbers, signed ones or floats
 unfoldable pub ifServed : {A : Type 0} (status : ℕ) (values : List A) → List A
 ifServed status values = cond (eqb status 0) values []
 
--- a code chunk: the number of its codeword, and in how many bits the two differ; 10 where no codeword lies within the radius
+-- a code chunk: the number of its codeword, and in how many bits the two differ; 10 where no codeword is near enough
 unfoldable pub chunkStatus : Chunk → ℕ
 chunkStatus (Codeword number unlike) = 0
 chunkStatus Unreadable = 10
@@ -72,6 +74,16 @@ readStatus (ReadRefused refusal) = refusal
 unfoldable pub readValues : ReadAnswer → List ℕ
 readValues (At r) = r .position ∷ r .residual ∷ r .rule ∷ bitsValue (r .chunk1) ∷ bitsValue (r .chunk2) ∷ []
 readValues (ReadRefused refusal) = []
+
+-- a read of levels: the status and the values of its answer, and the strength's two floats, none of a refusal
+abbrev pub levelsStatus : LevelsAnswer → ℕ
+levelsStatus a = readStatus (a .answer)
+
+abbrev pub levelsValues : LevelsAnswer → List ℕ
+levelsValues a = readValues (a .answer)
+
+unfoldable pub strengthValues : LevelsAnswer → List Float
+strengthValues a = ifServed (levelsStatus a) (a .strength .sum ∷ a .strength .greatest ∷ [])
 
 -- a block's start
 unfoldable pub numberStatus : NumberAnswer → ℕ

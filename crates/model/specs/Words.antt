@@ -27,24 +27,24 @@ placesBefore D n zero = 0
 placesBefore D n (suc zero) = D
 placesBefore D n (suc (suc c)) = placesBefore D n (suc c) + chunkSize D n (suc c)
 
--- chunk c of a word, from its first place on
-abbrev pub chunkOf : Code → (c : ℕ) (x : ℕ → ℕ) → ℕ → ℕ
+-- chunk c of a word, from its first place on: of its bits, or of what else is told of each place
+abbrev pub chunkOf : {A : Type 0} → Code → (c : ℕ) (x : ℕ → A) → ℕ → A
 chunkOf C c = fromPlace (placesBefore (C .D) (C .n) c)
 
 -- the chunks 0 to 4 by name (that they are these is the law `named-chunks`)
-abbrev pub separator₁ : Code → (ℕ → ℕ) → ℕ → ℕ
+abbrev pub separator₁ : {A : Type 0} → Code → (ℕ → A) → ℕ → A
 separator₁ C x = x
 
-abbrev pub chunk₁ : Code → (ℕ → ℕ) → ℕ → ℕ
+abbrev pub chunk₁ : {A : Type 0} → Code → (ℕ → A) → ℕ → A
 chunk₁ C = fromPlace (C .D)
 
-abbrev pub separator₂ : Code → (ℕ → ℕ) → ℕ → ℕ
+abbrev pub separator₂ : {A : Type 0} → Code → (ℕ → A) → ℕ → A
 separator₂ C = fromPlace (C .D + C .n)
 
-abbrev pub chunk₂ : Code → (ℕ → ℕ) → ℕ → ℕ
+abbrev pub chunk₂ : {A : Type 0} → Code → (ℕ → A) → ℕ → A
 chunk₂ C = fromPlace (C .D + C .n + C .D)
 
-abbrev pub separator₃ : Code → (ℕ → ℕ) → ℕ → ℕ
+abbrev pub separator₃ : {A : Type 0} → Code → (ℕ → A) → ℕ → A
 separator₃ C = fromPlace (C .D + C .n + C .D + C .n)
 
 -- a word of five chunks: separator 1 (D bits), code chunk 1 (n), separator 2 (D), code chunk 2 (n), separator 3 (D)

@@ -1,8 +1,9 @@
 // What a code chunk reads as, what a card decodes to, and what the public calls answer. The definitions of specs/ give these
 // values their meaning. A refusal carries its number in documents 01 and 02 and nothing else, but that of a card that is not made,
-// beside which stand 512 zero bytes.
+// beside which stand 512 zero bytes, and that of a word of levels, beside which stands a strength of two zeros.
 
-// What a code chunk reads as: the number p of the codeword c(p) within the radius, and in how many places the two differ.
+// What a code chunk reads as: the number p of the codeword c(p) within the radius, and in how many places the two differ. Of a chunk with
+// lost bits, the codeword for which 2 × wrong + lost is below D, and how many places are wrong.
 pub enum Chunk {
     Codeword { number: u32, unlike: u32 },
     Unreadable,
@@ -47,8 +48,8 @@ pub enum WriteAnswer {
     Refused(u32),
 }
 
-// How many bits a code chunk of a word needed: in how many it and the codeword that it reads as differ; or the word's rule does not
-// name the chunk, and it was not read.
+// How many bits a code chunk of a word needed: in how many of those that are not lost it and the codeword that it reads as differ; or the
+// word's rule does not name the chunk, and it was not read.
 pub enum ChunkBits {
     Differing(u32),
     NotRead,
@@ -67,6 +68,24 @@ pub struct Reading {
 pub enum ReadAnswer {
     At(Reading),
     Refused(u32),
+}
+
+// What an arriving level is told as: a lost bit, or a level. Document 01 names the form: an enum with Level(f32) and Lost.
+pub enum Told {
+    Lost,
+    Level(f32),
+}
+
+// A receiver's strength over the levels of a word: the sum of the magnitudes, and the greatest of them.
+pub struct Strength {
+    pub sum: f32,
+    pub greatest: f32,
+}
+
+// The answer to a read of levels: what a plain read is answered with, and beside it the strength.
+pub struct LevelsAnswer {
+    pub answer: ReadAnswer,
+    pub strength: Strength,
 }
 
 // The answer to a call that asks for a number: a block's start.

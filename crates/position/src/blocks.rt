@@ -3,7 +3,7 @@ ghost use mathlib.Core.Path.{_≡_};
 ghost use Prim.Native.Nat.{_+_, _≤_, _<_};
 ghost use Rattle.model.specs.Card.{Code};
 ghost use Rattle.model.specs.Decoded.{meaning};
-ghost use Rattle.model.specs.Order.{lastCodeword, start, lastPosition, correctedCount, rowWeight, shareOf, sumAfterRow, sumBeforeRow};
+ghost use Rattle.model.specs.Order.{lastCodeword, changedWeight, start, lastPosition, correctedCount, rowWeight, shareOf, sumAfterRow, sumBeforeRow};
 ghost use Rattle.model.specs.Words.{blockOf};
 ghost use Rattle.code_theory.specs.Promise.{Sound};
 ghost use Rattle.position.specs.RowWeights.{RowWeights};
@@ -85,6 +85,16 @@ pub fn block_start(code: DecodedCode, i: u32) -> u32
     ensures { λ r. ⌜ r ≡ start (meaning code) i ⌝ }
 {
     start_by(code, row_weights(code), i)
+}
+
+// A(i), the weight of the row in which c(i) and c(i+1) differ.
+pub fn changed_weight(code: DecodedCode, i: u32) -> u32
+    requires { ⌜ Sound (meaning code) × (i < lastCodeword (meaning code)) ⌝ }
+    ensures { λ r. ⌜ (r ≡ changedWeight (meaning code) i) × (r ≤ 64) ⌝ }
+{
+    let rows = code.rows;
+    let z = u32::trailing_zeros(i + 1) as usize;
+    codeword::row_weight(rows[z])
 }
 
 // The last position of the track.

@@ -17,6 +17,13 @@ pub fn bit_of(byte: u8, p: u32) -> u32
     ((byte >> (p % 8)) % 2) as u32
 }
 
+// All places marked: those that are heard of a plain word.
+pub fn all_heard() -> [u8; 40]
+    ensures { λ r. ⌜ ((p : ℕ) → p < 320 → place r p ≡ 1) ⌝ }
+{
+    [255; 40]
+}
+
 // The bits of a byte from bit q on, moved up to bit `to` of a number. The contract also says of the byte what its type does, for a
 // caller that has it from an array.
 fn moved_to(byte: u8, q: u32, to: u32) -> u64

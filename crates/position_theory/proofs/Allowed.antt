@@ -11,13 +11,13 @@ use Rattle.model.specs.Refusals.{firstRefusal}
 use Rattle.model.specs.Card.{Code}
 use Rattle.model.specs.Order.{lastCodeword, changedWeight, start, lastPosition}
 use Rattle.model.specs.Words.{wordBits, wordAt}
-use Rattle.model.specs.Reading.{Seen, seen, ruleSeen, ruleNamed, Range, range₁, range₂, range₃}
-use Rattle.model.specs.Reading.{Rules, twoEnds, rowsSeen, rangeSeen, rowsOf, allowed}
+use Rattle.model.specs.Reading.{Seen, ruleSeen, Range, range₁, range₂, range₃, Rules, twoEnds, rowsSeen, rangeSeen}
 use Rattle.code_theory.specs.Promise.{ChunkPromise}
+use Rattle.position_theory.specs.Nearest.{refusalOf, allowedBy}
 use Rattle.position_theory.proofs.Blocks.{start-on-track}
 use Rattle.position_theory.proofs.Ranges.{isometric-part}
 use Rattle.position_theory.proofs.Separators.{of-every-rule}
-use Rattle.position_theory.proofs.RuleReads.{ReadsKind, reads-in-code, RuleReads, rule-reads}
+use Rattle.position_theory.proofs.RuleReads.{BothRead, InCode, RuleReads, rule-reads}
 use Rattle.position_theory.proofs.Isometry.{IsometricTrack, isometric-block, isometric-around}
 
 -- What is allowed goes by what is seen: what holds of the range of each rule, where its chunks read a number of some kind and its
@@ -27,7 +27,7 @@ module _ (R : Rules) (P : Range → Type 0) (Kind : ℕ → Type 0) where
   abbrev Rule : (rule : ℕ) → Type 0
   Rule rule = (p : ℕ) → Kind p → R .noBlock rule p ≡ false → P (R .range rule p)
 
-  module _ (s : Seen) (kind₁ : ReadsKind Kind (s .read₁)) (kind₂ : ReadsKind Kind (s .read₂)) where
+  module _ (s : Seen) (kinds : BothRead Kind s) where
     pub of-all-allowed : Rule 1 → Rule 2 → Rule 3 → firstRefusal (rowsSeen R s (ruleSeen s)) ≡ 0 → P (rangeSeen R s (ruleSeen s))
     of-all-allowed rule₁ rule₂ rule₃ none =
         of-every-rule (λ rule. RuleReads R s Kind rule → P (rangeSeen R s rule))
@@ -35,7 +35,7 @@ module _ (R : Rules) (P : Range → Type 0) (Kind : ℕ → Type 0) where
         (λ reads. rule₁ _ (reads .kind) (reads .block))
         (λ reads. rule₂ _ (reads .kind) (reads .block))
         (λ reads. rule₃ _ (reads .kind) (reads .block))
-        (s .s₁) (s .s₂) (s .s₃) (rule-reads R s Kind kind₁ kind₂ none)
+        (s .s₁) (s .s₂) (s .s₃) (rule-reads R s Kind kinds none)
 
 -- a range that is not empty, on the track, and isometric
 pub record IsometricOnTrack (C : Code) (range : Range) : Type 0 where
@@ -79,11 +79,10 @@ module _ (C : Code) (promise : ChunkPromise C) where
   rule₃-isometric p h =
       record { some = omega (arith, start-on-track C promise p h); on-track = omega arith; isometric = isometric-around C promise p h }
 
-  pub allowed-isometric : (x : ℕ → ℕ) → firstRefusal (rowsOf C x) ≡ 0 → IsometricOnTrack C (allowed C x)
-  unfolding rowsOf allowed ruleNamed twoEnds seen
-  allowed-isometric x =
-      of-all-allowed (twoEnds C) (IsometricOnTrack C) (λ p. p ≤ lastCodeword C) (seen C x)
-      (reads-in-code C promise _) (reads-in-code C promise _)
+  pub allowed-isometric : (s : Seen) → BothRead (InCode C) s → refusalOf C s ≡ 0 → IsometricOnTrack C (allowedBy C s)
+  unfolding twoEnds
+  allowed-isometric s kinds =
+      of-all-allowed (twoEnds C) (IsometricOnTrack C) (InCode C) s kinds
       (λ p h block. rule₁-isometric p h (eqb-false p 0 (or-false-left _ _ block)))
       (λ p h block. rule₂-isometric p (omega (arith, eqb-false p (lastCodeword C) block, h)))
       (λ p h block. rule₃-isometric p h)

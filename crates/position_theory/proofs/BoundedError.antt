@@ -1,38 +1,52 @@
--- Demand 3, for a code that keeps the chunk promise: a word with at most t bits turned in each chunk allows the true position, so
--- the answer is off by at most the bits turned and the residual together, and the residual is at most the bits turned.
--- Assumes nothing.
-use mathlib.Core.Path.{_≡_, sym, ap, _∙_}
+-- How far an answer is off, for a code that keeps the chunk promise: a word with 2 × wrong + lost below D in each chunk allows the true
+-- position, so the answer is off by at most the wrong bits, the residual and the lost bits together, and the residual is at most the wrong
+-- bits. Demand 3 is the case of a plain word, in which nothing is lost. Assumes nothing.
+use mathlib.Core.Path.{_≡_, refl, sym, ap, _∙_}
+use mathlib.Core.Bool.{Bool}
 use mathlib.Core.List.{List}
 use Prim.Native.Nat.{ℕ, _+_, _≤_, _<_}
 use native.Mathlib.Omega.{arith}
+use Rattle.bits.specs.Sums.{lostBelow, everywhere}
 use Rattle.bits.specs.Walk.{walk}
 use Rattle.bits.specs.Places.{place}
 use Rattle.bits.proofs.Distance.{distance-ext-left}
+use Rattle.bits.proofs.Heard.{heard-ext-left, none-lost}
 use Rattle.bits.proofs.Places.{place-bit}
 use Rattle.model.specs.Card.{Code, radius}
 use Rattle.model.specs.Order.{lastCodeword, changedWeight, blockLength, start, lastPosition}
 use Rattle.model.specs.Words.{wordBits, chunkOf, word, wordAt, wordBytes}
-use Rattle.model.specs.Reading.{seen, twoEnds, residual}
+use Rattle.model.specs.Reading.{Seen, seen, twoEnds, residual}
+use Rattle.model.specs.Levels.{residualHeard}
 use Rattle.model.specs.Answers.{readWord}
 use Rattle.model.specs.declared.ReadAnswer.{ReadAnswer}
 use Rattle.model.specs.declared.ReadAnswer.the-variants.{At, Refused}
 use Rattle.code_theory.specs.Promise.{ChunkPromise}
-use Rattle.position_theory.specs.Damage.{turnedIn, ChunksWithin, WithinRadius, turned, Near, residualOf}
+use Rattle.position_theory.specs.Damage.{turnedIn, wrongIn, ChunkBelowD, ChunksBelowD, ChunksWithin}
+use Rattle.position_theory.specs.Damage.{WithinRadius, turned, Near, residualOf}
 use Rattle.position_theory.proofs.Words.{chunk-fits, five-distance}
 use Rattle.position_theory.proofs.Between.{WholeAt}
-use Rattle.position_theory.proofs.WordBytes.{place-of-word, read-if-whole}
+use Rattle.position_theory.proofs.WordBytes.{place-of-word, readingOfSeen, reading, read-if-whole}
 use Rattle.position_theory.proofs.Blocks.{next-codeword, on-the-way, word-in-block}
 use Rattle.position_theory.proofs.TrueAllowed.{Allows, true-allowed}
-use Rattle.position_theory.proofs.Telling.{whole-tell}
+use Rattle.position_theory.proofs.Telling.{Sees, whole-tell}
+use Rattle.position_theory.proofs.PlainSeen.{plain-sees, within-radius-below, plain-residual}
+use Rattle.position_theory.proofs.Ranges.{counted-residuals}
+use Rattle.position_theory.proofs.RuleReads.{reads-in-code}
 use Rattle.position_theory.proofs.TrueCases.{true-case}
 use Rattle.position_theory.proofs.Nearest.{answer-near}
 
 module _ (C : Code) where
-  -- the bits turned in a chunk go by the word's places alone
+  -- the bits turned, or wrong, in a chunk go by the word's places alone
   pub turned-in-ext : {u u′ : ℕ → ℕ} (x : ℕ → ℕ) → ((p : ℕ) → p < wordBits C → u p ≡ u′ p) → (c : ℕ) → c < 5
       → turnedIn C c u x ≡ turnedIn C c u′ x
   unfolding turnedIn
   turned-in-ext x same c b = distance-ext-left _ (chunkOf C c x) (λ p l. same _ (omega (arith, chunk-fits C c b)))
+
+  wrong-in-ext : (heard : ℕ → Bool) {u u′ : ℕ → ℕ} (x : ℕ → ℕ) → ((p : ℕ) → p < wordBits C → u p ≡ u′ p) → (c : ℕ) → c < 5
+      → wrongIn C heard c u x ≡ wrongIn C heard c u′ x
+  unfolding wrongIn
+  wrong-in-ext heard x same c b =
+      heard-ext-left (chunkOf C c heard) _ (chunkOf C c x) (λ p l. same _ (omega (arith, chunk-fits C c b)))
 
   -- the bits turned in all are the residual of the true position
   turned-is-residual : (position : ℕ) (received : List ℕ) → turned C position received ≡ residual C (place received) position
@@ -41,41 +55,66 @@ module _ (C : Code) where
       sym (five-distance C (place (wordBytes C position)) (place received))
       ∙ distance-ext-left (wordBits C) (place received) (place-of-word C position)
 
-module _ (C : Code) (promise : ChunkPromise C) where
-  -- a word within the radius in every whole chunk allows the true position; of a divided chunk nothing is asked
-  steps-allowed : (i m : ℕ) (u x : ℕ → ℕ) → i < lastCodeword C → m ≤ blockLength C i → ((p : ℕ) → x p < 2)
+module _ (C : Code) (promise : ChunkPromise C) {heard : ℕ → Bool} {x : ℕ → ℕ} {s : Seen} (sees : Sees C heard x s) where
+  -- a word with 2 × wrong + lost below D in every whole chunk allows the true position; of a divided chunk nothing is asked
+  steps-allowed : (i m : ℕ) (u : ℕ → ℕ) → i < lastCodeword C → m ≤ blockLength C i
       → ((p : ℕ) → p < wordBits C → u p ≡ wordAt C (start C i + m) p)
-      → ((c : ℕ) → c < 5 → WholeAt C (changedWeight C i) m c → turnedIn C c u x ≤ radius C) → Allows (twoEnds C) (seen C x) (start C i + m)
-  steps-allowed i m u x inside room hx same within =
+      → ((c : ℕ) → c < 5 → WholeAt C (changedWeight C i) m c → ChunkBelowD C heard u x c) → Allows (twoEnds C) s (start C i + m)
+  steps-allowed i m u inside room same within =
       let next = next-codeword C promise i inside in
       let walked : (p : ℕ) → p < wordBits C → u p ≡ walk (word C i) (word C (i + 1)) m p =
       λ p b. same p b ∙ word-in-block C promise i m inside room p b in
-      let told = whole-tell C promise hx next m (λ c b whole. rw (turned-in-ext C x walked c b) at (within c b whole)) in
-      true-allowed C promise (seen C x) i m inside room (true-case (next .parities) told)
+      let told = whole-tell C promise sees next m (λ c b whole. rw (wrong-in-ext C heard x walked c b) at (within c b whole)) in
+      true-allowed C promise s i m inside room (true-case (next .parities) told)
 
-  -- so one within the radius in every chunk does
-  pub position-allowed : (position : ℕ) (u x : ℕ → ℕ) → position ≤ lastPosition C → ((p : ℕ) → x p < 2)
-      → ((p : ℕ) → p < wordBits C → u p ≡ wordAt C position p) → ChunksWithin C (radius C) u x → Allows (twoEnds C) (seen C x) position
-  unfolding ChunksWithin
-  position-allowed position u x h hx same within =
+  -- so one with 2 × wrong + lost below D in every chunk does
+  pub position-allowed : (position : ℕ) (u : ℕ → ℕ) → position ≤ lastPosition C → ((p : ℕ) → p < wordBits C → u p ≡ wordAt C position p)
+      → ChunksBelowD C heard u x → Allows (twoEnds C) s position
+  unfolding ChunksBelowD
+  position-allowed position u h same within =
       let way = on-the-way C promise position h in
       let there =
-      steps-allowed (way .block) (way .steps) u x (way .inside) (way .room) hx
+      steps-allowed (way .block) (way .steps) u (way .inside) (way .room)
       (λ p b. same p b ∙ ap (λ q. wordAt C q p) (sym (way .is))) (λ c b _. within c b) in
       rw (way .is) at there
 
-  -- demand 3 and the sharper bound, for a code that keeps the chunk promise
-  pub error-bounded : (position : ℕ) (received : List ℕ) → position ≤ lastPosition C → WithinRadius C position received
-      → Near (readWord C received) position (turned C position received + residualOf (readWord C received))
-      × (residualOf (readWord C received) ≤ turned C position received)
-  error-bounded position received h d =
-      rw (read-if-whole C received (d .right-length) (d .spare-zero), turned-is-residual C position received)
-      (answer-near C promise (place received) position
-      (position-allowed position (place (wordBytes C position)) (place received) h (place-bit received) (place-of-word C position)
-      (d .chunks)))
+  -- and the answer is as near to that position as the residuals and the lost bits say
+  pub error-of-seen : (position : ℕ) (u : ℕ → ℕ) → position ≤ lastPosition C → ((p : ℕ) → p < wordBits C → u p ≡ wordAt C position p)
+      → ChunksBelowD C heard u x
+      → let answer = readingOfSeen C s (residualHeard C heard x) in
+      Near answer position (residualHeard C heard x position + residualOf answer + lostBelow heard (wordBits C))
+      × (residualOf answer ≤ residualHeard C heard x position)
+  unfolding residualHeard
+  error-of-seen position u h same within =
+      answer-near C promise s (reads-in-code C promise (sees .chunks)) (residualHeard C heard x) (lostBelow heard (wordBits C))
+      (counted-residuals heard (wordBits C) (wordAt C) x) position (position-allowed position u h same within)
 
 -- a bound may be loosened
 pub near-loosen : (answer : ReadAnswer) (position e e′ : ℕ) → e ≤ e′ → Near answer position e → Near answer position e′
 unfolding Near
 near-loosen (At r) position e e′ h near = (omega arith, omega arith)
 near-loosen (Refused refusal) position e e′ h near = near
+
+-- a plain word within the radius in every chunk
+module _ (C : Code) (promise : ChunkPromise C) where
+  pub plain-allowed : (position : ℕ) (u x : ℕ → ℕ) → position ≤ lastPosition C → ((p : ℕ) → x p < 2)
+      → ((p : ℕ) → p < wordBits C → u p ≡ wordAt C position p) → ChunksWithin C (radius C) u x → Allows (twoEnds C) (seen C x) position
+  unfolding ChunksWithin ChunksBelowD
+  plain-allowed position u x h hx same within =
+      position-allowed C promise (plain-sees C promise hx) position u h same (λ c b. within-radius-below C promise u x c (within c b))
+
+  -- demand 3 and the sharper bound
+  pub error-bounded : (position : ℕ) (received : List ℕ) → position ≤ lastPosition C → WithinRadius C position received
+      → Near (readWord C received) position (turned C position received + residualOf (readWord C received))
+      × (residualOf (readWord C received) ≤ turned C position received)
+  unfolding ChunksWithin ChunksBelowD
+  error-bounded position received h d =
+      let x = place received in
+      let u = place (wordBytes C position) in
+      let none = none-lost everywhere (wordBits C) (λ p b. refl) in
+      let (near, least) =
+      error-of-seen C promise (plain-sees C promise (place-bit received)) position u h (place-of-word C position)
+      (λ c b. within-radius-below C promise u x c (d .chunks c b)) in
+      let answer = reading C x in
+      rw (read-if-whole C received (d .right-length) (d .spare-zero), turned-is-residual C position received, plain-residual C x)
+      (near-loosen (readingOfSeen C (seen C x) (residualHeard C everywhere x)) position _ _ (omega (arith, none)) near, least)

@@ -2,68 +2,97 @@
 -- the codeword that the rule goes by, so by the chunk promise its count is that of the places in which the two differ, at most t. That
 -- codeword stands whole in the chunk at every allowed position; a word that is damaged within the radius allows its own, so what its
 -- chunks needed is what was turned in them. Assumes nothing.
-use mathlib.Core.Path.{_≡_, refl, _∙_, sym}
+use mathlib.Core.Path.{_≡_, refl, _∙_, sym, ap}
 use mathlib.Core.Bool.{Bool, true, false, false≢true}
 use mathlib.Core.List.{List}
 use mathlib.Core.Logic.{⊎-elim}
 use Prim.Native.Nat.{ℕ, _<_}
 use native.Mathlib.Omega.{arith}
-use borrow.Author.Tests.{leb-true}
-use Rattle.bits.specs.Sums.{distance}
+use borrow.Author.Tests.{ltb-true}
+use Rattle.bits.specs.Sums.{distance, everywhere}
 use Rattle.bits.specs.Places.{bit, place}
 use Rattle.bits.proofs.Distance.{distance-ext-left}
 use Rattle.bits.proofs.Places.{place-bit}
 use Rattle.bits.proofs.Numbers.{eq-or-ne}
-use Rattle.model.specs.Refusals.{firstRefusal, unlessRefused}
+use Rattle.model.specs.Refusals.{unlessRefused}
 use Rattle.model.specs.Card.{Code, codeOf, cardRefusal}
 use Rattle.model.specs.Order.{codeword}
 use Rattle.model.specs.Words.{chunkSize, placesBefore, chunk₁, chunk₂, wordAt, wordBytes}
-use Rattle.model.specs.Reading.{chunkDistance, withinRadius, chunkReading, seen, ruleNamed, namesFirst, namesSecond, numberBy}
+use Rattle.model.specs.Reading.{chunkDistance, Seen, seen, ruleSeen, ruleNamed, namesFirst, namesSecond, numberBy}
 use Rattle.model.specs.Reading.{rowsSeen, rowsOf, allowed, residual, bitsNeeded, nearest}
+use Rattle.model.specs.Levels.{withinLosses, heardReading}
 use Rattle.model.specs.Statuses.{bitsValue}
 use Rattle.model.specs.Answers.{readRefusal, readAnswer, rowsOfWord}
+use Rattle.model.specs.declared.Chunk.{Chunk}
 use Rattle.model.specs.declared.ChunkBits.{ChunkBits}
 use Rattle.model.specs.declared.Reading.{Reading}
 use Rattle.model.specs.declared.ReadAnswer.the-variants.{At, Refused}
 use Rattle.code_theory.specs.Promise.{ChunkPromise}
 use Rattle.code_theory.proofs.Refusals.{NoneHolds, numbered, none-refuses, none-holds, served-if-none, refused-if-some, none-past-card}
+use Rattle.code_theory.proofs.ChunkReading.{plain-count}
 use Rattle.position_theory.specs.Damage.{turnedIn}
-use Rattle.position_theory.specs.ChunkBits.{TellsBits, BitsOfChunks, TellsBitsOfChunks, NeededAsTurned}
-use Rattle.position_theory.proofs.RuleReads.{NamedReads, word-reads}
-use Rattle.position_theory.proofs.WordBytes.{place-of-word, reading, read-if-whole}
+use Rattle.position_theory.specs.SeenChunks.{SeesChunks}
+use Rattle.position_theory.specs.Nearest.{refusalOf, allowedBy}
+use Rattle.position_theory.specs.ChunkBits.{TellsBits, TellsWrong, BitsOfChunks, WrongOfChunks}
+use Rattle.position_theory.specs.ChunkBits.{TellsBitsOfChunks, NeededAsTurned}
+use Rattle.position_theory.proofs.RuleReads.{NamedReads, reads-in-code, word-reads}
+use Rattle.position_theory.proofs.PlainSeen.{plain-sees-chunks}
+use Rattle.position_theory.proofs.WordBytes.{place-of-word, readingOfSeen, reading, read-if-whole}
 use Rattle.position_theory.proofs.NamedChunks.{InRange, named-hold}
-use Rattle.position_theory.proofs.BoundedError.{turned-in-ext, position-allowed}
+use Rattle.position_theory.proofs.BoundedError.{turned-in-ext, plain-allowed}
 use Rattle.position_theory.proofs.Demands.{card-promise, read-sound}
 
 module _ (C : Code) (promise : ChunkPromise C) where
   -- the bits of a chunk that reads as codeword p where it is named
-  tells-bits : (named : Bool) (chunk : ℕ → ℕ) (p : ℕ) → NamedReads named (chunkReading C chunk) p
-      → TellsBits C named chunk p (bitsNeeded named (chunkReading C chunk))
-  unfolding TellsBits bitsNeeded withinRadius
-  tells-bits true chunk p reads =
-      let (e, read) = reads refl in
-      let (_, near, counted) = promise .chunks .within chunk p e read in
-      (e, rw read, (counted, rw counted (leb-true _ _ near)))
-  tells-bits false chunk p reads = refl
+  tells-wrong : (named : Bool) (heard : ℕ → Bool) (chunk : ℕ → ℕ) (read : Chunk) → read ≡ heardReading C heard chunk → (p : ℕ)
+      → NamedReads named read p → TellsWrong C named heard chunk p (bitsNeeded named read)
+  unfolding TellsWrong bitsNeeded withinLosses
+  tells-wrong true heard chunk read is p reads =
+      let (e, reads-p) = reads refl in
+      let (_, near, counted) = promise .chunks heard .within chunk p e (sym is ∙ reads-p) in
+      (e, rw reads-p, counted, rw counted (ltb-true _ _ near))
+  tells-wrong false heard chunk read is p reads = refl
 
-  -- the reading of a word of which no row holds
-  bits-of-chunks : (x : ℕ → ℕ) → firstRefusal (rowsOf C x) ≡ 0
-      → let r : Reading = nearest (residual C x) (seen C x) (ruleNamed C x) (allowed C x) in
-      BitsOfChunks ChunkBits TellsBits C x (r .rule) (r .chunk1) (r .chunk2)
-  unfolding allowed ruleNamed nearest seen
-  bits-of-chunks x none =
-      let reads = word-reads C promise x none in
+  -- the reading of whatever is seen of a word of which no row holds, by any residual
+  pub wrong-of-chunks : {heard : ℕ → Bool} {x : ℕ → ℕ} (s : Seen) → SeesChunks C heard x s → (residual : ℕ → ℕ) → refusalOf C s ≡ 0
+      → let r : Reading = nearest residual s (ruleSeen s) (allowedBy C s) in
+      WrongOfChunks C heard x s (r .rule) (r .chunk1) (r .chunk2)
+  unfolding nearest
+  wrong-of-chunks s sees residual none =
+      let reads = word-reads C s (reads-in-code C promise sees) none in
       record {
         by-rule = refl;
-        p = numberBy (seen C x) (ruleNamed C x);
+        p = numberBy s (ruleSeen s);
         in-code = reads .kind;
         allows = refl;
-        first = tells-bits _ (chunk₁ C x) _ (reads .first);
-        second = tells-bits _ (chunk₂ C x) _ (reads .second);
+        first = tells-wrong _ _ _ (s .read₁) (sees .first) _ (reads .first);
+        second = tells-wrong _ _ _ (s .read₂) (sees .second) _ (reads .second);
+      }
+
+  -- where nothing is lost, the wrong bits are those in which chunk and codeword differ, at most t
+  plain-tells : (named : Bool) (chunk : ℕ → ℕ) (p : ℕ) (answered : ChunkBits) → TellsWrong C named everywhere chunk p answered
+      → TellsBits C named chunk p answered
+  unfolding TellsWrong TellsBits
+  plain-tells true chunk p answered (count, told, counted, few) =
+      (count, told, (counted ∙ ap (λ (wrong : ℕ → ℕ). wrong p) (sym (plain-count C chunk)), omega arith))
+  plain-tells false chunk p answered not-read = not-read
+
+  bits-of-chunks : (x : ℕ → ℕ) → refusalOf C (seen C x) ≡ 0
+      → let r : Reading = nearest (residual C x) (seen C x) (ruleSeen (seen C x)) (allowedBy C (seen C x)) in
+      BitsOfChunks ChunkBits TellsBits C x (r .rule) (r .chunk1) (r .chunk2)
+  bits-of-chunks x none =
+      let bits = wrong-of-chunks (seen C x) (plain-sees-chunks C promise x) (residual C x) none in
+      record {
+        by-rule = bits .by-rule;
+        p = bits .p;
+        in-code = bits .in-code;
+        allows = bits .allows;
+        first = plain-tells _ _ _ _ (bits .first);
+        second = plain-tells _ _ _ _ (bits .second);
       }
 
 -- a word is read where no refusal holds, and what is answered is its reading
-read-if-served : (refusal : ℕ) (reading r : Reading) → unlessRefused refusal Refused (At reading) ≡ At r → (refusal ≡ 0) × (reading ≡ r)
+pub read-if-served : (refusal : ℕ) (reading r : Reading) → unlessRefused refusal Refused (At reading) ≡ At r → (refusal ≡ 0) × (reading ≡ r)
 read-if-served refusal reading r answered =
     ⊎-elim
     (λ (none : refusal ≡ 0).
@@ -75,7 +104,7 @@ read-if-served refusal reading r answered =
 
 -- of every card and word as bytes
 pub tells-bits-of-chunks : (card received : List ℕ) → TellsBitsOfChunks card received (readAnswer card received)
-unfolding TellsBitsOfChunks readAnswer readRefusal rowsOfWord rowsOf rowsSeen NoneHolds numbered
+unfolding TellsBitsOfChunks readAnswer readRefusal rowsOfWord rowsOf allowed ruleNamed rowsSeen NoneHolds numbered
 tells-bits-of-chunks card received r answered =
     let (none, is) = read-if-served _ _ _ answered in
     let (sound, none-of-word) = none-past-card (cardRefusal card) (rowsOfWord (codeOf card) received) none in
@@ -94,27 +123,27 @@ needed-is C false chunk p answered not-read whole holds named = absurd (false≢
 
 module _ (C : Code) (promise : ChunkPromise C) where
   -- at every position that a word allows: the bits needed are those in which a chunk differs from that of the position's word
-  unlike-allowed : (x : ℕ → ℕ) → firstRefusal (rowsOf C x) ≡ 0 → (q : ℕ) → InRange (allowed C x) q
-      → let r : Reading = nearest (residual C x) (seen C x) (ruleNamed C x) (allowed C x) in
+  unlike-allowed : (x : ℕ → ℕ) → refusalOf C (seen C x) ≡ 0 → (q : ℕ) → InRange (allowedBy C (seen C x)) q
+      → let r : Reading = nearest (residual C x) (seen C x) (ruleSeen (seen C x)) (allowedBy C (seen C x)) in
       (namesFirst (r .rule) ≡ true → bitsValue (r .chunk1) ≡ turnedIn C 1 (wordAt C q) x)
       × (namesSecond (r .rule) ≡ true → bitsValue (r .chunk2) ≡ turnedIn C 3 (wordAt C q) x)
-  unfolding nearest seen turnedIn placesBefore chunkSize numberBy bits-of-chunks
+  unfolding nearest turnedIn placesBefore chunkSize bits-of-chunks wrong-of-chunks
   unlike-allowed x none q within =
       let bits = bits-of-chunks C promise x none in
-      let hold = named-hold C promise x none q within in (
+      let hold = named-hold C promise (seen C x) (reads-in-code C promise (plain-sees-chunks C promise x)) none q within in (
         needed-is C _ (chunk₁ C x) _ _ (bits .first) (chunk₁ C (wordAt C q)) (hold .0),
         needed-is C _ (chunk₂ C x) _ _ (bits .second) (chunk₂ C (wordAt C q)) (hold .1),
       )
 
 -- a word damaged within the radius allows its position, so the bits needed are those turned
 pub needed-as-turned : (card received : List ℕ) → NeededAsTurned card received (readAnswer card received)
-unfolding NeededAsTurned reading allowed ruleNamed
+unfolding NeededAsTurned readingOfSeen
 needed-as-turned card received position sound h d r answered =
     let C = codeOf card in
     let promise = card-promise card sound in
     let x = place received in
     let allows =
-    position-allowed C promise position (place (wordBytes C position)) x h (place-bit received) (place-of-word C position) (d .chunks) in
+    plain-allowed C promise position (place (wordBytes C position)) x h (place-bit received) (place-of-word C position) (d .chunks) in
     let read : reading C x ≡ At r =
     sym (read-sound card received sound ∙ read-if-whole C received (d .right-length) (d .spare-zero)) ∙ answered in
     let (none, is) = read-if-served _ _ _ read in

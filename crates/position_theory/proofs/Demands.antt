@@ -10,15 +10,19 @@ use Rattle.bits.proofs.Distance.{distance-comm}
 use Rattle.model.specs.Card.{Code, cardRefusal, codeOf, SoundCard}
 use Rattle.model.specs.Order.{lastPosition}
 use Rattle.model.specs.Words.{wordBits, wordAt, wordBytes}
+use Rattle.model.specs.Reading.{seen, residual}
 use Rattle.model.specs.Answers.{readWord, readRefusal, readAnswer}
 use Rattle.code_theory.specs.Promise.{ChunkPromise}
 use Rattle.code_theory.proofs.Refusals.{past-card}
 use Rattle.code_theory.proofs.SoundCard.{sound-card}
 use Rattle.code_theory.proofs.Promise.{promise}
 use Rattle.position_theory.specs.Damage.{turned, residualOf}
+use Rattle.position_theory.specs.Nearest.{IsReading}
 use Rattle.position_theory.specs.Demands.{NeighboursDifferInOneBit, NoOtherPositionsWord, NearestOfAllowed}
 use Rattle.position_theory.specs.Demands.{OffByAtMostTwiceTurned, OffByAtMostTurnedAndResidual}
-use Rattle.position_theory.proofs.WordBytes.{differing-words, residual-counts, read-if-whole}
+use Rattle.position_theory.proofs.WordBytes.{differing-words, residual-counts, reading, read-if-whole}
+use Rattle.position_theory.proofs.RuleReads.{reads-in-code}
+use Rattle.position_theory.proofs.PlainSeen.{plain-sees-chunks}
 use Rattle.position_theory.proofs.Nearest.{reading-is-nearest}
 use Rattle.position_theory.proofs.BoundedError.{error-bounded, near-loosen}
 use Rattle.position_theory.proofs.DistinctWords.{neighbours-differ, words-distinct}
@@ -53,12 +57,16 @@ pub read-sound : (card received : List ℕ) → SoundCard card → readAnswer ca
 unfolding readAnswer readRefusal readWord
 read-sound card received sound = past-card (cardRefusal card) _ _ _ sound
 
--- demand 2, reading
+-- demand 2, reading: of a plain word's bits, and of a card and a word as bytes
+plain-nearest : (C : Code) → ChunkPromise C → (x : ℕ → ℕ) → IsReading C x (reading C x)
+plain-nearest C promise x =
+    reading-is-nearest C promise (seen C x) (reads-in-code C promise (plain-sees-chunks C promise x)) (residual C x)
+
 pub nearest-of-allowed : (card received : List ℕ) → NearestOfAllowed card received (readAnswer card received)
 unfolding NearestOfAllowed
 nearest-of-allowed card received sound h spare = (
   rw (read-sound card received sound, read-if-whole (codeOf card) received h spare)
-      (reading-is-nearest (codeOf card) (card-promise card sound) (place received)),
+      (plain-nearest (codeOf card) (card-promise card sound) (place received)),
   residual-counts (codeOf card) received spare,
 )
 

@@ -4,6 +4,7 @@ pub mod Between
 pub mod WordBytes
 pub mod Separators
 pub mod Telling
+pub mod PlainSeen
 pub mod TrueCases
 pub mod Blocks
 pub mod Isometry

@@ -10,18 +10,17 @@ use native.Mathlib.Omega.{arith}
 use borrow.Author.Tests.{eqb-false}
 use Rattle.bits.specs.Places.{bit}
 use Rattle.bits.proofs.Numbers.{lt-or-le, eq-or-ne, or-false-left}
-use Rattle.model.specs.Refusals.{firstRefusal}
 use Rattle.model.specs.Card.{Code}
 use Rattle.model.specs.Order.{codeword, lastCodeword, changedWeight, blockLength, start, lastPosition}
 use Rattle.model.specs.Words.{chunkSize, placesBefore, chunkOf, wordAt}
-use Rattle.model.specs.Reading.{seen, ruleNamed, namesFirst, namesSecond, numberBy, Range, range₁, range₂, range₃, twoEnds}
-use Rattle.model.specs.Reading.{rangeSeen, rowsOf, allowed}
+use Rattle.model.specs.Reading.{Seen, ruleSeen, namesFirst, namesSecond, numberBy, Range, range₁, range₂, range₃, twoEnds, rangeSeen}
 use Rattle.code_theory.specs.Promise.{ChunkPromise}
+use Rattle.position_theory.specs.Nearest.{refusalOf, allowedBy}
 use Rattle.position_theory.proofs.Words.{content, chunk-fits}
 use Rattle.position_theory.proofs.Between.{stepsBefore, chunk-ahead, chunk-passed}
 use Rattle.position_theory.proofs.Blocks.{next-codeword, word-in-block}
 use Rattle.position_theory.proofs.Separators.{of-every-rule}
-use Rattle.position_theory.proofs.RuleReads.{WordReads, word-reads}
+use Rattle.position_theory.proofs.RuleReads.{BothRead, InCode, WordReads, word-reads}
 
 -- chunk c of a position's word holds c(p)
 abbrev pub HoldsCodeword : Code → (position c p : ℕ) → Type 0
@@ -112,17 +111,17 @@ module _ (C : Code) (promise : ChunkPromise C) where
       ⊎-elim (λ (past : start C p < q). after-start p q h past (omega arith) (omega arith))
       (λ (up-to : q ≤ start C p). up-to-start p q h (omega arith) up-to) (lt-or-le (start C p) q)
 
-  -- at every position that a word allows
-  module _ (x : ℕ → ℕ) (none : firstRefusal (rowsOf C x) ≡ 0) (q : ℕ) (within : InRange (allowed C x) q) where
+  -- at every position that what is seen of a word allows
+  module _ (s : Seen) (kinds : BothRead (InCode C) s) (none : refusalOf C s ≡ 0) (q : ℕ) (within : InRange (allowedBy C s) q) where
     abbrev NamedHold : (rule : ℕ) → Type 0
     NamedHold rule =
-        let p : ℕ = numberBy (seen C x) rule in
+        let p : ℕ = numberBy s rule in
         (namesFirst rule ≡ true → HoldsCodeword C q 1 p) × (namesSecond rule ≡ true → HoldsCodeword C q 3 p)
 
-    pub named-hold : NamedHold (ruleNamed C x)
-    unfolding allowed ruleNamed twoEnds
+    pub named-hold : NamedHold (ruleSeen s)
+    unfolding twoEnds
     named-hold =
-        of-every-rule (λ rule. WordReads C x rule → InRange (rangeSeen (twoEnds C) (seen C x) rule) q → NamedHold rule)
+        of-every-rule (λ rule. WordReads C s rule → InRange (rangeSeen (twoEnds C) s rule) q → NamedHold rule)
         (λ reads there. absurd (reads .some-rule refl))
         (λ reads there. (
           λ named. rule₁-holds _ q (reads .kind) (eqb-false _ 0 (or-false-left _ _ (reads .block))) there,
@@ -135,5 +134,4 @@ module _ (C : Code) (promise : ChunkPromise C) where
         (λ reads there.
         let both = rule₃-holds _ q (reads .kind) there in
         (λ named. both .0, λ named. both .1))
-        (seen C x .s₁) (seen C x .s₂) (seen C x .s₃)
-        (word-reads C promise x none) within
+        (s .s₁) (s .s₂) (s .s₃) (word-reads C s kinds none) within

@@ -1,14 +1,16 @@
 -- Any words by position, and any residual; no code stands here. On a range whose words differ in as many bits as the positions in
--- steps (isometric), two positions are no further apart than their residuals together, by the triangle inequality; so the nearest
--- position of the range is off by at most the residuals of it and of the true one. Assumes nothing.
+-- steps (isometric), two positions are no further apart than their residuals and the lost places together, by the triangle inequality; so
+-- the nearest position of the range is off by at most the residuals of it and of the true one, and the lost places. Assumes nothing.
 use mathlib.Core.Path.{_≡_}
+use mathlib.Core.Bool.{Bool}
 use mathlib.Core.Logic.{⊎-elim}
 use Prim.Native.Nat.{ℕ, _+_, _-_, _≤_, _<_}
 use native.Mathlib.Nat.{add-sub-of-le}
 use native.Mathlib.Omega.{arith}
-use Rattle.bits.specs.Sums.{distance}
+use Rattle.bits.specs.Sums.{distance, distanceHeard, lostBelow}
 use Rattle.bits.proofs.Numbers.{lt-or-le}
-use Rattle.bits.proofs.Distance.{distance-comm, distance-self, distance-triangle}
+use Rattle.bits.proofs.Distance.{distance-comm, distance-self}
+use Rattle.bits.proofs.Heard.{heard-triangle}
 use Rattle.bits.proofs.Searches.{leastAt-low, leastAt-high, leastAt-least, leastAt-first}
 use Rattle.model.specs.Reading.{Seen, Range, nearestIn, nearest}
 use Rattle.model.specs.declared.ReadAnswer.the-variants.{At}
@@ -40,14 +42,14 @@ module _ (d : ℕ) (words : ℕ → ℕ → ℕ) where
       (λ (b : q′ ≤ q). omega (arith, far q′ q l′ b h, distance-comm d (words q) (words q′)))
       (lt-or-le q q′)
 
--- no two words are further apart than their residuals together
-abbrev pub WithinResiduals : (d : ℕ) (words : ℕ → ℕ → ℕ) (residual : ℕ → ℕ) → Type 0
-WithinResiduals d words residual = (q q′ : ℕ) → distance d (words q) (words q′) ≤ residual q + residual q′
+-- no two words are further apart than their residuals and so many lost places together
+abbrev pub WithinResiduals : (d : ℕ) (words : ℕ → ℕ → ℕ) (residual : ℕ → ℕ) (lost : ℕ) → Type 0
+WithinResiduals d words residual lost = (q q′ : ℕ) → distance d (words q) (words q′) ≤ residual q + residual q′ + lost
 
--- which holds of the residuals that count the bits in which a word is unlike x
-pub counted-residuals : (d : ℕ) (words : ℕ → ℕ → ℕ) (x : ℕ → ℕ) → WithinResiduals d words (λ q. distance d (words q) x)
-counted-residuals d words x q q′ =
-    omega (arith, distance-triangle d (words q) x (words q′), distance-comm d x (words q′))
+-- which holds of the residuals that count the bits heard in which a word is unlike x
+pub counted-residuals : (heard : ℕ → Bool) (d : ℕ) (words : ℕ → ℕ → ℕ) (x : ℕ → ℕ)
+    → WithinResiduals d words (λ q. distanceHeard heard d (words q) x) (lostBelow heard d)
+counted-residuals heard d words x q q′ = heard-triangle heard d (words q) (words q′) x
 
 -- q is the nearest position of a range: none of the range has a smaller residual, and none before it as small a one
 pub record NearestIn (residual : ℕ → ℕ) (range : Range) (q : ℕ) : Type 0 where
@@ -70,12 +72,13 @@ nearest-in residual range h =
       none-smaller = λ q l b. leastAt-first residual low steps q l b;
     }
 
--- the answer to a range that holds the true position is as near to it as the two residuals say, and its own is no larger
-module _ (d : ℕ) (words : ℕ → ℕ → ℕ) (residual : ℕ → ℕ) (within : WithinResiduals d words residual) where
+-- the answer to a range that holds the true position is as near to it as the two residuals and the lost places say, and its own is no
+-- larger
+module _ (d : ℕ) (words : ℕ → ℕ → ℕ) (residual : ℕ → ℕ) (lost : ℕ) (within : WithinResiduals d words residual lost) where
   pub answer-off-by : (s : Seen) (rule : ℕ) (range : Range) → Isometric d words (range .low) (range .high)
       → (position : ℕ) → range .low ≤ position → position ≤ range .high
       → let answer = At (nearest residual s rule range) in
-      Near answer position (residual position + residualOf answer) × (residualOf answer ≤ residual position)
+      Near answer position (residual position + residualOf answer + lost) × (residualOf answer ≤ residual position)
   unfolding nearest Near residualOf
   answer-off-by s rule range far position l h =
       let q : ℕ = nearestIn residual range in

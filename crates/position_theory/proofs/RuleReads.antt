@@ -10,12 +10,13 @@ use Rattle.bits.proofs.Numbers.{or-false-left, or-false-right}
 use Rattle.model.specs.Refusals.{firstRefusal}
 use Rattle.model.specs.Card.{Code}
 use Rattle.model.specs.Order.{lastCodeword}
-use Rattle.model.specs.Reading.{chunkReading, unreadable, numberRead, Seen, seen, ruleSeen, namesFirst, namesSecond, numberBy}
-use Rattle.model.specs.Reading.{Rules, twoEnds, rowsSeen, ruleNamed, rowsOf}
+use Rattle.model.specs.Reading.{unreadable, numberRead, Seen, ruleSeen, namesFirst, namesSecond, numberBy, Rules, twoEnds, rowsSeen}
 use Rattle.model.specs.declared.Chunk.{Chunk}
 use Rattle.model.specs.declared.Chunk.the-variants.{Codeword, Unreadable}
 use Rattle.code_theory.specs.Promise.{ChunkPromise}
 use Rattle.code_theory.proofs.Refusals.{NoneHolds, numbered, none-holds}
+use Rattle.position_theory.specs.SeenChunks.{SeesChunks}
+use Rattle.position_theory.specs.Nearest.{refusalOf}
 use Rattle.position_theory.proofs.Separators.{of-every-rule}
 use Rattle.position_theory.proofs.Telling.{ReadsAs}
 
@@ -23,9 +24,19 @@ use Rattle.position_theory.proofs.Telling.{ReadsAs}
 abbrev pub ReadsKind : (Kind : ℕ → Type 0) → Chunk → Type 0
 ReadsKind Kind read = (p e : ℕ) → read ≡ Codeword p e → Kind p
 
--- by the chunk promise, a number of the code
-pub reads-in-code : (C : Code) → ChunkPromise C → (chunk : ℕ → ℕ) → ReadsKind (λ p. p ≤ lastCodeword C) (chunkReading C chunk)
-reads-in-code C promise chunk p e read = promise .chunks .within chunk p e read .0
+-- both chunks read numbers of some kind
+abbrev pub BothRead : (Kind : ℕ → Type 0) → Seen → Type 0
+BothRead Kind s = ReadsKind Kind (s .read₁) × ReadsKind Kind (s .read₂)
+
+-- those of the code, by the chunk promise
+abbrev pub InCode : Code → (p : ℕ) → Type 0
+InCode C p = p ≤ lastCodeword C
+
+pub reads-in-code : (C : Code) → ChunkPromise C → {heard : ℕ → Bool} {x : ℕ → ℕ} {s : Seen} → SeesChunks C heard x s → BothRead (InCode C) s
+reads-in-code C promise sees = (
+  λ p e read. promise .chunks _ .within _ p e (sym (sees .first) ∙ read) .0,
+  λ p e read. promise .chunks _ .within _ p e (sym (sees .second) ∙ read) .0,
+)
 
 -- a chunk that is named reads as codeword number p
 abbrev pub NamedReads : (named : Bool) → Chunk → (p : ℕ) → Type 0
@@ -53,7 +64,7 @@ same-number a b alike = eqb-true a b (holds (eqb a b) alike)
     holds true e = refl
     holds false e = absurd (true≢false e)
 
-module _ (R : Rules) (s : Seen) (Kind : ℕ → Type 0) (kind₁ : ReadsKind Kind (s .read₁)) (kind₂ : ReadsKind Kind (s .read₂)) where
+module _ (R : Rules) (s : Seen) (Kind : ℕ → Type 0) (kinds : BothRead Kind s) where
   pub rule-reads : firstRefusal (rowsSeen R s (ruleSeen s)) ≡ 0 → RuleReads R s Kind (ruleSeen s)
   unfolding NoneHolds numbered rowsSeen numberBy
   rule-reads none =
@@ -63,7 +74,7 @@ module _ (R : Rules) (s : Seen) (Kind : ℕ → Type 0) (kind₁ : ReadsKind Kin
       let read = readable (s .read₁) (or-false-left _ _ row) in
       record {
         some-rule = λ e. omega arith;
-        kind = kind₁ _ _ (read .1);
+        kind = kinds .0 _ _ (read .1);
         block = block;
         first = λ named. read;
         second = λ named. absurd (false≢true named);
@@ -72,7 +83,7 @@ module _ (R : Rules) (s : Seen) (Kind : ℕ → Type 0) (kind₁ : ReadsKind Kin
       let read = readable (s .read₂) row in
       record {
         some-rule = λ e. omega arith;
-        kind = kind₂ _ _ (read .1);
+        kind = kinds .1 _ _ (read .1);
         block = block;
         first = λ named. absurd (false≢true named);
         second = λ named. read;
@@ -82,18 +93,16 @@ module _ (R : Rules) (s : Seen) (Kind : ℕ → Type 0) (kind₁ : ReadsKind Kin
       let (e, read′) = readable (s .read₂) (or-false-right (unreadable (s .read₁)) _ row) in
       record {
         some-rule = λ e. omega arith;
-        kind = kind₁ _ _ (read .1);
+        kind = kinds .0 _ _ (read .1);
         block = block;
         first = λ named. read;
         second = λ named. (e, read′ ∙ ap (λ (p : ℕ). Codeword p e) (sym (same-number _ _ alike)));
       })
       (s .s₁) (s .s₂) (s .s₃) (none-holds _ refl none)
 
--- of a received word's bits, on a track with two ends, where the numbers are those of the code
-abbrev pub WordReads : Code → (x : ℕ → ℕ) (rule : ℕ) → Type 0
-WordReads C x rule = RuleReads (twoEnds C) (seen C x) (λ p. p ≤ lastCodeword C) rule
+-- on a track with two ends, where the numbers are those of the code
+abbrev pub WordReads : Code → Seen → (rule : ℕ) → Type 0
+WordReads C s rule = RuleReads (twoEnds C) s (InCode C) rule
 
-pub word-reads : (C : Code) → ChunkPromise C → (x : ℕ → ℕ) → firstRefusal (rowsOf C x) ≡ 0 → WordReads C x (ruleNamed C x)
-unfolding rowsOf ruleNamed seen
-word-reads C promise x none =
-    rule-reads (twoEnds C) (seen C x) (λ p. p ≤ lastCodeword C) (reads-in-code C promise _) (reads-in-code C promise _) none
+pub word-reads : (C : Code) (s : Seen) → BothRead (InCode C) s → refusalOf C s ≡ 0 → WordReads C s (ruleSeen s)
+word-reads C s kinds none = rule-reads (twoEnds C) s (InCode C) kinds none

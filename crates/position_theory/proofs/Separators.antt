@@ -4,9 +4,7 @@ use Prim.Native.Nat.{ℕ}
 use borrow.Author.Tests.{eq-eqb, ne-eqb}
 use lib.Dec.{eqb}
 use Rattle.bits.proofs.Numbers.{by-test}
-use Rattle.model.specs.Card.{Code}
-use Rattle.model.specs.Words.{separator₂, separator₃}
-use Rattle.model.specs.Reading.{majority, seen, ruleOf, ruleNamed}
+use Rattle.model.specs.Reading.{ruleOf}
 
 module _ {s₁ s₂ s₃ : ℕ} where
   pub rule₁-named : s₁ ≡ s₂ → (s₂ ≡ s₃ → ⊥) → ruleOf s₁ s₂ s₃ ≡ 1
@@ -30,26 +28,3 @@ pub of-every-rule : (P : ℕ → Type 0) → P 0 → P 1 → P 2 → P 3 → (s�
 unfolding ruleOf
 of-every-rule P p₀ p₁ p₂ p₃ s₁ s₂ s₃ =
     by-test P (eqb s₁ s₂) (λ _. by-test P (eqb s₂ s₃) (λ _. p₃) (λ _. p₁)) (λ _. by-test P (eqb s₂ s₃) (λ _. p₂) (λ _. p₀))
-
--- the three separators of the word x read s₁, s₂ and s₃
-pub record SeparatorsRead (C : Code) (x : ℕ → ℕ) (s₁ s₂ s₃ : ℕ) : Type 0 where
-  pub first : majority (C .D) x ≡ s₁
-  pub second : majority (C .D) (separator₂ C x) ≡ s₂
-  pub third : majority (C .D) (separator₃ C x) ≡ s₃
-
-module _ {C : Code} {x : ℕ → ℕ} {s₁ s₂ s₃ : ℕ} (read : SeparatorsRead C x s₁ s₂ s₃) where
-  named-by : ruleNamed C x ≡ ruleOf s₁ s₂ s₃
-  unfolding ruleNamed seen
-  named-by = rw (read .first, read .second, read .third)
-
-  pub names-rule₁ : s₁ ≡ s₂ → (s₂ ≡ s₃ → ⊥) → ruleNamed C x ≡ 1
-  names-rule₁ e ne = rw named-by (rule₁-named e ne)
-
-  pub names-rule₂ : (s₁ ≡ s₂ → ⊥) → s₂ ≡ s₃ → ruleNamed C x ≡ 2
-  names-rule₂ ne e = rw named-by (rule₂-named ne e)
-
-  pub names-rule₃ : s₁ ≡ s₂ → s₂ ≡ s₃ → ruleNamed C x ≡ 3
-  names-rule₃ e e′ = rw named-by (rule₃-named e e′)
-
-  pub names-none : (s₁ ≡ s₂ → ⊥) → (s₂ ≡ s₃ → ⊥) → ruleNamed C x ≡ 0
-  names-none ne ne′ = rw named-by (none-named ne ne′)

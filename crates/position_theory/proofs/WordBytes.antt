@@ -20,10 +20,11 @@ use Rattle.bits.proofs.ByteLists.{differing-below, packed-distance}
 use Rattle.model.specs.Refusals.{firstRefusal, unlessRefused}
 use Rattle.model.specs.Card.{Code}
 use Rattle.model.specs.Words.{wordBits, blockOf, wordAt, wordBytes}
-use Rattle.model.specs.Reading.{seen, ruleNamed, rowsOf, allowed, residual, nearest}
+use Rattle.model.specs.Reading.{Seen, seen, ruleSeen, ruleNamed, rowsOf, allowed, residual, nearest}
 use Rattle.model.specs.Answers.{wordLength, spareSet, rowsOfWord, readWord}
 use Rattle.model.specs.declared.ReadAnswer.{ReadAnswer}
 use Rattle.model.specs.declared.ReadAnswer.the-variants.{At, Refused}
+use Rattle.position_theory.specs.Nearest.{refusalOf, allowedBy}
 use Rattle.position_theory.proofs.Words.{word-bit}
 
 pub word-at-bit : (C : Code) (position p : ℕ) → wordAt C position p < 2
@@ -52,15 +53,18 @@ pub differing-words : (C : Code) (p q : ℕ)
 unfolding wordBytes
 differing-words C p q = packed-distance (wordBits C) (word-at-bit C p) (word-at-bit C q)
 
--- the reading of a received word, given as a bit function: refusals 9 to 12, or the nearest allowed position
-unfoldable pub reading : Code → (x : ℕ → ℕ) → ReadAnswer
-reading C x =
-    unlessRefused (firstRefusal (rowsOf C x)) Refused (At (nearest (residual C x) (seen C x) (ruleNamed C x) (allowed C x)))
+-- the reading of what is seen of a word: refusals 9 to 12, or the nearest allowed position
+unfoldable pub readingOfSeen : Code → Seen → (residual : ℕ → ℕ) → ReadAnswer
+readingOfSeen C s residual = unlessRefused (refusalOf C s) Refused (At (nearest residual s (ruleSeen s) (allowedBy C s)))
+
+-- of a plain word, given as a bit function
+abbrev pub reading : Code → (x : ℕ → ℕ) → ReadAnswer
+reading C x = readingOfSeen C (seen C x) (residual C x)
 
 -- a word of the right length with spare bits zero is read
 pub read-if-whole : (C : Code) (received : List ℕ) → length received ≡ wordLength C → spareSet C received ≡ false
     → readWord C received ≡ reading C (place received)
-unfolding readWord rowsOfWord firstRefusal reading
+unfolding readWord rowsOfWord firstRefusal readingOfSeen rowsOf allowed ruleNamed
 read-if-whole C received h spare = rw (eq-eqb (length received) (wordLength C) h, spare)
 
 -- a received word with spare bits zero

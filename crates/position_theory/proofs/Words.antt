@@ -1,19 +1,19 @@
 -- Words chunk by chunk: what stands in each of the five chunks of w(i), and how the distance of two words adds up over the
 -- chunks. Assumes nothing.
 use mathlib.Core.Path.{_≡_, refl, sym}
+use mathlib.Core.Bool.{Bool, cond}
 use Prim.Native.Nat.{ℕ, zero, suc, _+_, _%_, _≤_, _<_}
 use native.Mathlib.Nat.{zero-add, add-assoc, mod-lt}
 use native.Mathlib.Omega.{arith}
-use Rattle.bits.specs.Sums.{sumBelow, distance}
+use Rattle.bits.specs.Sums.{sumBelow, distance, unlike, distanceHeard, lostBelow}
 use Rattle.bits.specs.Places.{bit}
-use Rattle.bits.proofs.Sums.{from-place-zero}
-use Rattle.bits.proofs.Distance.{distance-split}
+use Rattle.bits.proofs.Sums.{from-place-zero, sum-split}
 use Rattle.bits.proofs.Joins.{join-left, join-right, join-bit}
 use Rattle.model.specs.Card.{Code}
 use Rattle.model.specs.Order.{codeword}
 use Rattle.model.specs.Words.{wordBits, chunkSize, placesBefore, chunkOf, fiveChunks, word}
 use Rattle.model.specs.Words.{separator₁, chunk₁, separator₂, chunk₂, separator₃}
-use Rattle.position_theory.specs.Damage.{turnedIn, turnedInAll}
+use Rattle.position_theory.specs.Damage.{turnedIn, turnedInAll, wrongIn, lostIn, wrongInAll, lostInAll}
 
 module _ (C : Code) (s₁ c₁ s₂ c₂ s₃ : ℕ → ℕ) where
   five-separator₁ : (p : ℕ) → p < C .D → fiveChunks C s₁ c₁ s₂ c₂ s₃ p ≡ s₁ p
@@ -117,18 +117,33 @@ pub distance-none : (u v : ℕ → ℕ) → distance 0 u v ≡ 0
 unfolding distance sumBelow
 distance-none u v = refl
 
+-- what adds up over the places of a word adds up over its chunks
+sum-by-chunks : (C : Code) (f : ℕ → ℕ) (c : ℕ)
+    → sumBelow f (placesBefore (C .D) (C .n) c) ≡ sumBelow (λ c. sumBelow (chunkOf C c f) (chunkSize (C .D) (C .n) c)) c
+unfolding sumBelow placesBefore
+sum-by-chunks C f zero = refl
+sum-by-chunks C f (suc c) =
+    rw (
+      chunk-ends (C .D) (C .n) c,
+      sum-split f (placesBefore (C .D) (C .n) c) (chunkSize (C .D) (C .n) c),
+      sum-by-chunks C f c,
+    )
+
 -- the distance of two words is the sum of the distances of their chunks
 pub distance-by-chunks : (C : Code) (u x : ℕ → ℕ) (c : ℕ)
     → distance (placesBefore (C .D) (C .n) c) u x ≡ sumBelow (λ c. turnedIn C c u x) c
-unfolding sumBelow turnedIn placesBefore
-distance-by-chunks C u x zero = distance-none u x
-distance-by-chunks C u x (suc c) =
-    rw (
-      chunk-ends (C .D) (C .n) c,
-      distance-split (placesBefore (C .D) (C .n) c) (chunkSize (C .D) (C .n) c) u x,
-      distance-by-chunks C u x c,
-    )
+unfolding distance turnedIn
+distance-by-chunks C u x c = sum-by-chunks C (λ p. unlike (u p) (x p)) c
 
 pub five-distance : (C : Code) (u x : ℕ → ℕ) → distance (wordBits C) u x ≡ turnedInAll C u x
 unfolding turnedInAll
 five-distance C u x = rw (word-ends C) (distance-by-chunks C u x 5)
+
+-- over the places that are heard too; and so are the lost places
+pub five-wrong : (C : Code) (heard : ℕ → Bool) (u x : ℕ → ℕ) → distanceHeard heard (wordBits C) u x ≡ wrongInAll C heard u x
+unfolding distanceHeard wrongInAll wrongIn
+five-wrong C heard u x = rw (word-ends C) (sum-by-chunks C (λ p. cond (heard p) (unlike (u p) (x p)) 0) 5)
+
+pub five-lost : (C : Code) (heard : ℕ → Bool) → lostBelow heard (wordBits C) ≡ lostInAll C heard
+unfolding lostBelow lostInAll lostIn
+five-lost C heard = rw (word-ends C) (sum-by-chunks C (λ p. cond (heard p) 0 1) 5)

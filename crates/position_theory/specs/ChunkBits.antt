@@ -1,14 +1,16 @@
--- Document 02, P3: how many bits a chunk needed, as the contract of the reading call states it of the received word and the codeword, and
+-- Document 02, P3: how many bits a chunk needed, as the contracts of the reading calls state it of the received word and the codeword, and
 -- of the bits that were turned. Assumes nothing.
 use mathlib.Core.Path.{_≡_}
 use mathlib.Core.Bool.{Bool, true, false}
 use mathlib.Core.List.{List}
-use Prim.Native.Nat.{ℕ, _≤_}
+use Prim.Native.Nat.{ℕ, _+_, _*_, _≤_, _<_}
+use Rattle.bits.specs.Sums.{lostBelow}
 use Rattle.bits.specs.Places.{place}
 use Rattle.model.specs.Card.{Code, codeOf, SoundCard, radius}
 use Rattle.model.specs.Order.{lastCodeword, lastPosition}
 use Rattle.model.specs.Words.{chunk₁, chunk₂, wordBytes}
-use Rattle.model.specs.Reading.{chunkDistance, ruleNamed, namesFirst, namesSecond, twoEnds, allowed}
+use Rattle.model.specs.Reading.{chunkDistance, Seen, seen, ruleSeen, namesFirst, namesSecond, twoEnds}
+use Rattle.model.specs.Levels.{chunkWrong}
 use Rattle.model.specs.Statuses.{bitsValue}
 use Rattle.model.specs.declared.ChunkBits.{ChunkBits}
 use Rattle.model.specs.declared.ChunkBits.the-variants.{Differing, NotRead}
@@ -16,6 +18,7 @@ use Rattle.model.specs.declared.Reading.{Reading}
 use Rattle.model.specs.declared.ReadAnswer.{ReadAnswer}
 use Rattle.model.specs.declared.ReadAnswer.the-variants.{At}
 use Rattle.position_theory.specs.Damage.{turnedIn, WithinRadius}
+use Rattle.position_theory.specs.Nearest.{allowedBy}
 
 -- a number is the count of places in which a code chunk and c(p) differ, and it is at most t
 abbrev pub CountsDiffering : Code → (chunk : ℕ → ℕ) (p count : ℕ) → Type 0
@@ -26,17 +29,36 @@ unfoldable pub TellsBits : Code → (named : Bool) (chunk : ℕ → ℕ) (p : �
 TellsBits C true chunk p answered = (count : ℕ) × (answered ≡ Differing count) × CountsDiffering C chunk p count
 TellsBits C false chunk p answered = answered ≡ NotRead
 
--- What is told of both code chunks of the received word x, by `TellsBits` or in another form of it: the rule is the one that the
--- separators name; the chunks that it names read as one codeword c(p), by which it allows positions; and what is told of either chunk
--- is its bits against that codeword.
-pub record BitsOfChunks (B : Type 0) (Tells : Code → (named : Bool) (chunk : ℕ → ℕ) (p : ℕ) → B → Type 0)
-    (C : Code) (x : ℕ → ℕ) (rule : ℕ) (bits₁ bits₂ : B) : Type 0 where
-  pub by-rule : rule ≡ ruleNamed C x
+-- the same of a chunk of which only some places are heard: the count is that of the wrong ones, and 2 × wrong + lost is below D
+unfoldable pub TellsWrong : Code → (named : Bool) (heard : ℕ → Bool) (chunk : ℕ → ℕ) (p : ℕ) → ChunkBits → Type 0
+TellsWrong C true heard chunk p answered =
+    (count : ℕ) × (answered ≡ Differing count) × (count ≡ chunkWrong C heard chunk p) × (2 * count + lostBelow heard (C .n) < C .D)
+TellsWrong C false heard chunk p answered = answered ≡ NotRead
+
+-- What is told of both code chunks of a word of which s is seen, of each in its own form: the rule is the one that the separators name;
+-- the chunks that it names read as one codeword c(p), by which it allows positions; and what is told of either chunk is its bits against
+-- that codeword.
+pub record BitsSeen (B : Type 0) (C : Code) (s : Seen) (Tells₁ Tells₂ : (named : Bool) (p : ℕ) → B → Type 0)
+    (rule : ℕ) (bits₁ bits₂ : B) : Type 0 where
+  pub by-rule : rule ≡ ruleSeen s
   pub p : ℕ
   pub in-code : p ≤ lastCodeword C
-  pub allows : allowed C x ≡ twoEnds C .range rule p
-  pub first : Tells C (namesFirst rule) (chunk₁ C x) p bits₁
-  pub second : Tells C (namesSecond rule) (chunk₂ C x) p bits₂
+  pub allows : allowedBy C s ≡ twoEnds C .range rule p
+  pub first : Tells₁ (namesFirst rule) p bits₁
+  pub second : Tells₂ (namesSecond rule) p bits₂
+
+-- of the received word x, by `TellsBits` or in another form of it
+abbrev pub BitsOfChunks : (B : Type 0) (Tells : Code → (named : Bool) (chunk : ℕ → ℕ) (p : ℕ) → B → Type 0)
+    → Code → (x : ℕ → ℕ) (rule : ℕ) (bits₁ bits₂ : B) → Type 0
+BitsOfChunks B Tells C x =
+    BitsSeen B C (seen C x) (λ named. Tells C named (chunk₁ C x)) (λ named. Tells C named (chunk₂ C x))
+
+-- of a word x of which these places are heard
+abbrev pub WrongOfChunks : Code → (heard : ℕ → Bool) (x : ℕ → ℕ) → Seen → (rule : ℕ) (bits₁ bits₂ : ChunkBits) → Type 0
+WrongOfChunks C heard x s =
+    BitsSeen ChunkBits C s
+    (λ named. TellsWrong C named (chunk₁ C heard) (chunk₁ C x))
+    (λ named. TellsWrong C named (chunk₂ C heard) (chunk₂ C x))
 
 -- of every word that is read, on every card
 unfoldable pub TellsBitsOfChunks : (card received : List ℕ) → ReadAnswer → Type 0

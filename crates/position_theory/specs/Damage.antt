@@ -1,11 +1,11 @@
 -- Document 01, "Reading a word", last paragraph: the bits that the cable turns, chunk by chunk, and how far one position is
--- from another. Assumes nothing.
+-- from another. Document 02, P5: the bits of a chunk that are wrong and those that are lost. Assumes nothing.
 use mathlib.Core.Path.{_≡_}
-use mathlib.Core.Bool.{false}
+use mathlib.Core.Bool.{Bool, false}
 use mathlib.Core.List.{List}
-use Prim.Native.Nat.{ℕ, _+_, _≤_, _<_}
+use Prim.Native.Nat.{ℕ, _+_, _*_, _≤_, _<_}
 use lib.ListN.{length}
-use Rattle.bits.specs.Sums.{sumBelow, distance}
+use Rattle.bits.specs.Sums.{sumBelow, distance, distanceHeard, lostBelow}
 use Rattle.bits.specs.Places.{place}
 use Rattle.model.specs.Card.{Code, radius}
 use Rattle.model.specs.Words.{chunkSize, chunkOf, wordBytes}
@@ -16,6 +16,28 @@ use Rattle.model.specs.declared.ReadAnswer.the-variants.{At, Refused}
 -- the number of bits turned in chunk c, of the chunks 0 to 4: the places of it in which x is unlike u
 unfoldable pub turnedIn : Code → (c : ℕ) (u x : ℕ → ℕ) → ℕ
 turnedIn C c u x = distance (chunkSize (C .D) (C .n) c) (chunkOf C c u) (chunkOf C c x)
+
+-- where only some places are heard: the number of bits that are wrong in chunk c, those of it that are heard and in which x is unlike u,
+-- and the number of bits that are lost in it
+unfoldable pub wrongIn : Code → (heard : ℕ → Bool) (c : ℕ) (u x : ℕ → ℕ) → ℕ
+wrongIn C heard c u x = distanceHeard (chunkOf C c heard) (chunkSize (C .D) (C .n) c) (chunkOf C c u) (chunkOf C c x)
+
+unfoldable pub lostIn : Code → (heard : ℕ → Bool) (c : ℕ) → ℕ
+lostIn C heard c = lostBelow (chunkOf C c heard) (chunkSize (C .D) (C .n) c)
+
+-- 2 × wrong + lost of chunk c is below D; and that of each of the five chunks is
+abbrev pub ChunkBelowD : Code → (heard : ℕ → Bool) (u x : ℕ → ℕ) (c : ℕ) → Type 0
+ChunkBelowD C heard u x c = 2 * wrongIn C heard c u x + lostIn C heard c < C .D
+
+unfoldable pub ChunksBelowD : Code → (heard : ℕ → Bool) (u x : ℕ → ℕ) → Type 0
+ChunksBelowD C heard u x = (c : ℕ) → c < 5 → ChunkBelowD C heard u x c
+
+-- the number of bits that are wrong in all, and of those that are lost in all: the sums over the five chunks
+unfoldable pub wrongInAll : Code → (heard : ℕ → Bool) (u x : ℕ → ℕ) → ℕ
+wrongInAll C heard u x = sumBelow (λ c. wrongIn C heard c u x) 5
+
+unfoldable pub lostInAll : Code → (heard : ℕ → Bool) → ℕ
+lostInAll C heard = sumBelow (lostIn C heard) 5
 
 -- in each of the five chunks at most e bits are turned
 unfoldable pub ChunksWithin : Code → (e : ℕ) (u x : ℕ → ℕ) → Type 0

@@ -1,32 +1,47 @@
 -- A search passes the places of two words, held in arrays. At a place where they are alike nothing changes; where they differ, it
--- comes one position on, and the residual changes by that place. Assumes nothing.
-use mathlib.Core.Path.{_≡_, refl, sym, _∙_}
+-- comes one position on, and the residual changes by that place if it is heard. Assumes nothing.
+use mathlib.Core.Path.{_≡_, refl, sym, ap, _∙_}
 use mathlib.Core.List.{List}
 use mathlib.Core.Logic.{⊎-elim}
-use Prim.Native.Nat.{ℕ, _+_, _≤_, _<_}
+use Prim.Native.Nat.{ℕ, _+_, _/_, _%_, _≤_, _<_}
 use native.Mathlib.Numerals.{add-one}
 use native.Mathlib.Omega.{arith}
 use borrow.Author.Tests.{lt-ltb, le-ltb}
-use Rattle.bits.specs.Sums.{distance, unlike}
-use Rattle.bits.specs.Places.{place}
+use lib.Bits.{bitXor}
+use lib.ListN.{getD, replicate, getD-replicate}
+use Rattle.bits.specs.Sums.{unlike, distanceHeard, marked}
+use Rattle.bits.specs.Places.{bit, place}
 use Rattle.bits.proofs.Numbers.{lt-or-le}
-use Rattle.bits.proofs.Distance.{distance-ext, distance-ext-left, distance-suc, distance-alike-after, distance-one-place}
+use Rattle.bits.proofs.Binary.{bit-xor}
+use Rattle.bits.proofs.Distance.{distance-suc}
+use Rattle.bits.proofs.Heard.{heard-ext-left, heard-one-place}
 use Rattle.bits.proofs.Places.{place-bit}
 use Rattle.position.specs.Spliced.{Spliced}
 use Rattle.reader.specs.declared.scan.Scan.{Scan}
 use Rattle.reader.specs.Scanned.{Scanned, beginsAt}
-use Rattle.reader.specs.Passing.{stepsTo, passedTo, residualTo, ResidualsAlong, Passes, Searched}
+use Rattle.reader.specs.Passing.{stepsTo, passedTo, unlikeHeard, residualTo, ResidualsAlong, Passes, Searched}
 use Rattle.reader.proofs.Scanning.{scanned-first}
 
 -- a search that has passed no place more
-pub passes-none : (u v x : List ℕ) (at : ℕ) (s : Scan) → s .residual ≡ residualTo u v x at → Passes u v x at at s s
-passes-none u v x at s e = record { low = refl; position = refl; residual = e; scanned = λ f along scanned. scanned }
+pub passes-none : (u v x h : List ℕ) (at : ℕ) (s : Scan) → s .residual ≡ residualTo u v x h at → Passes u v x h at at s s
+passes-none u v x h at s e = record { low = refl; position = refl; residual = e; scanned = λ f along scanned. scanned }
 
 -- bits that are not the same differ by 1
 differs : (u v : List ℕ) (q : ℕ) → (place u q ≡ place v q → ⊥) → unlike (place u q) (place v q) ≡ 1
 differs u v q differ = omega (arith, place-bit u q, place-bit v q)
 
 module _ (u v : List ℕ) (q : ℕ) where
+  -- the bit at place q of the exclusive-or of the two bytes that hold it tells whether the two bits differ
+  pub joined-bit : (t : ℕ) → ((w : List ℕ) → getD w (q / 8) 0 ≡ bitXor (getD u (q / 8) 0) (getD v (q / 8) 0) → t ≡ place w q)
+      → t ≡ unlike (place u q) (place v q)
+  unfolding place
+  joined-bit t is =
+      let joined = bitXor (getD u (q / 8) 0) (getD v (q / 8) 0) in
+      let here = getD-replicate {A = ℕ} (q / 8 + 1) (q / 8) joined 0 (omega arith) in
+      is (replicate (q / 8 + 1) joined) here
+      ∙ ap (λ (byte : ℕ). bit byte (q % 8)) here
+      ∙ bit-xor (getD u (q / 8) 0) (getD v (q / 8) 0) (q % 8)
+
   -- the word at place q, below it and from it on
   pub passed-below : (p : ℕ) → p < q → passedTo u v q p ≡ place v p
   unfolding passedTo
@@ -40,11 +55,12 @@ module _ (u v : List ℕ) (q : ℕ) where
   step-more : stepsTo u v (q + 1) ≡ stepsTo u v q + unlike (place u q) (place v q)
   step-more = rw (add-one q) (distance-suc q (place u) (place v))
 
-residual-more : (u v x : List ℕ) (q : ℕ) → q < 320
-    → residualTo u v x (q + 1) + unlike (place u q) (place x q) ≡ residualTo u v x q + unlike (place v q) (place x q)
-residual-more u v x q room =
+residual-more : (u v x h : List ℕ) (q : ℕ) → q < 320
+    → residualTo u v x h (q + 1) + unlikeHeard (place h q) (place u q) (place x q)
+    ≡ residualTo u v x h q + unlikeHeard (place h q) (place v q) (place x q)
+residual-more u v x h q room =
     rw (← passed-above u v q q (omega arith), ← passed-below u v (q + 1) q (omega arith))
-    (distance-one-place (passedTo u v (q + 1)) (passedTo u v q) (place x) 320 q room elsewhere)
+    (heard-one-place (marked (place h)) (passedTo u v (q + 1)) (passedTo u v q) (place x) 320 q room elsewhere)
   where
     elsewhere : (p : ℕ) → p < 320 → (p ≡ q → ⊥) → passedTo u v (q + 1) p ≡ passedTo u v q p
     elsewhere p b ne =
@@ -53,13 +69,13 @@ residual-more u v x q room =
         (λ (l : q ≤ p). passed-above u v (q + 1) p (omega arith) ∙ sym (passed-above u v q p l))
         (lt-or-le p q)
 
-module _ (u v x : List ℕ) (at q : ℕ) (s t : Scan) (from-at : at ≤ q) (room : q < 320) (so-far : Passes u v x at q s t) where
+module _ (u v x h : List ℕ) (at q : ℕ) (s t : Scan) (from-at : at ≤ q) (room : q < 320) (so-far : Passes u v x h at q s t) where
   -- a place that is alike
-  pub pass-alike : place u q ≡ place v q → Passes u v x at (q + 1) s t
+  pub pass-alike : place u q ≡ place v q → Passes u v x h at (q + 1) s t
   unfolding ResidualsAlong
   pass-alike e =
       let none : unlike (place u q) (place v q) ≡ 0 = rw e (omega arith) in
-      let kept : residualTo u v x (q + 1) ≡ residualTo u v x q = omega (arith, rw e at (residual-more u v x q room)) in
+      let kept : residualTo u v x h (q + 1) ≡ residualTo u v x h q = omega (arith, rw e at (residual-more u v x h q room)) in
       record {
         low = so-far .low;
         position = omega (arith, so-far .position, step-more u v q);
@@ -69,24 +85,24 @@ module _ (u v x : List ℕ) (at q : ℕ) (s t : Scan) (from-at : at ≤ q) (room
 
   -- a place that differs
   module _ (differ : place u q ≡ place v q → ⊥) where
-    -- a turn to what was received takes one from the residual
-    pub residual-positive : place x q ≡ place v q → 1 ≤ t .residual
-    residual-positive e =
+    -- a turn to what was received takes one from the residual, where the bit is heard
+    pub residual-positive : place h q ≡ 1 → place x q ≡ place v q → 1 ≤ t .residual
+    residual-positive heard e =
         let alike : unlike (place v q) (place x q) ≡ 0 = rw e (omega arith) in
         let turned : unlike (place u q) (place x q) ≡ 1 = rw e (differs u v q differ) in
-        omega (arith, so-far .residual, residual-more u v x q room)
+        omega (arith, so-far .residual, rw heard at (residual-more u v x h q room))
 
     -- `next` is the residual after the bit was turned to v's, and r the search one position on with that residual
     pub pass-differing : (next : ℕ)
         → ((old : ℕ) → old < 2 → unlike old (place v q) ≡ 1
-        → next + unlike old (place x q) ≡ t .residual + unlike (place v q) (place x q))
+        → next + unlikeHeard (place h q) old (place x q) ≡ t .residual + unlikeHeard (place h q) (place v q) (place x q))
         → (r : Scan) → r .low ≡ t .low → r .position ≡ t .position + 1 → r .residual ≡ next
-        → ((f : ℕ → ℕ) → Scanned f t → next ≡ f (t .position + 1) → Scanned f r) → Passes u v x at (q + 1) s r
+        → ((f : ℕ → ℕ) → Scanned f t → next ≡ f (t .position + 1) → Scanned f r) → Passes u v x h at (q + 1) s r
     unfolding ResidualsAlong
     pass-differing next turned r low on residual scans =
         let step : stepsTo u v (q + 1) ≡ stepsTo u v q + 1 = omega (arith, step-more u v q, differs u v q differ) in
-        let is-next : next ≡ residualTo u v x (q + 1) =
-        omega (arith, turned (place u q) (place-bit u q) (differs u v q differ), so-far .residual, residual-more u v x q room) in
+        let is-next : next ≡ residualTo u v x h (q + 1) =
+        omega (arith, turned (place u q) (place-bit u q) (differs u v q differ), so-far .residual, residual-more u v x h q room) in
         record {
           low = low ∙ so-far .low;
           position = omega (arith, so-far .position);
@@ -96,28 +112,23 @@ module _ (u v x : List ℕ) (at q : ℕ) (s t : Scan) (from-at : at ≤ q) (room
               (is-next ∙ sym (along (q + 1) (t .position + 1) (omega arith) (omega arith) (omega (arith, so-far .position))));
         }
 
--- a word w put together of the two at a place: it is as unlike u as there are steps to it, and its residual is the one there
+-- the residual of a word w put together of the two at a place is the one there
 module _ (u v w : List ℕ) (at : ℕ) (splice : Spliced u v w at) where
-  pub steps-counted : at ≤ 320 → distance 320 (place u) (place w) ≡ stepsTo u v at
-  steps-counted room =
-      distance-alike-after at 320 (place u) (place w) room (λ p past _. sym (splice p ∙ rw (le-ltb p at past)))
-      ∙ distance-ext at (λ p b. refl) (λ p b. splice p ∙ rw (lt-ltb p at b))
-
-  pub residual-counted : (x : List ℕ) → distance 320 (place w) (place x) ≡ residualTo u v x at
+  pub residual-counted : (x h : List ℕ) → distanceHeard (marked (place h)) 320 (place w) (place x) ≡ residualTo u v x h at
   unfolding passedTo
-  residual-counted x = distance-ext-left 320 (place x) (λ p b. splice p)
+  residual-counted x h = heard-ext-left (marked (place h)) 320 (place x) (λ p b. splice p)
 
--- a search that begins where the places below `at` have been passed, and passes those below `to`
-pub searched : (u v x : List ℕ) (start at to : ℕ) → at ≤ to → (s r : Scan) → s ≡ beginsAt (start + stepsTo u v at) (residualTo u v x at)
-    → Passes u v x at to s r → Searched u v x start at to r
+-- a search that begins at `low`, where the places below `at` have been passed, and passes those below `to`
+pub searched : (u v x h : List ℕ) (low at to : ℕ) → at ≤ to → (s r : Scan) → s ≡ beginsAt low (residualTo u v x h at)
+    → Passes u v x h at to s r → Searched u v x h low at to r
 unfolding ResidualsAlong
-searched u v x start at to forward s r begun passes =
-    let low : s .low ≡ start + stepsTo u v at = rw begun in
-    let position : s .position ≡ start + stepsTo u v at = rw begun in
+searched u v x h low at to forward s r begun passes =
+    let from : s .low ≡ low = rw begun in
+    let position : s .position ≡ low = rw begun in
     record {
-      low = passes .low ∙ low;
-      position = omega (arith, passes .position);
+      begun = passes .low ∙ from;
+      position = rw position at (passes .position);
       scanned = λ f along.
           passes .scanned f (rw position along)
-          (rw begun (scanned-first f (start + stepsTo u v at) (residualTo u v x at) (sym (along at _ (omega arith) forward refl))));
+          (rw begun (scanned-first f low (residualTo u v x h at) (sym (along at low (omega arith) forward refl))));
     }

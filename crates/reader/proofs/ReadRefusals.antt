@@ -1,20 +1,51 @@
--- Refusals 6, 8 and 9 of a word, and where none of them holds the word is answered by the rule that its separators name.
+-- Refusals 6, 8 and 9 of a plain word, and where none of them holds the word is answered by the rule that its separators name.
 -- Assumes nothing.
-use mathlib.Core.Path.{_≡_, sym, _∙_}
+use mathlib.Core.Path.{_≡_, refl, sym, fun-ext, _∙_}
 use mathlib.Core.Bool.{true, false, not}
 use mathlib.Core.List.{List}
-use Prim.Native.Nat.{ℕ}
+use Prim.Native.Nat.{ℕ, _<_}
+use native.Mathlib.Omega.{arith}
 use borrow.Author.Tests.{eq-eqb, ne-eqb}
 use lib.Dec.{eqb}
 use lib.ListN.{length}
+use Rattle.bits.specs.Sums.{marked}
 use Rattle.bits.specs.Places.{place}
+use Rattle.bits.proofs.Heard.{heard-ext}
 use Rattle.model.specs.Refusals.{firstRefusal, unlessRefused}
 use Rattle.model.specs.Answers.{wordLength, spareSet, rowsOfWord, readWord}
 use Rattle.model.specs.Card.{Code}
-use Rattle.model.specs.Reading.{ruleNamed, rowsSeen, rowsOf, allowed}
+use Rattle.model.specs.Reading.{seen, ruleNamed, rowsSeen, residual}
+use Rattle.model.specs.Levels.{residualHeard}
+use Rattle.model.specs.Words.{wordBits}
+use Rattle.model.specs.declared.ReadAnswer.{ReadAnswer}
 use Rattle.model.specs.declared.ReadAnswer.the-variants.{Refused}
-use Rattle.position_theory.proofs.WordBytes.{reading, read-if-whole}
-use Rattle.reader.specs.Received.{answerBy}
+use Rattle.code_theory.specs.Promise.{Sound}
+use Rattle.code_theory.proofs.Promise.{promise}
+use Rattle.code_theory.proofs.ChunkReading.{heard-reading-ext}
+use Rattle.code_theory.proofs.Starts.{word-bits-bound}
+use Rattle.position_theory.proofs.PlainSeen.{plain-sees-chunks, plain-residual}
+use Rattle.position_theory.proofs.WordBytes.{readingOfSeen, read-if-whole}
+use Rattle.reader.specs.Received.{residualIn, SeesIn, AnswersRule, answerBy}
+
+-- a plain word in an array, all of whose places are marked
+module _ (C : Code) (sound : Sound C) (x h : List ℕ) (all : (p : ℕ) → p < 320 → place h p ≡ 1) where
+  all-marked : (p : ℕ) → p < wordBits C → marked (place h) p ≡ true
+  all-marked p b = eq-eqb (place h p) 1 (all p (omega (arith, word-bits-bound C sound)))
+
+  -- what is seen of it is what is seen of the places marked, and so is the residual
+  plain-in-array : SeesIn C x h (seen C (place x))
+  plain-in-array =
+      let sees = plain-sees-chunks C (promise C sound) (place x) in
+      record {
+        first = sees .first ∙ heard-reading-ext C (λ p b. sym (all-marked _ (omega arith))) (λ p b. refl);
+        second = sees .second ∙ heard-reading-ext C (λ p b. sym (all-marked _ (omega arith))) (λ p b. refl);
+      }
+
+  plain-residual-in : residualIn C x h ≡ residual C (place x)
+  unfolding residualHeard
+  plain-residual-in =
+      fun-ext (λ q. heard-ext (wordBits C) all-marked (λ p b. refl) (λ p b. refl))
+      ∙ sym (plain-residual C (place x))
 
 pub refused-6 : (C : Code) (received : List ℕ) → (length received ≡ wordLength C → ⊥) → Refused 6 ≡ readWord C received
 unfolding readWord rowsOfWord firstRefusal unlessRefused
@@ -34,11 +65,14 @@ module _ (C : Code) (received : List ℕ) (whole : length received ≡ wordLengt
   refused-8 some = rw (eq-eqb (length received) (wordLength C) whole, spare-set some)
 
   module _ (none : ones ≡ 0) where
-    -- the array that holds the received word is answered by the rule that is named
-    pub read-by-rule : (x : List ℕ) → place x ≡ place received → answerBy C x (ruleNamed C (place received)) ≡ readWord C received
-    unfolding answerBy reading rowsOf allowed
-    read-by-rule x same = rw same (sym (read-if-whole C received whole (none-spare none)))
+    -- the array that holds the received word is answered by the rule that is named, where all of it is heard
+    pub read-by-rule : Sound C → (x h : List ℕ) → place x ≡ place received → ((p : ℕ) → p < 320 → place h p ≡ 1) → (answer : ReadAnswer)
+        → AnswersRule C x h (ruleNamed C (place received)) answer → answer ≡ readWord C received
+    unfolding answerBy readingOfSeen ruleNamed
+    read-by-rule sound x h same all answer by-rule =
+        by-rule (seen C (place x)) (plain-in-array C sound x h all)
+        ∙ rw (plain-residual-in C sound x h all, same) (sym (read-if-whole C received whole (none-spare none)))
 
     pub refused-9 : ruleNamed C (place received) ≡ 0 → Refused 9 ≡ readWord C received
-    unfolding reading rowsOf rowsSeen firstRefusal unlessRefused
+    unfolding readingOfSeen ruleNamed rowsSeen firstRefusal unlessRefused
     refused-9 unnamed = rw (read-if-whole C received whole (none-spare none), unnamed)

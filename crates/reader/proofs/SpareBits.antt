@@ -49,9 +49,9 @@ module _ (C : Code) (received x : List ℕ) (same : (p : ℕ) → place x p ≡ 
       (λ (some : ones ≡ 0 → ⊥). rw (ne-eqb ones 0 some, spare-some (λ e. some (is ∙ e))))
       (eq-or-ne ones 0)
 
-  pub nothing-spare : length received ≡ wordLength C → spareSet C received ≡ false → NothingSpare C x
+  pub nothing-spare : (h : List ℕ) → length received ≡ wordLength C → spareSet C received ≡ false → NothingSpare C x h
   unfolding NothingSpare
-  nothing-spare h none p l =
+  nothing-spare h whole none p l heard =
       ⊎-elim
       (λ (b : p < 8 * wordLength C). same p ∙ spare-bits-zero C received none p l b)
       (λ (b : 8 * wordLength C ≤ p). same p ∙ past-end received p (omega arith))

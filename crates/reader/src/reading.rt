@@ -1,14 +1,17 @@
-// Reading a received word: the separators name a rule, the rule names code chunks, and these name the positions that it allows.
+// Reading a received word: the separators name a rule, the rule names code chunks, and these name the positions that it allows. The rules
+// read a word over the places that are heard, which `heard` marks: all of a plain word, and the places that aren't lost of one that comes
+// as levels.
 ghost use mathlib.Core.Path.{_≡_};
 ghost use Prim.Native.Nat.{_+_, _≤_};
-ghost use Rattle.bits.specs.Sums.{fromPlace};
+ghost use Rattle.bits.specs.Sums.{fromPlace, marked};
 ghost use Rattle.bits.specs.Places.{place};
 ghost use Rattle.model.specs.Answers.{readWord};
 ghost use Rattle.model.specs.Decoded.{meaning};
 ghost use Rattle.model.specs.Words.{wordBits};
-ghost use Rattle.model.specs.Reading.{chunkReading, ruleNamed};
+ghost use Rattle.model.specs.Reading.{ruleOf, ruleNamed};
+ghost use Rattle.model.specs.Levels.{heardReading};
 ghost use Rattle.code_theory.specs.Promise.{Sound};
-ghost use Rattle.reader.specs.Received.{NothingSpare, foundAt, answerBy};
+ghost use Rattle.reader.specs.Received.{NothingSpare, foundAt, AnswersRule};
 use super::nearest;
 use super::scan::Scan;
 use linear_code::search;
@@ -22,12 +25,13 @@ use position::layout;
 use position::places;
 use position::words;
 
-// Code chunk 1, or 2, which starts at place `at`.
-fn chunk_reading(code: DecodedCode, x: [u8; 40], at: u32) -> Chunk
+// Code chunk 1, or 2, which starts at place `at`, over the places of it that are heard.
+fn chunk_reading(code: DecodedCode, x: [u8; 40], heard: [u8; 40], at: u32) -> Chunk
     requires { ⌜ Sound (meaning code) × (at + code .n ≤ wordBits (meaning code)) ⌝ }
-    ensures { λ r. ⌜ r ≡ chunkReading (meaning code) (fromPlace at (place x)) ⌝ }
+    ensures { λ r. ⌜ r ≡ heardReading (meaning code) (fromPlace at (marked (place heard))) (fromPlace at (place x)) ⌝ }
 {
-    search::read_chunk(code, places::bits_at(x, at, code.n))
+    let chunk = places::bits_at(x, at, code.n);
+    search::read_chunk(code, chunk, places::bits_at(heard, at, code.n))
 }
 
 // What a rule answers of a search through all positions that it allows, with the bits that either code chunk needed.
@@ -44,17 +48,17 @@ fn found(s: Scan, rule: u32, chunk1: ChunkBits, chunk2: ChunkBits) -> ReadAnswer
 }
 
 // What rule 1 answers: it reads chunk 1.
-fn by_rule1(code: DecodedCode, x: [u8; 40]) -> ReadAnswer
-    requires { ⌜ Sound (meaning code) × NothingSpare (meaning code) x ⌝ }
-    ensures { λ r. ⌜ r ≡ answerBy (meaning code) x 1 ⌝ }
+fn by_rule1(code: DecodedCode, x: [u8; 40], heard: [u8; 40]) -> ReadAnswer
+    requires { ⌜ Sound (meaning code) × NothingSpare (meaning code) x heard ⌝ }
+    ensures { λ r. ⌜ AnswersRule (meaning code) x heard 1 r ⌝ }
 {
     let at = layout::layout_of(code);
-    match chunk_reading(code, x, at.chunk1) {
+    match chunk_reading(code, x, heard, at.chunk1) {
         Chunk::Codeword { number, unlike } => {
             if number == 0 {
                 return ReadAnswer::Refused(12);
             }
-            let s = nearest::nearest_before(code, x, number);
+            let s = nearest::nearest_before(code, x, heard, number);
             found(s, 1, ChunkBits::Differing(unlike), ChunkBits::NotRead)
         }
         Chunk::Unreadable => ReadAnswer::Refused(10),
@@ -62,17 +66,17 @@ fn by_rule1(code: DecodedCode, x: [u8; 40]) -> ReadAnswer
 }
 
 // What rule 2 answers: it reads chunk 2.
-fn by_rule2(code: DecodedCode, x: [u8; 40]) -> ReadAnswer
-    requires { ⌜ Sound (meaning code) × NothingSpare (meaning code) x ⌝ }
-    ensures { λ r. ⌜ r ≡ answerBy (meaning code) x 2 ⌝ }
+fn by_rule2(code: DecodedCode, x: [u8; 40], heard: [u8; 40]) -> ReadAnswer
+    requires { ⌜ Sound (meaning code) × NothingSpare (meaning code) x heard ⌝ }
+    ensures { λ r. ⌜ AnswersRule (meaning code) x heard 2 r ⌝ }
 {
     let at = layout::layout_of(code);
-    match chunk_reading(code, x, at.chunk2) {
+    match chunk_reading(code, x, heard, at.chunk2) {
         Chunk::Codeword { number, unlike } => {
             if number == blocks::last_codeword(code) {
                 return ReadAnswer::Refused(12);
             }
-            let s = nearest::nearest_after(code, x, number);
+            let s = nearest::nearest_after(code, x, heard, number);
             found(s, 2, ChunkBits::NotRead, ChunkBits::Differing(unlike))
         }
         Chunk::Unreadable => ReadAnswer::Refused(10),
@@ -80,29 +84,29 @@ fn by_rule2(code: DecodedCode, x: [u8; 40]) -> ReadAnswer
 }
 
 // What rule 3 answers: it reads both chunks, which must read alike.
-fn by_rule3(code: DecodedCode, x: [u8; 40]) -> ReadAnswer
-    requires { ⌜ Sound (meaning code) × NothingSpare (meaning code) x ⌝ }
-    ensures { λ r. ⌜ r ≡ answerBy (meaning code) x 3 ⌝ }
+fn by_rule3(code: DecodedCode, x: [u8; 40], heard: [u8; 40]) -> ReadAnswer
+    requires { ⌜ Sound (meaning code) × NothingSpare (meaning code) x heard ⌝ }
+    ensures { λ r. ⌜ AnswersRule (meaning code) x heard 3 r ⌝ }
 {
     let at = layout::layout_of(code);
     let Chunk::Codeword {
         number: first,
         unlike: bits1,
-    } = chunk_reading(code, x, at.chunk1)
+    } = chunk_reading(code, x, heard, at.chunk1)
     else {
         return ReadAnswer::Refused(10);
     };
     let Chunk::Codeword {
         number: second,
         unlike: bits2,
-    } = chunk_reading(code, x, at.chunk2)
+    } = chunk_reading(code, x, heard, at.chunk2)
     else {
         return ReadAnswer::Refused(10);
     };
     if first != second {
         return ReadAnswer::Refused(11);
     }
-    let s = nearest::nearest_around(code, x, first);
+    let s = nearest::nearest_around(code, x, heard, first);
     found(
         s,
         3,
@@ -112,28 +116,23 @@ fn by_rule3(code: DecodedCode, x: [u8; 40]) -> ReadAnswer
 }
 
 // What the rule with this number answers.
-fn by_rule(code: DecodedCode, x: [u8; 40], rule: u32) -> ReadAnswer
-    requires { ⌜ Sound (meaning code) × NothingSpare (meaning code) x × (1 ≤ rule) × (rule ≤ 3) ⌝ }
-    ensures { λ r. ⌜ r ≡ answerBy (meaning code) x rule ⌝ }
+pub fn by_rule(code: DecodedCode, x: [u8; 40], heard: [u8; 40], rule: u32) -> ReadAnswer
+    requires { ⌜ Sound (meaning code) × NothingSpare (meaning code) x heard × (1 ≤ rule) × (rule ≤ 3) ⌝ }
+    ensures { λ r. ⌜ AnswersRule (meaning code) x heard rule r ⌝ }
 {
     if rule == 1 {
-        return by_rule1(code, x);
+        return by_rule1(code, x, heard);
     }
     if rule == 2 {
-        return by_rule2(code, x);
+        return by_rule2(code, x, heard);
     }
-    by_rule3(code, x)
+    by_rule3(code, x, heard)
 }
 
-// The number of the rule that the separators name: 1 for b b c, 2 for b c c, 3 for b b b, and 0 for b c b.
-fn named_rule(code: DecodedCode, x: [u8; 40]) -> u32
-    requires { ⌜ Sound (meaning code) ⌝ }
-    ensures { λ r. ⌜ (r ≡ ruleNamed (meaning code) (place x)) × (r ≤ 3) ⌝ }
+// The number of the rule that three separators name: 1 for b b c, 2 for b c c, 3 for b b b, and 0 for b c b.
+pub fn rule_of(s1: u32, s2: u32, s3: u32) -> u32
+    ensures { λ r. ⌜ (r ≡ ruleOf s1 s2 s3) × (r ≤ 3) ⌝ }
 {
-    let at = layout::layout_of(code);
-    let s1 = places::separator_at(x, 0, code.distance);
-    let s2 = places::separator_at(x, at.separator2, code.distance);
-    let s3 = places::separator_at(x, at.separator3, code.distance);
     if s1 == s2 {
         if s2 == s3 {
             return 3;
@@ -146,7 +145,19 @@ fn named_rule(code: DecodedCode, x: [u8; 40]) -> u32
     0
 }
 
-// The reading of a received word, of any length.
+// The number of the rule that the separators of a plain word name.
+fn named_rule(code: DecodedCode, x: [u8; 40]) -> u32
+    requires { ⌜ Sound (meaning code) ⌝ }
+    ensures { λ r. ⌜ (r ≡ ruleNamed (meaning code) (place x)) × (r ≤ 3) ⌝ }
+{
+    let at = layout::layout_of(code);
+    let s1 = places::separator_at(x, 0, code.distance);
+    let s2 = places::separator_at(x, at.separator2, code.distance);
+    let s3 = places::separator_at(x, at.separator3, code.distance);
+    rule_of(s1, s2, s3)
+}
+
+// The reading of a plain word, of any length: all of it is heard.
 pub fn read(code: DecodedCode, word: &[u8]) -> ReadAnswer
     requires { ⌜ Sound (meaning code) ⌝ }
     ensures { λ r. ⌜ r ≡ readWord (meaning code) (now (word .entry)) ⌝ }
@@ -165,5 +176,5 @@ pub fn read(code: DecodedCode, word: &[u8]) -> ReadAnswer
     if rule == 0 {
         return ReadAnswer::Refused(9);
     }
-    by_rule(code, x, rule)
+    by_rule(code, x, places::all_heard(), rule)
 }

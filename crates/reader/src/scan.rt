@@ -1,11 +1,11 @@
 // The search for the nearest position through the places of two words, the first of which is turned into the second: positions
-// are passed one after the other, the residual going up or down by one. It knows arrays and numbers alone, no code.
+// are passed one after the other, the residual going up or down by one where the bit is heard. It knows arrays and numbers alone, no code.
 ghost use mathlib.Core.Path.{_≡_};
 ghost use Prim.Native.Nat.{ℕ, _+_, _≤_, _<_};
-ghost use Rattle.bits.specs.Sums.{distance, unlike};
+ghost use Rattle.bits.specs.Sums.{unlike, distanceHeard, marked};
 ghost use Rattle.bits.specs.Places.{place};
 ghost use Rattle.reader.specs.Scanned.{Scanned, beginsAt};
-ghost use Rattle.reader.specs.Passing.{residualTo, Passes, Searched};
+ghost use Rattle.reader.specs.Passing.{unlikeHeard, residualTo, Passes, Searched};
 use position::hamming;
 use position::places;
 use position::splice;
@@ -21,10 +21,10 @@ pub struct Scan {
 }
 
 // A search that stands at its first position, whose word is `w`.
-pub fn begin(w: [u8; 40], x: [u8; 40], low: u32) -> Scan
-    ensures { λ r. ⌜ r ≡ beginsAt low (distance 320 (place w) (place x)) ⌝ }
+pub fn begin(w: [u8; 40], x: [u8; 40], heard: [u8; 40], low: u32) -> Scan
+    ensures { λ r. ⌜ r ≡ beginsAt low (distanceHeard (marked (place heard)) 320 (place w) (place x)) ⌝ }
 {
-    let unlike = hamming::bits_unlike(w, x);
+    let unlike = hamming::heard_bits_unlike(w, x, heard);
     Scan {
         low,
         position: low,
@@ -34,16 +34,16 @@ pub fn begin(w: [u8; 40], x: [u8; 40], low: u32) -> Scan
     }
 }
 
-// The residual after a bit was turned to `new`: one less if that is what was received, one more if not. A word has at most 320
-// bits, so a residual is at most that.
-fn next_residual(residual: u32, new: u32, received: u32) -> u32
-    requires { ⌜ (residual ≤ 320) × (new < 2) × (received < 2) × (received ≡ new → 1 ≤ residual) ⌝ }
-    ensures { λ r. ⌜ ((old : ℕ) → old < 2 → unlike old new ≡ 1 → r + unlike old received ≡ residual + unlike new received) ⌝ }
+// The residual after a bit was turned to `new`: one less if that is what was received, one more if not, and as it was if the bit is lost.
+// A word has at most 320 bits, so a residual is at most that.
+fn next_residual(residual: u32, new: u32, received: u32, heard: u32) -> u32
+    requires { ⌜ (residual ≤ 320) × (new < 2) × (received < 2) × (heard < 2) × (heard ≡ 1 → received ≡ new → 1 ≤ residual) ⌝ }
+    ensures { λ r. ⌜ ((old : ℕ) → old < 2 → unlike old new ≡ 1 → r + unlikeHeard heard old received ≡ residual + unlikeHeard heard new received) ⌝ }
 {
     if received == new {
-        residual - 1
+        residual - heard
     } else {
-        residual + 1
+        residual + heard
     }
 }
 
@@ -75,19 +75,27 @@ fn advance(s: Scan, residual: u32) -> Scan
 }
 
 // From place `at` to place `to`: each place in which u and v differ is one position on.
-pub fn pass_places(u: [u8; 40], v: [u8; 40], x: [u8; 40], at: u32, to: u32, s: Scan) -> Scan
-    requires { ⌜ (at ≤ to) × (to ≤ 320) × (s .position ≤ 1310720) × (s .residual ≡ residualTo u v x at) ⌝ }
-    ensures { λ r. ⌜ Passes u v x at to s r ⌝ }
+pub fn pass_places(
+    u: [u8; 40],
+    v: [u8; 40],
+    x: [u8; 40],
+    heard: [u8; 40],
+    at: u32,
+    to: u32,
+    s: Scan,
+) -> Scan
+    requires { ⌜ (at ≤ to) × (to ≤ 320) × (s .position ≤ 1310720) × (s .residual ≡ residualTo u v x heard at) ⌝ }
+    ensures { λ r. ⌜ Passes u v x heard at to s r ⌝ }
 {
     let mut q = at;
     let mut state = s;
     while q < to {
         let j = (q / 8) as usize;
-        let old = places::bit_of(u[j], q);
-        let new = places::bit_of(v[j], q);
-        if old != new {
+        if places::bit_of(u[j] ^ v[j], q) != 0 {
+            let new = places::bit_of(v[j], q);
             let received = places::bit_of(x[j], q);
-            let next = advance(state, next_residual(state.residual, new, received));
+            let known = places::bit_of(heard[j], q);
+            let next = advance(state, next_residual(state.residual, new, received, known));
             state = next;
         }
         q += 1;
@@ -95,13 +103,20 @@ pub fn pass_places(u: [u8; 40], v: [u8; 40], x: [u8; 40], at: u32, to: u32, s: S
     state
 }
 
-// The search from the position at which the places below `at` have been passed to the one at which those below `to` have; u is
-// the word of position `start`. The first residual is counted, and each step changes it by one.
-pub fn search_places(u: [u8; 40], v: [u8; 40], x: [u8; 40], start: u32, at: u32, to: u32) -> Scan
-    requires { ⌜ (at ≤ to) × (to ≤ 320) × (start ≤ 1310400) ⌝ }
-    ensures { λ r. ⌜ Searched u v x start at to r ⌝ }
+// The search from position `low`, at which the places below `at` have been passed, to the one at which those below `to` have. The first
+// residual is counted, and each step changes it by one at most.
+pub fn search_places(
+    u: [u8; 40],
+    v: [u8; 40],
+    x: [u8; 40],
+    heard: [u8; 40],
+    low: u32,
+    at: u32,
+    to: u32,
+) -> Scan
+    requires { ⌜ (at ≤ to) × (to ≤ 320) × (low ≤ 1310720) ⌝ }
+    ensures { λ r. ⌜ Searched u v x heard low at to r ⌝ }
 {
     let w = splice::spliced(u, v, at);
-    let first = begin(w, x, start + hamming::bits_unlike(u, w));
-    pass_places(u, v, x, at, to, first)
+    pass_places(u, v, x, heard, at, to, begin(w, x, heard, low))
 }

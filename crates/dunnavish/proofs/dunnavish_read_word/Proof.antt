@@ -1,28 +1,16 @@
 -- `dunnavish::dunnavish_read_word` meets its contract: the count of the lent numbers, then what the library answered; the bounds
 -- and the bits are those of the library's own contract. Assumes nothing.
-use mathlib.Core.List.{[], _∷_}
-use native.Mathlib.Omega.{arith}
 use borrow.Author.Needs.{needs}
-use lib.ListN.{length-set}
 use Rattle.model.specs.Answers.{readFigures}
 use Rattle.model.specs.Statuses.{readStatus, readValues}
 use Rattle.dunnavish.specs.Crossing.{readCount}
-use Rattle.dunnavish.proofs.Lent.{refusal-changes-nothing, values-are-left, all-stored, refusal-nonzero}
+use Rattle.dunnavish.proofs.Lent.{refusal-changes-nothing, values-are-left, refusal-nonzero}
 use Rattle.dunnavish.proofs.ReadDemands.{wrong-count-claims-nothing, demands-cross}
 use Rattle.dunnavish.proofs.dunnavish_read_word.Statement.{statement}
 use Rattle.dunnavish.proofs.dunnavish_read_word.Tie as tie
 
 returns : tie.Need-returns
 returns c = wrong-count-claims-nothing _ _ _ (c .if1 .taken)
-
-slice-write-values-3 : tie.Need-slice-write-values-3
-slice-write-values-3 c = simp length-set (omega arith)
-
-slice-write-values-4 : tie.Need-slice-write-values-4
-slice-write-values-4 c = simp length-set (omega arith)
-
-slice-write-values-5 : tie.Need-slice-write-values-5
-slice-write-values-5 c = simp length-set (omega arith)
 
 returns-2 : tie.Need-returns-2
 unfolding readStatus readValues readFigures
@@ -38,14 +26,13 @@ returns-2 c =
 returns-3 : tie.Need-returns-3
 unfolding readStatus readValues
 returns-3 c =
-    let arm = c .before .before .before in
+    let arm = c .before .before .before .before .before in
     let asked = arm .before .before in
     let answered = asked .read-word .ensures in
     let alike = asked .before .if1 .left in
     demands-cross _ _ _ (asked .read-word .result) (answered .0) (answered .1 .1 .0) (answered .1 .1 .1 .0) (answered .1 .1 .1 .1 .0)
     (answered .1 .1 .1 .1 .1 .1 .0) (answered .1 .1 .1 .1 .1 .1 .1) _ _
-    (rw (arm .answer2 .given .1, all-stored (_ ∷ _ ∷ _ ∷ _ ∷ _ ∷ []) _ alike, c .before .bits-value .ensures, c .bits-value2 .ensures)
-    (values-are-left readCount _ alike _))
+    (rw (arm .answer2 .given .1, c .before .before .put-reading .ensures) (values-are-left readCount _ alike _))
 
 pub dunnavish-read-word-spec : {M : Type 1} → statement M
 dunnavish-read-word-spec =
@@ -56,12 +43,6 @@ dunnavish-read-word-spec =
     (λ c. search needs)
     (λ c. search needs)
     (λ c κs. search needs)
-    (λ c κs. search needs)
-    (λ c. search needs)
-    (λ c. search needs)
-    slice-write-values-3
-    slice-write-values-4
-    slice-write-values-5
     returns-2
     (λ c. search needs)
     returns-3)

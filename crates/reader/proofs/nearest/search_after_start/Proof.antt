@@ -22,7 +22,7 @@ pass-places-requires c κs =
       omega arith,
       omega (arith, word-bits-bound C sound),
       rw position (omega (arith, start-on-track C (promise C sound) (first .args .p) (omega arith), last-position-bound C sound)),
-      residual-at-start C sound (first .args .p) inside _ _ (c .before .word-of .ensures) (c .word-of2 .ensures) _ spare _ position scanned,
+      residual-at-start C sound (first .args .p) inside _ _ (c .before .word-of .ensures) (c .word-of2 .ensures) _ _ spare _ position scanned,
     )
 
 returns : tie.Need-returns
@@ -32,7 +32,7 @@ returns c =
     let C = meaning (first .args .code) in
     let ((sound, spare, inside), (position, scanned)) = first .pre in
     let (low, end, passed) =
-    start-passed C sound (first .args .p) inside _ _ (new .before .word-of .ensures) (new .word-of2 .ensures) _ spare _ position scanned
+    start-passed C sound (first .args .p) inside _ _ (new .before .word-of .ensures) (new .word-of2 .ensures) _ _ spare _ position scanned
     _ (omega arith) _ (c .pass-places .ensures) in
     (low, end ∙ at-chunk₁ C sound (first .args .p) inside, passed)
 

@@ -2,13 +2,14 @@
 -- reads as a codeword other than the first, its number is within the code, by the chunk promise, so there is a block before it
 -- to search. Assumes nothing.
 use mathlib.Core.Path.{_≡_, _∙_, sym}
+use Rattle.bits.specs.Sums.{marked}
 use Rattle.bits.specs.Places.{place}
 use Rattle.model.specs.Decoded.{meaning}
 use Rattle.model.specs.declared.Chunk.the-variants.{Codeword}
 use Rattle.code_theory.proofs.Promise.{promise}
 use native.Mathlib.Omega.{arith}
 use borrow.Author.Needs.{needs}
-use Rattle.reader.proofs.RuleAnswers.{chunk₁Reads, read-from, rule₁-unreadable, rule₁-no-block, rule₁-found, rule₁-answers}
+use Rattle.reader.proofs.RuleAnswers.{chunk₁In, read-from, rule₁-unreadable, rule₁-no-block, rule₁-found, rule₁-answers}
 use Rattle.reader.proofs.reading.by_rule1.Statement.{statement}
 use Rattle.reader.proofs.reading.by_rule1.Tie as tie
 
@@ -16,37 +17,37 @@ use Rattle.reader.proofs.reading.by_rule1.Tie as tie
 chunk-read : (c : tie.After-chunk-reading)
     → let first = c .before .before in
     let C = meaning (first .args .code) in
-    c .chunk-reading .result ≡ chunk₁Reads C (first .args .x)
-chunk-read c = c .chunk-reading .ensures ∙ read-from _ (place (c .before .before .args .x)) _ _ (c .before .layout-of .ensures .chunk₁-at)
+    c .chunk-reading .result ≡ chunk₁In C (first .args .x) (first .args .heard)
+chunk-read c = c .chunk-reading .ensures ∙ read-from _ (marked (place (c .before .before .args .heard))) (place (c .before .before .args .x)) _ _ (c .before .layout-of .ensures .chunk₁-at)
 
 -- where it is a codeword: the codeword's number and in how many places the two differ
 codeword-read : (c : tie.After-number)
     → let first = c .before .before .before .before in
     let C = meaning (first .args .code) in
     let read = c .number .given .0 in
-    chunk₁Reads C (first .args .x) ≡ Codeword (read .0) (read .1 .0)
+    chunk₁In C (first .args .x) (first .args .heard) ≡ Codeword (read .0) (read .1 .0)
 codeword-read c = sym (chunk-read (c .before .before)) ∙ c .number .given .1
 
 returns : tie.Need-returns
-returns c = rule₁-no-block _ _ _ _ (codeword-read (c .before .before)) (c .if1 .taken)
+returns c s sees = rule₁-no-block _ _ _ s _ _ (sees .first ∙ codeword-read (c .before .before)) (c .if1 .taken)
 
 nearest-before-requires : tie.Need-nearest-before-requires
 nearest-before-requires c κs =
     let known = c .before .before in
     let first = known .before .before .before .before in
-    let bound = promise (meaning (first .args .code)) (first .pre .0) .chunks .within _ _ _ (codeword-read known) .0 in
+    let bound = promise (meaning (first .args .code)) (first .pre .0) .chunks _ .within _ _ _ (codeword-read known) .0 in
     (first .pre .0, first .pre .1, omega (arith, c .if1 .left), bound)
 
 returns-2 : tie.Need-returns-2
-returns-2 c =
+returns-2 c s sees =
     let searched = c .before in
-    let read = codeword-read (searched .before .before .before) in
+    let read = sees .first ∙ codeword-read (searched .before .before .before) in
     c .found .ensures
-    ∙ rule₁-found _ _ _ _ read _ _ (searched .nearest-before .ensures)
-    ∙ rule₁-answers _ _ _ _ read (searched .before .if1 .left)
+    ∙ rule₁-found _ _ _ s _ _ read _ _ (searched .nearest-before .ensures)
+    ∙ rule₁-answers _ _ _ s _ _ read (searched .before .if1 .left)
 
 returns-3 : tie.Need-returns-3
-returns-3 c = rule₁-unreadable _ _ (sym (chunk-read (c .before .before)) ∙ c .enum-told .given .1)
+returns-3 c s sees = rule₁-unreadable _ _ _ s (sees .first ∙ sym (chunk-read (c .before .before)) ∙ c .enum-told .given .1)
 
 pub by-rule1-spec : {M : Type 1} → statement M
 by-rule1-spec =

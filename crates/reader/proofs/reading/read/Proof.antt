@@ -74,21 +74,22 @@ returns-3 c =
 
 by-rule-requires : tie.Need-by-rule-requires
 by-rule-requires c κs =
-    let counted = c .before .before in
+    let counted = c .before .before .before in
     let array = got counted .received in
-    let none = none-spare _ _ (whole counted) _ (spare counted) (c .before .if2 .left) in (
+    let none = none-spare _ _ (whole counted) _ (spare counted) (c .before .before .if2 .left) in (
       first counted .pre,
-      nothing-spare (C counted) (received counted) (array .result) (array .ensures) (whole counted) none,
-      omega (arith, c .if3 .left),
+      nothing-spare (C counted) (received counted) (array .result) (array .ensures) _ (whole counted) none,
+      omega (arith, c .before .if3 .left),
       counted .before .named-rule .ensures .1,
     )
 
 returns-4 : tie.Need-returns-4
 returns-4 c =
-    let counted = c .before .before .before in
+    let marked = c .before in
+    let counted = marked .before .before .before in
     let named = counted .before in
-    rw (rule named) at (c .by-rule .ensures)
-    ∙ read-by-rule _ _ (whole counted) _ (spare counted) (c .before .before .if2 .left) _ (held (named .before .before))
+    read-by-rule _ _ (whole counted) _ (spare counted) (marked .before .before .if2 .left) (first counted .pre) _ _
+    (held (named .before .before)) (marked .all-heard .ensures) _ (rw (rule named) at (c .by-rule .ensures))
 
 pub read-spec : {M : Type 1} → statement M
 read-spec =
@@ -105,5 +106,6 @@ read-spec =
     (λ c κs. search needs)
     returns-2
     returns-3
+    (λ c κs. search needs)
     by-rule-requires
     returns-4)

@@ -1,0 +1,75 @@
+-- What a read of levels answers, one law for each way out of the code; the status, the values and the strength are those of the answer that
+-- the definition gives, and the theorems of P5 hold of it. Assumes nothing.
+use mathlib.Core.Path.{_≡_, refl, sym, _∙_}
+use mathlib.Core.List.{List}
+use Prim.Native.Nat.{ℕ}
+use lib.Ieee.{Float}
+use Rattle.model.specs.Decoded.{meaning}
+use Rattle.model.specs.Levels.{noStrength}
+use Rattle.model.specs.Answers.{readLevels, levelsAnswered, levelsAnswer, levelsRefusal, levelsFigures, strengthFigures}
+use Rattle.model.specs.Statuses.{ifServed, levelsStatus, levelsValues, strengthValues}
+use Rattle.model.specs.declared.Decoded.{Decoded}
+use Rattle.model.specs.declared.LevelsAnswer.{LevelsAnswer}
+use Rattle.model.specs.declared.ReadAnswer.the-variants.{Refused}
+use Rattle.code_theory.proofs.Refusals.{refused-by-card}
+use Rattle.level_theory.specs.LevelPromises.{ChunksReadBelowD, NearestOverHeard, TellsWrongOfChunks, AsPlainReading, OffByAtMostTwiceWrongAndLost}
+use Rattle.level_theory.proofs.LevelPromises.{chunks-read-below-D, levels-sound, nearest-over-heard, tells-wrong-of-chunks}
+use Rattle.level_theory.proofs.LevelPromises.{as-plain-reading, off-by-at-most-twice-wrong-and-lost}
+use Rattle.linear_code.specs.DecodedFrom.{DecodedFrom}
+use Rattle.level_reader.specs.Answered.{levelsRefused}
+use Rattle.depot.proofs.Statuses.{levels-told, strength-told}
+
+module _ (card : List ℕ) (levels : List Float) where
+  -- what the contract of the read says of its answer
+  abbrev LevelsMeet : LevelsAnswer → Type 0
+  LevelsMeet r =
+      (r ≡ levelsAnswer card levels)
+      × ((levelsStatus r ≡ levelsRefusal card levels)
+      × ((levelsValues r ≡ ifServed (levelsStatus r) (levelsFigures card levels))
+      × ((strengthValues r ≡ ifServed (levelsStatus r) (strengthFigures card levels))
+      × (ChunksReadBelowD card
+      × (NearestOverHeard card levels (r .answer)
+      × (TellsWrongOfChunks card levels (r .answer)
+      × (AsPlainReading card levels (r .answer) × OffByAtMostTwiceWrongAndLost card levels (r .answer))))))))
+
+  levels-meet : (r : LevelsAnswer) → r ≡ levelsAnswer card levels → LevelsMeet r
+  levels-meet r e =
+      let (status, values) = levels-told card levels in
+      (rw e (
+        refl,
+        (
+          status,
+          (
+            values,
+            (
+              strength-told card levels,
+              (
+                chunks-read-below-D card,
+                (
+                  nearest-over-heard card levels,
+                  (
+                    tells-wrong-of-chunks card levels,
+                    (as-plain-reading card levels, off-by-at-most-twice-wrong-and-lost card levels),
+                  ),
+                ),
+              ),
+            ),
+          ),
+        ),
+      ))
+
+  module _ (decoded : Decoded) (from : DecodedFrom card decoded) where
+    pub levels-card-refused : (decoded .refusal ≡ 0 → ⊥) → (r : LevelsAnswer) → r ≡ levelsRefused (decoded .refusal) → LevelsMeet r
+    unfolding levelsRefused levelsAnswer levelsAnswered levelsRefusal
+    levels-card-refused ne r e =
+        levels-meet r
+        (e
+        ∙ rw (
+          ← (from .refusal),
+          refused-by-card (decoded .refusal) _ Refused _ ne,
+          refused-by-card (decoded .refusal) _ (λ refusal. noStrength) _ ne,
+        ))
+
+    pub levels-read : decoded .refusal ≡ 0 → (r : LevelsAnswer) → r ≡ readLevels (meaning (decoded .code)) levels → LevelsMeet r
+    levels-read sound r e =
+        levels-meet r (rw (levels-sound card levels (sym (from .refusal) ∙ sound), ← (from .code sound)) e)

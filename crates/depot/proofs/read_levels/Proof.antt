@@ -1,0 +1,24 @@
+-- `depot::read_levels` meets its contract: a card that is refused is answered by its refusal, and past the card's test the code is sound, as
+-- the reader asks; either answer is the one that the definition gives, of which P5's clauses are theorems. Assumes nothing.
+use borrow.Author.Needs.{needs}
+use Rattle.depot.proofs.LevelsReading.{levels-card-refused, levels-read}
+use Rattle.depot.proofs.read_levels.Statement.{statement}
+use Rattle.depot.proofs.read_levels.Tie as tie
+
+returns : tie.Need-returns
+returns c =
+    let past = c .before in
+    let first = past .before .before .before .before .before in
+    levels-card-refused _ (first .args .levels .now) _ (past .before .before .decode .ensures) (past .if1 .taken) _ (c .refused .ensures)
+
+read-requires : tie.Need-read-requires
+read-requires c κs = c .before .before .decode .ensures .sound (c .if1 .left)
+
+returns-2 : tie.Need-returns-2
+returns-2 c =
+    let passed = c .before in
+    let first = passed .before .before .before .before .before in
+    levels-read _ (first .args .levels .now) _ (passed .before .before .decode .ensures) (passed .if1 .left) _ (c .read .ensures)
+
+pub read-levels-spec : {M : Type 1} → statement M
+read-levels-spec = tie.close (tie.spec (λ c κs. search needs) (λ c κs. search needs) returns read-requires returns-2)

@@ -1,0 +1,121 @@
+-- What levels are answered, one law for each way out of the code: 15, 16, and where neither holds what the rule answers that the separators
+-- name, a word that is read with its strength. Assumes nothing.
+use mathlib.Core.Path.{_≡_, refl, sym, ap, fun-ext, _∙_}
+use mathlib.Core.Bool.{Bool, true, false, cond}
+use mathlib.Core.List.{List}
+use mathlib.Core.Logic.{⊎-elim}
+use Prim.Native.Nat.{ℕ, _<_}
+use native.Mathlib.Omega.{arith}
+use borrow.Author.Tests.{eq-eqb, ne-eqb}
+use lib.Dec.{eqb}
+use lib.Ieee.{Float}
+use lib.ListN.{length}
+use Rattle.bits.specs.Sums.{marked}
+use Rattle.bits.specs.Places.{place}
+use Rattle.bits.proofs.Numbers.{eq-or-ne}
+use Rattle.bits.proofs.Heard.{heard-ext}
+use Rattle.model.specs.Refusals.{firstRefusal, unlessRefused}
+use Rattle.model.specs.Card.{Code}
+use Rattle.model.specs.Words.{wordBits}
+use Rattle.model.specs.Reading.{ruleSeen, rowsSeen}
+use Rattle.model.specs.Levels.{anyOutside, toldAt, isHeard, heardIn, bitsIn, seenTold, residualHeard, noStrength, strengthOf}
+use Rattle.model.specs.Answers.{rowsOfLevels, levelsAnswered, readLevels}
+use Rattle.model.specs.declared.Reading.{Reading}
+use Rattle.model.specs.declared.ReadAnswer.{ReadAnswer}
+use Rattle.model.specs.declared.ReadAnswer.the-variants.{At, Refused}
+use Rattle.code_theory.proofs.Refusals.{served-if-none, refused-if-some}
+use Rattle.code_theory.proofs.ChunkReading.{heard-reading-ext}
+use Rattle.position_theory.specs.Nearest.{refusalOf}
+use Rattle.position_theory.proofs.ChunkBits.{read-if-served}
+use Rattle.levels.specs.declared.heard.HeardWord.{HeardWord}
+use Rattle.levels.specs.Heard.{HeardWordOf}
+use Rattle.reader.specs.Received.{residualIn, SeesIn, AnswersRule, answerBy, NothingSpare}
+use Rattle.level_reader.specs.Answered.{levelsRefused, answerTold}
+
+-- ---- the arrays that hold the word of told bits
+
+module _ (C : Code) (levels : List Float) (whole : length levels ≡ wordBits C) (w : HeardWord) (holds : HeardWordOf levels w) where
+  mark : (t : Bool) (m : ℕ) → m ≡ cond t 1 0 → eqb m 1 ≡ t
+  mark true m e = rw e
+  mark false m e = rw e
+
+  heard-marked : (p : ℕ) → p < wordBits C → heardIn (toldAt levels) p ≡ marked (place (w .heard)) p
+  heard-marked p b = sym (mark (isHeard (toldAt levels p)) (place (w .heard) p) (holds .heard-told p (omega arith)))
+
+  bits-placed : (p : ℕ) → p < wordBits C → bitsIn (toldAt levels) p ≡ place (w .bits) p
+  bits-placed p b = sym (holds .bits-told p (omega arith))
+
+  pub nothing-past : NothingSpare C (w .bits) (w .heard)
+  unfolding NothingSpare
+  nothing-past p l heard = holds .bits-past p (omega arith)
+
+  -- what is seen of them is what is seen of the levels, and so is the residual
+  told-in-arrays : SeesIn C (w .bits) (w .heard) (seenTold C (toldAt levels))
+  unfolding seenTold
+  told-in-arrays =
+      record {
+        first = heard-reading-ext C (λ p b. heard-marked _ (omega arith)) (λ p b. bits-placed _ (omega arith));
+        second = heard-reading-ext C (λ p b. heard-marked _ (omega arith)) (λ p b. bits-placed _ (omega arith));
+      }
+
+  residual-in-arrays : residualIn C (w .bits) (w .heard) ≡ residualHeard C (heardIn (toldAt levels)) (bitsIn (toldAt levels))
+  unfolding residualHeard
+  residual-in-arrays =
+      fun-ext (λ q. heard-ext (wordBits C) (λ p b. sym (heard-marked p b)) (λ p b. refl) (λ p b. sym (bits-placed p b)))
+
+  pub rule-of-told : (rule : ℕ) (answer : ReadAnswer) → AnswersRule C (w .bits) (w .heard) rule answer
+      → answer ≡ answerTold C (toldAt levels) rule
+  rule-of-told rule answer by-rule =
+      by-rule (seenTold C (toldAt levels)) told-in-arrays
+      ∙ ap (λ (residual : ℕ → ℕ). answerBy C (seenTold C (toldAt levels)) residual rule) residual-in-arrays
+
+-- ---- the ways out
+
+-- an answer that is a refusal has that refusal's number, and it is not 0
+refused-if-answered : (refusal : ℕ) (reading : Reading) (number : ℕ) → unlessRefused refusal Refused (At reading) ≡ Refused number
+    → (number ≡ 0 → ⊥) × (refusal ≡ number)
+refused-if-answered refusal reading number answered =
+    ⊎-elim
+    (λ (none : refusal ≡ 0).
+    let clash : At reading ≡ Refused number = sym (served-if-none refusal Refused (At reading) none) ∙ answered in
+    let no : _≡_ {A = ℕ} 0 1 = cc in absurd (omega arith))
+    (λ (some : refusal ≡ 0 → ⊥).
+    let same : Refused refusal ≡ Refused number = sym (refused-if-some refusal Refused (At reading) some) ∙ answered in
+    let is : refusal ≡ number = cc in (λ e. some (is ∙ e), is))
+    (eq-or-ne refusal 0)
+
+pub refused-15 : (C : Code) (levels : List Float) → (length levels ≡ wordBits C → ⊥) → levelsRefused 15 ≡ readLevels C levels
+unfolding readLevels levelsAnswered rowsOfLevels firstRefusal unlessRefused levelsRefused
+refused-15 C levels unlike = rw (ne-eqb (length levels) (wordBits C) unlike)
+
+module _ (C : Code) (levels : List Float) (whole : length levels ≡ wordBits C) where
+  pub refused-16 : anyOutside (wordBits C) levels ≡ true → levelsRefused 16 ≡ readLevels C levels
+  unfolding readLevels levelsAnswered rowsOfLevels firstRefusal unlessRefused levelsRefused
+  refused-16 some = rw (eq-eqb (length levels) (wordBits C) whole, some)
+
+  module _ (inside : anyOutside (wordBits C) levels ≡ false) where
+    pub refused-9 : ruleSeen (seenTold C (toldAt levels)) ≡ 0 → levelsRefused 9 ≡ readLevels C levels
+    unfolding readLevels levelsAnswered rowsOfLevels rowsSeen firstRefusal unlessRefused levelsRefused
+    refused-9 unnamed = rw (eq-eqb (length levels) (wordBits C) whole, inside, unnamed)
+
+    -- by the rule that is named
+    abbrev answered : ReadAnswer
+    answered = answerTold C (toldAt levels) (ruleSeen (seenTold C (toldAt levels)))
+
+    -- the refusal is that of what is seen
+    refusal-is : firstRefusal (rowsOfLevels C levels) ≡ refusalOf C (seenTold C (toldAt levels))
+    unfolding rowsOfLevels firstRefusal
+    refusal-is = rw (eq-eqb (length levels) (wordBits C) whole, inside)
+
+    pub word-read : (r : Reading) → answered ≡ At r
+        → record { answer = At r; strength = strengthOf (toldAt levels) (length levels) } ≡ readLevels C levels
+    unfolding readLevels levelsAnswered unlessRefused answerBy
+    word-read r is =
+        let (none, same) = read-if-served (refusalOf C (seenTold C (toldAt levels))) _ r is in
+        rw (refusal-is, none, whole, same)
+
+    pub rule-refused : (refusal : ℕ) → answered ≡ Refused refusal → levelsRefused refusal ≡ readLevels C levels
+    unfolding readLevels levelsAnswered levelsRefused answerBy
+    rule-refused refusal is =
+        let (some, same) = refused-if-answered (refusalOf C (seenTold C (toldAt levels))) _ refusal is in
+        rw (refusal-is, same, refused-if-some refusal Refused _ some, refused-if-some refusal (λ n. noStrength) _ some)

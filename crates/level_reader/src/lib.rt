@@ -1,0 +1,79 @@
+// Reading a word of levels, document 02, P5: the second way to see a word. Its separators are read by the sums of their levels; its code
+// chunks and the nearest position by the rules of crate reader, over the bits that aren't lost.
+ghost use mathlib.Core.Path.{_≡_};
+ghost use Prim.Native.Nat.{_≤_};
+ghost use lib.ListN.{length};
+ghost use Rattle.model.specs.Answers.{readLevels};
+ghost use Rattle.model.specs.Decoded.{meaning};
+ghost use Rattle.model.specs.Levels.{toldAt, seenTold};
+ghost use Rattle.model.specs.Reading.{ruleSeen};
+ghost use Rattle.model.specs.Words.{wordBits};
+ghost use Rattle.code_theory.specs.Promise.{Sound};
+ghost use Rattle.level_reader.specs.Answered.{levelsRefused, answerTold};
+use levels::heard;
+use levels::limits;
+use levels::separators;
+use levels::strength;
+use model::DecodedCode;
+use model::LevelsAnswer;
+use model::ReadAnswer;
+use position::layout;
+use reader::reading;
+
+// A refusal: it has no strength.
+pub fn refused(refusal: u32) -> LevelsAnswer
+    ensures { λ r. ⌜ r ≡ levelsRefused refusal ⌝ }
+{
+    LevelsAnswer {
+        answer: ReadAnswer::Refused(refusal),
+        strength: strength::no_strength(),
+    }
+}
+
+// The number of the rule that the separators of d levels name.
+fn named_rule(code: DecodedCode, levels: &[f32]) -> u32
+    requires { ⌜ Sound (meaning code) × (length (now levels) ≡ wordBits (meaning code)) ⌝ }
+    ensures { λ r. ⌜ (r ≡ ruleSeen (seenTold (meaning code) (toldAt (now (levels .entry))))) × (r ≤ 3) ⌝ }
+{
+    let at = layout::layout_of(code);
+    let s1 = separators::separator_at(levels, 0, code.distance);
+    let s2 = separators::separator_at(levels, at.separator2, code.distance);
+    let s3 = separators::separator_at(levels, at.separator3, code.distance);
+    reading::rule_of(s1, s2, s3)
+}
+
+// What the rule with this number answers of d levels: they are told, and the word is read over the bits that are heard.
+fn by_rule(code: DecodedCode, levels: &[f32], rule: u32) -> ReadAnswer
+    requires { ⌜ Sound (meaning code) × (length (now levels) ≡ wordBits (meaning code)) × (1 ≤ rule) × (rule ≤ 3) ⌝ }
+    ensures { λ r. ⌜ r ≡ answerTold (meaning code) (toldAt (now (levels .entry))) rule ⌝ }
+{
+    let word = heard::heard_word(levels);
+    let bits = word.bits;
+    let heard = word.heard;
+    reading::by_rule(code, bits, heard, rule)
+}
+
+// The reading of a list of levels, of any length, with the strength of a word that is read.
+pub fn read(code: DecodedCode, levels: &[f32]) -> LevelsAnswer
+    requires { ⌜ Sound (meaning code) ⌝ }
+    ensures { λ r. ⌜ r ≡ readLevels (meaning code) (now (levels .entry)) ⌝ }
+{
+    let at = layout::layout_of(code);
+    if levels.len() != at.bits as usize {
+        return refused(15);
+    }
+    if limits::any_outside(levels, at.bits as usize) {
+        return refused(16);
+    }
+    let rule = named_rule(code, levels);
+    if rule == 0 {
+        return refused(9);
+    }
+    match by_rule(code, levels, rule) {
+        ReadAnswer::At(reading) => LevelsAnswer {
+            answer: ReadAnswer::At(reading),
+            strength: strength::strength_of(levels),
+        },
+        ReadAnswer::Refused(refusal) => refused(refusal),
+    }
+}

@@ -1,0 +1,151 @@
+-- P5 of cards and levels: every sound card's code keeps the chunk promise, so what holds of whatever is seen of a word holds of what its
+-- levels tell, and the theorems follow. Assumes nothing.
+use mathlib.Core.Path.{_≡_, refl, sym, _∙_}
+use mathlib.Core.Bool.{true, false}
+use mathlib.Core.List.{List}
+use mathlib.Core.Logic.{⊎-elim}
+use Prim.Native.Nat.{ℕ, _+_, _<_}
+use native.Mathlib.Omega.{arith}
+use borrow.Author.Tests.{eq-eqb, ltb-true, lt-ltb}
+use lib.Ieee.{Float}
+use lib.ListN.{length}
+use Rattle.bits.specs.Places.{place}
+use Rattle.bits.proofs.Numbers.{eq-or-ne}
+use Rattle.bits.proofs.Heard.{heard-ext-left}
+use Rattle.bits.proofs.Searches.{any-none}
+use Rattle.bits.proofs.Places.{length-pack, place-packed, place-spare}
+use Rattle.model.specs.Refusals.{firstRefusal}
+use Rattle.model.specs.Card.{Code, cardRefusal, codeOf, SoundCard}
+use Rattle.model.specs.Words.{wordBits, wordBytes}
+use Rattle.model.specs.Reading.{rowsSeen}
+use Rattle.model.specs.Levels.{anyOutside, toldAt, withinLosses, seenTold, residualHeard}
+use Rattle.model.specs.Answers.{spareSet, readWord, readRefusal, readAnswer, rowsTold, rowsOfLevels, levelsAnswered, readLevels}
+use Rattle.model.specs.Answers.{levelsRefusal, levelsAnswer}
+use Rattle.code_theory.proofs.Promise.{one-near}
+use Rattle.code_theory.proofs.Refusals.{NoneHolds, numbered, none-refuses, none-holds, refused-by-card, none-past-card}
+use Rattle.code_theory.proofs.SoundCard.{sound-card}
+use Rattle.position_theory.specs.Damage.{wrongInAll}
+use Rattle.position_theory.proofs.Words.{five-wrong, five-lost}
+use Rattle.position_theory.proofs.WordBytes.{readingOfSeen, reading, read-if-whole, place-of-word}
+use Rattle.position_theory.proofs.RuleReads.{reads-in-code}
+use Rattle.position_theory.proofs.Nearest.{reading-is-nearest}
+use Rattle.position_theory.proofs.BoundedError.{error-of-seen, near-loosen}
+use Rattle.position_theory.proofs.ChunkBits.{wrong-of-chunks, read-if-served}
+use Rattle.position_theory.proofs.Demands.{card-promise, read-sound}
+use Rattle.level_theory.specs.UnitLevels.{OneLevels, UnitLevels, one}
+use Rattle.level_theory.specs.LevelPromises.{ChunksReadBelowD, heardOf, bitsOf, NearestOverHeard, TellsWrongOfChunks}
+use Rattle.level_theory.specs.LevelPromises.{wordOfBits, AsPlainReading, OffByAtMostTwiceWrongAndLost}
+use Rattle.level_theory.proofs.UnitsTold.{UnitOrLost, one-told, unit-told, one-heard, unit-inside}
+use Rattle.level_theory.proofs.HeardCounts.{told-bit}
+use Rattle.level_theory.proofs.LevelsSeen.{told-sees-chunks, told-sees, as-plain-seen, as-plain-residual}
+
+-- ---- code chunks
+
+pub chunks-read-below-D : (card : List ℕ) → ChunksReadBelowD card
+unfolding ChunksReadBelowD withinLosses
+chunks-read-below-D card sound heard chunk =
+    let C = codeOf card in
+    let reads = card-promise card sound .chunks heard in
+    record {
+      one = λ p q (lp, hp) (lq, hq). one-near C (sound-card card sound) heard chunk p q lp lq (lt-ltb _ _ hp) (lt-ltb _ _ hq);
+      read = λ p (l, h). reads .reads chunk p l (lt-ltb _ _ h);
+      below = λ p e r. let (l, near, count) = reads .within chunk p e r in ((l, ltb-true _ _ near), count);
+    }
+
+-- ---- what levels are answered, for the code of a sound card
+
+-- d levels, none of them outside the limits, are answered by what is seen of them
+pub read-if-inside : (C : Code) (levels : List Float) → length levels ≡ wordBits C → anyOutside (wordBits C) levels ≡ false
+    → readLevels C levels .answer ≡ readingOfSeen C (seenTold C (toldAt levels)) (residualHeard C (heardOf levels) (bitsOf levels))
+unfolding readLevels levelsAnswered rowsOfLevels firstRefusal readingOfSeen
+read-if-inside C levels whole inside = rw (eq-eqb (length levels) (wordBits C) whole, inside)
+
+-- of a sound card, the public call's answer is that of the inner call, which is handed the card's code
+pub levels-sound : (card : List ℕ) (levels : List Float) → SoundCard card → levelsAnswer card levels ≡ readLevels (codeOf card) levels
+unfolding levelsAnswer levelsRefusal readLevels firstRefusal
+levels-sound card levels sound = rw (eq-eqb (cardRefusal card) 0 sound)
+
+-- ---- the nearest allowed position over bits that aren't lost
+
+pub nearest-over-heard : (card : List ℕ) (levels : List Float) → NearestOverHeard card levels (levelsAnswer card levels .answer)
+unfolding NearestOverHeard
+nearest-over-heard card levels sound whole inside =
+    let C = codeOf card in
+    let promised = card-promise card sound in
+    let word = toldAt levels in
+    rw (levels-sound card levels sound, read-if-inside C levels whole inside)
+    (reading-is-nearest C promised (seenTold C word) (reads-in-code C promised (told-sees-chunks C word)) _)
+
+-- and the wrong places of the chunks that the rule names
+pub tells-wrong-of-chunks : (card : List ℕ) (levels : List Float) → TellsWrongOfChunks card levels (levelsAnswer card levels .answer)
+unfolding TellsWrongOfChunks levelsAnswer levelsAnswered levelsRefusal rowsOfLevels rowsSeen NoneHolds numbered
+tells-wrong-of-chunks card levels r answered =
+    let C = codeOf card in
+    let word = toldAt levels in
+    let (none, is) = read-if-served _ _ _ answered in
+    let (sound, none-of-levels) = none-past-card (cardRefusal card) (rowsOfLevels C levels) none in
+    let (_, (_, none-of-rows)) = none-holds (rowsOfLevels C levels) refl none-of-levels in
+    rw (← is)
+    (wrong-of-chunks C (card-promise card sound) (seenTold C word) (told-sees-chunks C word) _ (none-refuses (rowsTold C word) none-of-rows))
+
+-- ---- levels of 1 and -1
+
+module _ (card : List ℕ) (levels : List Float) where
+  abbrev C : Code
+  C = codeOf card
+
+  -- none of them is outside the limits
+  units-inside : UnitLevels levels (wordBits C) → anyOutside (wordBits C) levels ≡ false
+  unfolding anyOutside
+  units-inside units = any-none _ _ (λ p b. unit-inside (units p b))
+
+  -- the plain word of these bits has the right length and no spare bit set
+  bits-in-place : (p : ℕ) → bitsOf levels p < 2
+  bits-in-place p = told-bit (toldAt levels p)
+
+  none-spare : spareSet C (wordOfBits card levels) ≡ false
+  unfolding spareSet
+  none-spare = any-none _ _ (λ q b. rw (place-spare (wordBits C) (bitsOf levels) bits-in-place (wordBits C + q) (omega arith)))
+
+  plain-read : readWord C (wordOfBits card levels) ≡ reading C (place (wordOfBits card levels))
+  plain-read = read-if-whole C (wordOfBits card levels) (length-pack (wordBits C) (bitsOf levels)) none-spare
+
+  sound-as-plain : SoundCard card → length levels ≡ wordBits C → OneLevels levels (wordBits C)
+      → levelsAnswer card levels .answer ≡ readAnswer card (wordOfBits card levels)
+  unfolding toldAt
+  sound-as-plain sound whole ones =
+      let x = place (wordOfBits card levels) in
+      let told : (p : ℕ) → p < wordBits C → UnitOrLost (toldAt levels p) = λ p b. one-told (ones p b) in
+      let heard : (p : ℕ) → p < wordBits C → heardOf levels p ≡ true = λ p b. one-heard (ones p b) in
+      let same = place-packed (wordBits C) (bitsOf levels) bits-in-place in
+      rw (
+        levels-sound card levels sound,
+        read-if-inside C levels whole (units-inside (λ p b. one (ones p b))),
+        read-sound card (wordOfBits card levels) sound,
+        plain-read,
+        as-plain-seen C (sound-card card sound) (toldAt levels) told heard x same,
+        as-plain-residual C (sound-card card sound) (toldAt levels) told heard x same,
+      )
+
+  -- the answer is that of the plain reading, of a refused card too
+  pub as-plain-reading : AsPlainReading card levels (levelsAnswer card levels .answer)
+  unfolding AsPlainReading levelsAnswer levelsAnswered levelsRefusal readAnswer readRefusal
+  as-plain-reading whole ones =
+      ⊎-elim (λ (sound : cardRefusal card ≡ 0). sound-as-plain sound whole ones)
+      (λ (refused : cardRefusal card ≡ 0 → ⊥).
+      refused-by-card (cardRefusal card) _ _ _ refused ∙ sym (refused-by-card (cardRefusal card) _ _ _ refused))
+      (eq-or-ne (cardRefusal card) 0)
+
+  -- ---- levels of 1, -1 and 0 with 2 × wrong + lost below D in every chunk
+
+  pub off-by-at-most-twice-wrong-and-lost : OffByAtMostTwiceWrongAndLost card levels (levelsAnswer card levels .answer)
+  unfolding OffByAtMostTwiceWrongAndLost residualHeard toldAt
+  off-by-at-most-twice-wrong-and-lost position sound h whole units below =
+      let word = toldAt levels in
+      let u = place (wordBytes C position) in
+      let sees = told-sees C (sound-card card sound) word (λ p b. unit-told (units p b)) in
+      let (near, least) = error-of-seen C (card-promise card sound) sees position u h (place-of-word C position) below in
+      let wrong : residualHeard C (heardOf levels) (bitsOf levels) position ≡ wrongInAll C (heardOf levels) u (bitsOf levels) =
+      sym (heard-ext-left (heardOf levels) (wordBits C) (bitsOf levels) (place-of-word C position)) ∙ five-wrong C (heardOf levels) u (bitsOf levels) in
+      rw (levels-sound card levels sound, read-if-inside C levels whole (units-inside units))
+      (near-loosen _ position _ _ (omega (arith, wrong, five-lost C (heardOf levels), least)) near)

@@ -1,0 +1,2 @@
+pub mod UnitLevels
+pub mod LevelPromises

@@ -1,0 +1,1 @@
+// No code: the laws of levels (proofs/), and the words of their premises (specs/).

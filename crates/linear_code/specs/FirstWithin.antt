@@ -1,0 +1,24 @@
+-- What the search for a codeword answers, of rows and numbers alone: the first sum of rows, in Gray order, that differs from x in at most
+-- so many places, with the count of these places. Assumes nothing.
+use mathlib.Core.Bool.{Bool}
+use mathlib.Core.List.{List}
+use Prim.Native.Nat.{ℕ, _^_}
+use lib.Bits.{bitXor}
+use lib.Count.{ones}
+use lib.Dec.{leb}
+use lib.ListN.{getD}
+use Rattle.model.specs.Card.{sumOfRows}
+use Rattle.model.specs.Order.{gray}
+use Rattle.model.specs.Reading.{readFirst}
+use Rattle.model.specs.declared.Chunk.{Chunk}
+
+-- the ones of codeword j, a sum of the first k rows, and x, joined by exclusive-or; and whether they are within a limit
+abbrev pub unlikeBits : (k : ℕ) (row : ℕ → ℕ) (x j : ℕ) → ℕ
+unlikeBits k row x j = ones (bitXor (sumOfRows row k (gray j)) x)
+
+abbrev pub nearBits : (k : ℕ) (row : ℕ → ℕ) (x limit j : ℕ) → Bool
+nearBits k row x limit j = leb (unlikeBits k row x j) limit
+
+unfoldable pub firstWithin : (k : ℕ) (rows : List ℕ) (x limit : ℕ) → Chunk
+firstWithin k rows x limit =
+    let row : ℕ → ℕ = λ z. getD rows z 0 in readFirst (nearBits k row x limit) (unlikeBits k row x) (2 ^ k)
