@@ -1,28 +1,31 @@
 /*
  * Dunnavish: position words of trams on stabling tracks, for programs in C.
  *
- * Five calls on a track's card: check it, write the word of a position, read a received word, the start of a block, and the
- * distance of a position in millimetres. Two calls on a Reed-Muller code, which are given no card: make its card, and read a
- * chunk of it by majority votes. docs/FORMAT.md says what the bytes of a card and of a word are, how a word is read, which card
- * is made, and what each refusal means. The archive is target/staticlib/libdunnavish.a, for x86-64 Linux; `rt staticlib
- * dunnavish` builds it. From the repository's root, link it as   cc -Iinclude program.c -Ltarget/staticlib -ldunnavish   (it
- * needs memcpy and memset, and nothing else). The header is C99 or later, or C++.
+ * Six calls on a track's card: check it, write the word of a position, read a received word, read one that came as levels, the
+ * start of a block, and the distance of a position in millimetres. Two calls on a Reed-Muller code, which are given no card: make
+ * its card, and read a chunk of it by majority votes. docs/FORMAT.md says what the bytes of a card and of a word are, how a word
+ * is read, which card is made, and what each refusal means. The archive is target/staticlib/libdunnavish.a, for x86-64 Linux; `rt
+ * staticlib dunnavish` builds it. From the repository's root, link it as   cc -Iinclude program.c -Ltarget/staticlib -ldunnavish
+ * (it needs memcpy and memset, and nothing else). The header is C99 or later, or C++.
  *
  * A call answers with its status: 0 (DUNNAVISH_OK), or the number of the one reason why it could not be served, below. Whenever
- * the status is not 0, no byte and no number that was lent has changed. Every call ends, whatever the bytes and numbers are.
+ * the status is not 0, nothing that was lent has changed. Every call ends, whatever the bytes, numbers and floats are.
  *
  * Arguments
- *   Every array is a pointer and the count of its elements (bytes of a card or a word; numbers, not bytes, of `values`).
+ *   Every array is a pointer and the count of its elements (bytes of a card or a word; numbers, not bytes, of `values`; floats,
+ *   not bytes, of `levels` and `strength`).
  *   A card that a call is given is the card's 512 bytes, checked anew by each call. A card of any other length is answered
  *   DUNNAVISH_CARD_LENGTH. The two calls that are given none check none.
  *   A word is its d bits in dunnavish_word_bytes(d) bytes: bit p of the word is bit p % 8, lowest first, of byte p / 8. The spare
- *   bits of the last byte are zero.
+ *   bits of the last byte are zero. The levels of a word are d floats, level p that of bit p.
  *   `values` is where the call puts its answer. Its count must be exactly the call's (DUNNAVISH_CARD_VALUES and so on), or the
- *   call is answered DUNNAVISH_VALUE_COUNT before anything else is looked at. So must the bytes of a card that is to be made be
- *   exactly DUNNAVISH_CARD_BYTES.
+ *   call is answered DUNNAVISH_VALUE_COUNT before anything else is looked at. So must the count of `strength` be exactly
+ *   DUNNAVISH_STRENGTH_VALUES, and the bytes of a card that is to be made exactly DUNNAVISH_CARD_BYTES.
  *   No pointer may be NULL, not even with a count of 0: pass the address of any object then. An array that a call writes
- *   (`values`, the word of dunnavish_write_word, the card of dunnavish_make_card) may not overlap another one of the same call.
- *   Pointers to numbers are aligned as uint32_t and int32_t are. These are the only things that a call cannot check.
+ *   (`values`, `strength`, the word of dunnavish_write_word, the card of dunnavish_make_card) may not overlap another one of the
+ *   same call. Pointers to numbers and floats are aligned as uint32_t, int32_t and float are. dunnavish_read_levels is called
+ *   under the floating-point settings that a program starts with: sums rounded to the nearest, subnormal numbers kept, no
+ *   exception trapped. These are the only things that a call cannot check.
  *
  * Who owns what
  *   The caller owns every array, before, during and after the call. The library keeps no pointer, allocates nothing and frees
@@ -30,7 +33,8 @@
  *
  * Threads
  *   The library has no state at all: no globals, nothing kept between calls. Any number of threads may call at the same time,
- *   as long as none writes an array that another one uses. Calls from signal handlers are safe too.
+ *   as long as none writes an array that another one uses. Calls from signal handlers are safe too. (Sums of levels may set the
+ *   thread's floating-point exception flags.)
  *
  * Stack
  *   A call takes less than 2,048 bytes of stack, the same for every card, word and chunk; tests/c/stack_use.c measures it. (If
@@ -49,9 +53,9 @@ extern "C" {
 
 /* The version of this header and its archive. */
 #define DUNNAVISH_VERSION_MAJOR 0
-#define DUNNAVISH_VERSION_MINOR 3
+#define DUNNAVISH_VERSION_MINOR 4
 #define DUNNAVISH_VERSION_PATCH 0
-#define DUNNAVISH_VERSION "0.3.0"
+#define DUNNAVISH_VERSION "0.4.0"
 
 /* The bytes of a card, and of the widest word. */
 #define DUNNAVISH_CARD_BYTES 512
@@ -65,7 +69,7 @@ static inline size_t dunnavish_word_bytes(uint32_t bits)
 
 /*
  * The status of a call. The reasons are tested in the order of their numbers, except that 100 comes before all others, 14 between
- * 4 and 5, and 13 before 8 and 10; the first that holds is the answer.
+ * 4 and 5, 13 before 8 and 10, and 15 and 16 in the places of 6 and 8; the first that holds is the answer.
  */
 enum dunnavish_status {
     DUNNAVISH_OK = 0,
@@ -78,12 +82,15 @@ enum dunnavish_status {
     DUNNAVISH_OFF_THE_TRACK = 7,    /* position above the last one, or block above 2^k - 1 */
     DUNNAVISH_SPARE_BIT = 8,        /* received word: a spare bit is set; chunk: a bit at n or above is set */
     DUNNAVISH_SEPARATORS = 9,       /* received word: its separators read 0 1 0 or 1 0 1 */
-    DUNNAVISH_CHUNK_UNREADABLE = 10, /* a chunk, or a code chunk that a word's rule names, has no codeword within the radius */
+    DUNNAVISH_CHUNK_UNREADABLE = 10, /* a chunk, or a code chunk that a word's rule names, has no codeword within the radius; of
+                                        levels, none for which 2 * wrong + lost is below D */
     DUNNAVISH_CHUNKS_DIFFER = 11,   /* received word: rule 3, and the two code chunks read differently */
     DUNNAVISH_NO_BLOCK = 12,        /* received word: rule 1 before the first block, or rule 2 after the last */
     DUNNAVISH_CODE_LIMITS = 13,     /* Reed-Muller code: m outside 1 to 6, r above m, or k above 12; tested before 8 and 10 */
     DUNNAVISH_CARD_OFFSET = 14,     /* card: offset, bytes 100 to 103, outside -20,000 to 20,000 mm; tested between 4 and 5 */
-    DUNNAVISH_VALUE_COUNT = 100     /* `values`, or the card to be made, has not the call's count; tested before all the others */
+    DUNNAVISH_LEVEL_COUNT = 15,     /* levels: not exactly the d of this card's words; in the place of 6 */
+    DUNNAVISH_LEVEL_LIMITS = 16,    /* levels: not a number, infinite, or above 1,000,000 in magnitude; in the place of 8 */
+    DUNNAVISH_VALUE_COUNT = 100     /* `values`, `strength` or the card to be made has not the call's count; tested first */
 };
 
 /* What a status says, in a few words: a constant string, never NULL, for any other number too. */
@@ -100,12 +107,14 @@ static inline const char *dunnavish_status_text(uint32_t status)
     case DUNNAVISH_OFF_THE_TRACK: return "the position is above the last, or the block above 2^k - 1";
     case DUNNAVISH_SPARE_BIT: return "a bit past the end of the received word or chunk is set";
     case DUNNAVISH_SEPARATORS: return "the separators of the received word read 0 1 0 or 1 0 1";
-    case DUNNAVISH_CHUNK_UNREADABLE: return "a code chunk that is to be read has no codeword within the radius";
+    case DUNNAVISH_CHUNK_UNREADABLE: return "a code chunk that is to be read has no codeword that is near enough";
     case DUNNAVISH_CHUNKS_DIFFER: return "the separators are alike, and the two code chunks read differently";
     case DUNNAVISH_NO_BLOCK: return "the received word points to a block before the first or after the last";
     case DUNNAVISH_CODE_LIMITS: return "the Reed-Muller code's m is outside 1 to 6, its r above m, or its k above 12";
     case DUNNAVISH_CARD_OFFSET: return "the card's offset is outside -20,000 to 20,000 mm";
-    case DUNNAVISH_VALUE_COUNT: return "the count of values, or of a made card's bytes, is not the call's";
+    case DUNNAVISH_LEVEL_COUNT: return "the levels are not exactly as many as the bits of this card's words";
+    case DUNNAVISH_LEVEL_LIMITS: return "a level is not a number, infinite, or above 1,000,000 in magnitude";
+    case DUNNAVISH_VALUE_COUNT: return "the count of values, of a strength, or of a made card's bytes, is not the call's";
     default: return "a status that this version does not have";
     }
 }
@@ -152,6 +161,29 @@ enum dunnavish_read_value {
 };
 uint32_t dunnavish_read_word(const uint8_t *card, size_t card_bytes, const uint8_t *word, size_t word_bytes, uint32_t *values,
                              size_t values_count);
+
+/*
+ * Read a received word whose bits came as levels, exactly d of them. A level below zero is a 1, one above zero a 0, and a zero of
+ * either sign a bit that is lost. Every level, whatever its place, is a number of magnitude at most 1,000,000. Answers 0 to 5, 9
+ * to 12, 14 to 16, or 100.
+ *
+ * A separator reads 1 if its levels, added in order from zero in single precision, each sum rounded to the nearest, sum below
+ * zero; so a sum of zero reads 0. A code chunk reads as the codeword for which 2 * wrong + lost is below D (there is at most
+ * one): wrong counts the bits that differ from it, lost those that are lost. On 0 the five values are those of
+ * dunnavish_read_word, at the same indices, with one difference: only bits that are not lost count, in the residual, by which the
+ * nearest position is found, and in the bits of the chunks. The two floats are the receiver's strength, at the indices below.
+ *
+ * If five values and two floats are lent and every level is 1 or -1, status and values are those that dunnavish_read_word answers
+ * for these bits. If every level is 1, -1 or 0 and, against the word of a position, each of the five chunks has 2 * wrong + lost
+ * below D, the answer is 0, and the position answered is off by at most 2 * wrong + lost, counted over the whole word.
+ */
+enum dunnavish_strength_value {
+    DUNNAVISH_STRENGTH_SUM = 0,      /* the magnitudes of the d levels, added in order as a separator's levels are */
+    DUNNAVISH_STRENGTH_GREATEST = 1, /* the greatest of these magnitudes */
+    DUNNAVISH_STRENGTH_VALUES = 2    /* the count of `strength` */
+};
+uint32_t dunnavish_read_levels(const uint8_t *card, size_t card_bytes, const float *levels, size_t levels_count, uint32_t *values,
+                               size_t values_count, float *strength, size_t strength_count);
 
 /* The count of `values` of the two calls below, which put their answer into values[0]: a position, or a signed distance. */
 #define DUNNAVISH_NUMBER_VALUES 1

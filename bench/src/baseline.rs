@@ -1,6 +1,6 @@
-//! Document 01's rules, P2's offset, and P3's counts of the code chunks, in straightforward Rust, written apart from the library,
-//! with words as five 64-bit numbers and counts by `count_ones`: the baseline of the benchmark, and what the tests of the Rust
-//! crate hold the library against. `Kept` holds every codeword and start of a card that was decoded once.
+//! Document 01's rules, P2's offset, P3's counts of the code chunks, and P5's levels, in straightforward Rust, written apart from
+//! the library, with words as five 64-bit numbers and counts by `count_ones`: the baseline of the benchmark, and what the tests of
+//! the Rust crate hold the library against. `Kept` holds every codeword and start of a card that was decoded once.
 
 /// A word: place p is bit p % 64 of number p / 64.
 pub type Word = [u64; 5];
@@ -28,7 +28,14 @@ pub struct Read {
     pub chunk2_bits: Option<u32>,
 }
 
-/// The codeword within the radius of a chunk: its number, and in how many bits the two differ.
+/// The receiver's strength in a word of levels: the sum of their magnitudes, and the greatest.
+#[derive(Clone, Copy, Debug, PartialEq)]
+pub struct Strength {
+    pub sum: f32,
+    pub greatest: f32,
+}
+
+/// The codeword that a chunk reads as: its number, and in how many bits the two differ.
 #[derive(Clone, Copy)]
 pub struct Found {
     pub number: usize,
@@ -163,6 +170,8 @@ pub trait Order {
     fn block_of(&self, position: usize) -> usize;
     /// The codeword within the radius of a chunk.
     fn find(&self, chunk: u64) -> Option<Found>;
+    /// The codeword that differs from a chunk in at most `most` of the bits that were heard.
+    fn find_heard(&self, chunk: u64, heard: u64, most: u32) -> Option<Found>;
     /// The last position.
     fn last(&self) -> usize {
         self.start(self.code().last_block())
@@ -202,6 +211,10 @@ impl Order for Kept {
         let radius = self.code.radius as u32;
         let number = self.codewords.iter().position(|codeword| (codeword ^ chunk).count_ones() <= radius)?;
         Some(Found { number, bits: (self.codewords[number] ^ chunk).count_ones() })
+    }
+    fn find_heard(&self, chunk: u64, heard: u64, most: u32) -> Option<Found> {
+        let number = self.codewords.iter().position(|codeword| ((codeword ^ chunk) & heard).count_ones() <= most)?;
+        Some(Found { number, bits: ((self.codewords[number] ^ chunk) & heard).count_ones() })
     }
 }
 
@@ -272,12 +285,57 @@ impl Near {
     }
 }
 
+/// A received word: its bits, and what its code chunks read as.
+trait Received {
+    /// Numbers 0 to 4 of its bits.
+    fn bits(&self, part: usize) -> u64;
+    /// In the same numbers, which of the bits are lost.
+    fn lost(&self, part: usize) -> u64;
+    /// The codeword that the n bits from place `at` on read as.
+    fn find(&self, order: &impl Order, at: usize) -> Option<Found>;
+}
+
+/// A plain word: no bit is lost.
+impl Received for Word {
+    fn bits(&self, part: usize) -> u64 {
+        self[part]
+    }
+    fn lost(&self, _: usize) -> u64 {
+        0
+    }
+    fn find(&self, order: &impl Order, at: usize) -> Option<Found> {
+        order.find(get(self, at, order.code().n))
+    }
+}
+
+/// A word of levels.
+struct Told {
+    bits: Word,
+    lost: Word,
+}
+
+impl Received for Told {
+    fn bits(&self, part: usize) -> u64 {
+        self.bits[part]
+    }
+    fn lost(&self, part: usize) -> u64 {
+        self.lost[part]
+    }
+    /// 2 × wrong + lost is below D, so that wrong is at most half of D - 1 - lost.
+    fn find(&self, order: &impl Order, at: usize) -> Option<Found> {
+        let Code { n, distance, .. } = *order.code();
+        let lost = get(&self.lost, at, n);
+        let most = (distance - 1).checked_sub(lost.count_ones() as usize)? / 2;
+        order.find_heard(get(&self.bits, at, n), !lost, most as u32)
+    }
+}
+
 /// The positions from `low` to `high`, which stand in this block or at its end: the one nearest to the received word, the
 /// smallest on a tie.
-fn nearest_in_block(order: &impl Order, block: usize, low: usize, high: usize, received: &Word) -> Near {
+fn nearest_in_block(order: &impl Order, block: usize, low: usize, high: usize, received: &impl Received) -> Near {
     let code = order.code();
     let from = code.word(order.codeword(block), block % 2 == 1);
-    let mut residual: u32 = from.iter().zip(received).map(|(a, b)| (a ^ b).count_ones()).sum();
+    let mut residual: u32 = (0..5).map(|part| ((from[part] ^ received.bits(part)) & !received.lost(part)).count_ones()).sum();
     let mut position = order.start(block);
     let mut best = Near { residual: if position >= low { residual } else { u32::MAX }, position };
     if position == high {
@@ -286,11 +344,13 @@ fn nearest_in_block(order: &impl Order, block: usize, low: usize, high: usize, r
     let to = code.word(order.codeword(block + 1), block % 2 == 0);
     for part in 0..5 {
         let mut differing = from[part] ^ to[part];
-        let unlike = from[part] ^ received[part];
+        let (unlike, lost) = (from[part] ^ received.bits(part), received.lost(part));
         while differing != 0 {
             let place = differing & differing.wrapping_neg();
             differing ^= place;
-            residual = if unlike & place != 0 { residual - 1 } else { residual + 1 };
+            if lost & place == 0 {
+                residual = if unlike & place != 0 { residual - 1 } else { residual + 1 };
+            }
             position += 1;
             if position >= low && residual < best.residual {
                 best = Near { residual, position };
@@ -304,18 +364,17 @@ fn nearest_in_block(order: &impl Order, block: usize, low: usize, high: usize, r
 }
 
 /// What code chunk 1 reads as.
-fn chunk_1(order: &impl Order, received: &Word) -> Result<Found, u32> {
-    let code = order.code();
-    order.find(get(received, code.distance, code.n)).ok_or(10)
+fn chunk_1(order: &impl Order, received: &impl Received) -> Result<Found, u32> {
+    received.find(order, order.code().distance).ok_or(10)
 }
 
 /// What code chunk 2 reads as.
-fn chunk_2(order: &impl Order, received: &Word) -> Result<Found, u32> {
+fn chunk_2(order: &impl Order, received: &impl Received) -> Result<Found, u32> {
     let code = order.code();
-    order.find(get(received, 2 * code.distance + code.n, code.n)).ok_or(10)
+    received.find(order, 2 * code.distance + code.n).ok_or(10)
 }
 
-fn by_rule_1(order: &impl Order, received: &Word) -> Result<Read, u32> {
+fn by_rule_1(order: &impl Order, received: &impl Received) -> Result<Read, u32> {
     let Found { number: p, bits } = chunk_1(order, received)?;
     if p == 0 {
         return Err(12);
@@ -325,7 +384,7 @@ fn by_rule_1(order: &impl Order, received: &Word) -> Result<Read, u32> {
     Ok(nearest_in_block(order, p - 1, low, order.start(p), received).read(1, Some(bits), None))
 }
 
-fn by_rule_2(order: &impl Order, received: &Word) -> Result<Read, u32> {
+fn by_rule_2(order: &impl Order, received: &impl Received) -> Result<Read, u32> {
     let code = order.code();
     let Found { number: p, bits } = chunk_2(order, received)?;
     if p == code.last_block() {
@@ -336,7 +395,7 @@ fn by_rule_2(order: &impl Order, received: &Word) -> Result<Read, u32> {
     Ok(nearest_in_block(order, p, start, high, received).read(2, None, Some(bits)))
 }
 
-fn by_rule_3(order: &impl Order, received: &Word) -> Result<Read, u32> {
+fn by_rule_3(order: &impl Order, received: &impl Received) -> Result<Read, u32> {
     let Found { number: p, bits } = chunk_1(order, received)?;
     let other = chunk_2(order, received)?;
     if p != other.number {
@@ -372,16 +431,54 @@ pub fn read(order: &impl Order, bytes: &[u8]) -> Result<Read, u32> {
         whole[..part.len()].copy_from_slice(part);
         *bits = u64::from_le_bytes(whole);
     }
-    let (n, d) = (code.n, code.distance);
-    let separator = |at| 2 * get(&received, at, d).count_ones() as usize > d;
-    let (s1, s2, s3) = (separator(0), separator(d + n), separator(2 * d + 2 * n));
+    let separator = |(at, length)| 2 * get(&received, at, length).count_ones() as usize > length;
+    let [s1, _, s2, _, s3] = code.chunks();
+    by_separators(order, [separator(s1), separator(s2), separator(s3)], &received)
+}
+
+/// By the rule that the separators name.
+fn by_separators(order: &impl Order, [s1, s2, s3]: [bool; 3], received: &impl Received) -> Result<Read, u32> {
     if s1 == s2 && s2 == s3 {
-        by_rule_3(order, &received)
+        by_rule_3(order, received)
     } else if s1 == s2 {
-        by_rule_1(order, &received)
+        by_rule_1(order, received)
     } else if s2 == s3 {
-        by_rule_2(order, &received)
+        by_rule_2(order, received)
     } else {
         Err(9)
     }
+}
+
+/// Reads a received word of levels.
+pub fn read_levels(order: &impl Order, levels: &[f32]) -> Result<(Read, Strength), u32> {
+    let code = order.code();
+    if levels.len() != code.bits() {
+        return Err(15);
+    }
+    // what is not a number is not at most 1,000,000 either
+    if !levels.iter().all(|level| level.abs() <= 1_000_000.0) {
+        return Err(16);
+    }
+    let mut received = Told { bits: [0; 5], lost: [0; 5] };
+    for (place, &level) in levels.iter().enumerate() {
+        received.bits[place / 64] |= u64::from(level < 0.0) << (place % 64);
+        received.lost[place / 64] |= u64::from(level == 0.0) << (place % 64);
+    }
+    let separator = |(at, length)| sum(&levels[at..at + length]) < 0.0;
+    let [s1, _, s2, _, s3] = code.chunks();
+    let read = by_separators(order, [separator(s1), separator(s2), separator(s3)], &received)?;
+    Ok((read, strength(levels)))
+}
+
+/// Levels added in order from zero.
+fn sum(levels: &[f32]) -> f32 {
+    levels.iter().fold(0.0, |sum, level| sum + level)
+}
+
+fn strength(levels: &[f32]) -> Strength {
+    let magnitudes = levels.iter().map(|level| level.abs());
+    magnitudes.fold(Strength { sum: 0.0, greatest: 0.0 }, |Strength { sum, greatest }, magnitude| Strength {
+        sum: sum + magnitude,
+        greatest: magnitude.max(greatest),
+    })
 }

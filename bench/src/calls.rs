@@ -1,14 +1,18 @@
 //! The calls on a card that are measured, by the library and by the baselines, on the same words and positions.
-use crate::baseline::{self, decode, Kept, Order};
+use crate::baseline::{self, decode, Kept, Order, Strength};
 use crate::inputs;
 use crate::nested::{EachCall, KeptNested};
 use std::hint::black_box;
 use std::time::Instant;
 
-/// Each call with its ways, the library's first. A baseline that keeps its card has nothing to check.
-pub const CALLS: [(&str, &[&str]); 5] = [
+/// Each call with its ways, the library's first. A baseline that keeps its card has nothing to check. `levels` is a read of the
+/// words of `read` as levels of 1 and -1, so that both answer alike, and `levels-lost` one of the same words with the bits lost that
+/// are turned there.
+pub const CALLS: [(&str, &[&str]); 7] = [
     ("check", &["library", "each-call"]),
     ("read", &["library", "kept", "kept-nested", "each-call"]),
+    ("levels", &["library", "kept", "kept-nested", "each-call"]),
+    ("levels-lost", &["library", "kept", "kept-nested", "each-call"]),
     ("write", &["library", "kept", "each-call"]),
     ("start", &["library", "kept", "each-call"]),
     ("millimetres", &["library", "kept", "each-call"]),
@@ -38,11 +42,13 @@ pub trait Calls {
     }
 }
 
-/// A card, positions and words, and the card as the baselines keep it.
+/// A card, positions and words, the words as levels, and the card as the baselines keep it.
 pub struct Work {
     card: Vec<u8>,
     positions: Vec<u32>,
     words: Vec<Vec<u8>>,
+    levels: Vec<Vec<f32>>,
+    levels_lost: Vec<Vec<f32>>,
     kept: Kept,
     nested: KeptNested,
 }
@@ -52,7 +58,11 @@ impl Work {
         let card = inputs::card(name);
         let (positions, words) = inputs::positions_and_words(&card, count);
         let code = decode(&card).unwrap();
-        Work { card, positions, words, kept: Kept::new(code), nested: KeptNested(Kept::new(code)) }
+        let (kept, nested) = (Kept::new(code), KeptNested(Kept::new(code)));
+        let levels = words.iter().map(|word| inputs::levels(&code, word)).collect();
+        let lost = |(&position, word): (&u32, &Vec<u8>)| inputs::levels_lost(&kept, position, word);
+        let levels_lost = positions.iter().zip(&words).map(lost).collect();
+        Work { card, positions, words, levels, levels_lost, kept, nested }
     }
 
     fn check_card(&self, way: &str) -> u64 {
@@ -74,6 +84,18 @@ impl Work {
             "kept-nested" => baseline::read(&self.nested, word),
             _ => decode(&self.card).and_then(|code| baseline::read(&EachCall(code), word)),
         })
+    }
+
+    fn read_levels(&self, way: &str, levels: &[f32]) -> u64 {
+        let answer = match way {
+            "library" => dunnavish::read_levels(&self.card, levels).map(as_read_levels).map_err(number),
+            "kept" => baseline::read_levels(&self.kept, levels),
+            "kept-nested" => baseline::read_levels(&self.nested, levels),
+            _ => decode(&self.card).and_then(|code| baseline::read_levels(&EachCall(code), levels)),
+        };
+        let strength =
+            answer.map_or(0, |(_, Strength { sum, greatest })| u64::from(sum.to_bits()) << 32 | u64::from(greatest.to_bits()));
+        one_number(answer.map(|(read, _)| read)) ^ strength.rotate_left(13)
     }
 
     fn write(&self, way: &str, position: u32, word: &mut [u8]) -> u64 {
@@ -121,9 +143,13 @@ impl Calls for Work {
         let positions = self.positions[..count].iter().map(|&position| black_box(position));
         let last_block = self.kept.code().last_block() as u32;
         let mut word = vec![0; self.words[0].len()];
+        let read_levels =
+            |words: &[Vec<f32>]| mixed(words[..count].iter().map(|levels| self.read_levels(way, black_box(levels))));
         black_box(match call {
             "check" => mixed(positions.map(|_| self.check_card(way))),
             "read" => mixed(self.words[..count].iter().map(|word| self.read(way, black_box(word)))),
+            "levels" => read_levels(&self.levels),
+            "levels-lost" => read_levels(&self.levels_lost),
             "write" => mixed(positions.map(|position| {
                 let answer = self.write(way, position, &mut word);
                 word.iter().fold(answer, |sum, &byte| sum.wrapping_mul(31) ^ u64::from(byte))
@@ -161,6 +187,12 @@ fn refused(refusal: u32) -> u64 {
 fn as_read(reading: dunnavish::Reading) -> baseline::Read {
     let dunnavish::Reading { position, residual, rule, chunk1_bits, chunk2_bits } = reading;
     baseline::Read { position, residual, rule: rule.number(), chunk1_bits, chunk2_bits }
+}
+
+/// The same of a word of levels, with the receiver's strength.
+fn as_read_levels((reading, strength): (dunnavish::Reading, dunnavish::Strength)) -> (baseline::Read, Strength) {
+    let dunnavish::Strength { sum, greatest } = strength;
+    (as_read(reading), Strength { sum, greatest })
 }
 
 /// A read's answer in one number: a residual is at most 320, and a chunk's count at most 31, so that 63 can stand for none.

@@ -1,5 +1,6 @@
-//! What is measured on: five cards with a negative offset, positions of their tracks, and words with damage within the radius;
-//! three Reed-Muller codes, and chunks of them without a codeword within the radius. They are the same in every run.
+//! What is measured on: five cards with a negative offset, positions of their tracks, and words with damage within the radius, in
+//! bits and in levels; three Reed-Muller codes, and chunks of them without a codeword within the radius. They are the same in every
+//! run.
 use crate::baseline::{self, decode, Code, Kept, Order as _};
 use crate::cards::offset_card;
 use crate::codes::{golay, reed_muller};
@@ -68,6 +69,19 @@ pub fn positions_and_words(card: &[u8], count: usize) -> (Vec<u32>, Vec<Vec<u8>>
         })
         .collect();
     (positions, words)
+}
+
+/// The levels of a word's bits: -1 for a 1, 1 for a 0.
+pub fn levels(code: &Code, word: &[u8]) -> Vec<f32> {
+    (0..code.bits()).map(|place| if word[place / 8] >> (place % 8) & 1 == 1 { -1.0 } else { 1.0 }).collect()
+}
+
+/// The levels of a position's word, with zeros for the bits that are turned in a damaged word of it.
+pub fn levels_lost(kept: &Kept, position: u32, damaged: &[u8]) -> Vec<f32> {
+    let mut word = vec![0; damaged.len()];
+    baseline::write(kept, position, &mut word).unwrap();
+    let (sent, received) = (levels(kept.code(), &word), levels(kept.code(), damaged));
+    sent.into_iter().zip(received).map(|(sent, received)| if sent == received { sent } else { 0.0 }).collect()
 }
 
 /// A card and words of it, as tramread reads them.

@@ -1,11 +1,11 @@
 //! Position words of trams on stabling tracks.
 //!
 //! A tram reports where it stands by a coded word; a track's *card*, 512 bytes, says which code, and how far position 0 is from
-//! the buffer face. Five calls here take a card: they check it, write the word of a position, read a received word, give the
-//! start of a block, and turn a position into millimetres. Two take the order and the number of variables of a Reed-Muller code
-//! instead: they make its card, and read a chunk of it by majority votes. All are thin and safe wrappers of a library that is
-//! proved: each call ends, answers every input, and keeps no state, so any number of threads may use it. No call allocates or
-//! panics.
+//! the buffer face. Six calls here take a card: they check it, write the word of a position, read a received word, read one that
+//! came as levels, give the start of a block, and turn a position into millimetres. Two take the order and the number of
+//! variables of a Reed-Muller code instead: they make its card, and read a chunk of it by majority votes. All are thin and safe
+//! wrappers of a library that is proved: each call ends, answers every input, and keeps no state, so any number of threads may
+//! use it. No call allocates or panics.
 //!
 //! `docs/FORMAT.md` of the repository says what a card and a word are, byte by byte, how a word is read, which card is made, and
 //! what each refusal means. The archive that is linked, `libdunnavish.a`, is the one that `rt staticlib dunnavish` writes to
@@ -38,6 +38,15 @@
 //!
 //! assert_eq!(dunnavish::write_word(&card, 16, &mut word), Err(dunnavish::Refusal::OffTheTrack));
 //!
+//! // The word of position 7 from a receiver that gives levels: its seven ones are negative, the last level is faint, and code
+//! // chunk 2, places 9 to 11, has one bit lost.
+//! let mut levels = [1.0; 15];
+//! levels[..7].fill(-1.0);
+//! (levels[10], levels[14]) = (0.0, 0.25);
+//! let (reading, strength) = dunnavish::read_levels(&card, &levels)?;
+//! assert_eq!((reading.position, reading.residual, reading.chunk2_bits), (7, 0, Some(0)));
+//! assert_eq!((strength.sum, strength.greatest), (13.25, 1.0));
+//!
 //! assert_eq!(dunnavish::millimetres(&card, 7)?, 350);
 //! // The same track laid with position 0 one metre before the buffer face: offset -1000 in bytes 100 to 103, check 14,841.
 //! card[100..104].copy_from_slice(&(-1000i32).to_be_bytes());
@@ -69,7 +78,9 @@ macro_rules! refusals {
     ($($name:ident = $number:literal: $reason:literal,)+) => {
         /// Why a call was turned down. A call reports the first that holds, in the order of their numbers, but
         /// [`CardOffset`](Refusal::CardOffset) between [`CardStrayBits`](Refusal::CardStrayBits) and
-        /// [`DependentRows`](Refusal::DependentRows), and [`CodeLimits`](Refusal::CodeLimits) before any other.
+        /// [`DependentRows`](Refusal::DependentRows), [`CodeLimits`](Refusal::CodeLimits) before any other, and
+        /// [`LevelCount`](Refusal::LevelCount) and [`LevelLimits`](Refusal::LevelLimits) in the places of
+        /// [`WordLength`](Refusal::WordLength) and [`SpareBit`](Refusal::SpareBit).
         ///
         /// Later versions of the library may know more reasons, so a `match` needs an arm for those.
         #[derive(Clone, Copy, Debug, PartialEq, Eq, PartialOrd, Ord, Hash)]
@@ -89,7 +100,7 @@ macro_rules! refusals {
             /// Every refusal that has a number, in the order of their numbers.
             pub const ALL: &'static [Refusal] = &[$(Refusal::$name,)+];
 
-            /// Its number in `docs/FORMAT.md`, 1 to 14; none where the library and this crate are of different versions.
+            /// Its number in `docs/FORMAT.md`, 1 to 16; none where the library and this crate are of different versions.
             pub fn number(self) -> Option<u32> {
                 match self {
                     $(Refusal::$name => Some($number),)+
@@ -123,11 +134,13 @@ refusals! {
     OffTheTrack = 7: "the position is above the last, or the block above 2^k - 1",
     SpareBit = 8: "a bit past the end of the received word or chunk is set",
     Separators = 9: "the separators of the received word read 0 1 0 or 1 0 1",
-    ChunkUnreadable = 10: "a code chunk that is to be read has no codeword within the radius",
+    ChunkUnreadable = 10: "a code chunk that is to be read has no codeword that is near enough",
     ChunksDiffer = 11: "the separators are alike, and the two code chunks read differently",
     NoBlock = 12: "the received word points to a block before the first or after the last",
     CodeLimits = 13: "the Reed-Muller code's m is outside 1 to 6, its r above m, or its k above 12",
     CardOffset = 14: "the card's offset is outside -20,000 to 20,000 mm",
+    LevelCount = 15: "the levels are not exactly as many as the bits of this card's words",
+    LevelLimits = 16: "a level is not a number, infinite, or above 1,000,000 in magnitude",
 }
 
 impl Refusal {
@@ -194,7 +207,7 @@ impl Rule {
     }
 }
 
-/// What a received word was read as.
+/// What a received word was read as. Of a word of levels, bits that are lost are in none of its counts.
 #[derive(Clone, Copy, Debug, PartialEq, Eq, Hash)]
 pub struct Reading {
     /// The position, from 0 to the card's last.
@@ -208,6 +221,15 @@ pub struct Reading {
     pub chunk1_bits: Option<u32>,
     /// The same of code chunk 2. None where the rule is [`Rule::ThirdDiffers`].
     pub chunk2_bits: Option<u32>,
+}
+
+/// The receiver's strength in a word that was read from levels.
+#[derive(Clone, Copy, Debug, PartialEq)]
+pub struct Strength {
+    /// The sum of the levels' magnitudes, added in order from zero, each sum rounded to the nearest.
+    pub sum: f32,
+    /// The greatest of these magnitudes.
+    pub greatest: f32,
 }
 
 /// What a chunk of a Reed-Muller code was read as.
@@ -231,6 +253,16 @@ mod exported {
             word_bytes: usize,
             values: *mut u32,
             count: usize,
+        ) -> u32;
+        pub fn dunnavish_read_levels(
+            card: *const u8,
+            card_bytes: usize,
+            levels: *const f32,
+            levels_count: usize,
+            values: *mut u32,
+            count: usize,
+            strength: *mut f32,
+            strength_count: usize,
         ) -> u32;
         pub fn dunnavish_block_start(card: *const u8, card_bytes: usize, block: u32, values: *mut u32, count: usize) -> u32;
         pub fn dunnavish_millimetres(card: *const u8, card_bytes: usize, position: u32, values: *mut i32, count: usize) -> u32;
@@ -301,6 +333,38 @@ pub fn read_word(card: &[u8], word: &[u8]) -> Result<Reading, Refusal> {
     reading(values)
 }
 
+/// Reads a received word whose bits came as levels, [`CardSummary::word_bits`] of them, and tells the receiver's strength beside
+/// the answer. A level below zero is a 1, one above zero a 0, and a zero of either sign a bit that is lost.
+///
+/// A separator reads 1 if its levels, added in order from zero in single precision, each sum rounded to the nearest, sum below
+/// zero. A code chunk reads as the codeword for which 2 × wrong + lost is below [`CardSummary::distance`]: wrong counts the bits
+/// that differ from it, lost those that are lost. Only bits that aren't lost count, in the residual, by which the nearest
+/// position is found, and in the bits of the chunks.
+///
+/// If every level is 1 or -1, the reading, or the refusal, is that of [`read_word`] for these bits. If every level is 1, -1 or 0
+/// and, against the word of a position, each of the five chunks has 2 × wrong + lost below D, the answer is a reading, and its
+/// position is off by at most 2 × wrong + lost, counted over the whole word.
+///
+/// Refused, in this order: the card; [`Refusal::LevelCount`]; [`Refusal::LevelLimits`], for any of the levels (1,000,000 itself
+/// is allowed); and [`Refusal::Separators`] to [`Refusal::NoBlock`].
+pub fn read_levels(card: &[u8], levels: &[f32]) -> Result<(Reading, Strength), Refusal> {
+    let (mut values, mut strength) = ([0u32; 5], [0f32; 2]);
+    served(unsafe {
+        exported::dunnavish_read_levels(
+            card.as_ptr(),
+            card.len(),
+            levels.as_ptr(),
+            levels.len(),
+            values.as_mut_ptr(),
+            values.len(),
+            strength.as_mut_ptr(),
+            strength.len(),
+        )
+    })?;
+    let [sum, greatest] = strength;
+    Ok((reading(values)?, Strength { sum, greatest }))
+}
+
 /// The position at which a block starts; blocks are 0 to 2^k - 1.
 ///
 /// Refused: the card, [`Refusal::OffTheTrack`].
@@ -352,7 +416,7 @@ mod tests {
         for refusal in Refusal::ALL {
             assert_eq!(served(refusal.number().unwrap()), Err(*refusal));
         }
-        for status in [15, 99, 100, 101, u32::MAX] {
+        for status in [17, 99, 100, 101, u32::MAX] {
             assert_eq!(served(status), Err(Refusal::UnknownStatus(status)));
             assert_eq!(Refusal::UnknownStatus(status).number(), None);
         }

@@ -1,5 +1,5 @@
-//! The library against the straightforward implementation of document 01, P2 and P3 that the benchmark compares it with, written
-//! apart from it, on cards of every shape, with offsets, and words of every kind.
+//! The library against the straightforward implementation of document 01, P2, P3 and P5 that the benchmark compares it with,
+//! written apart from it, on cards of every shape, with offsets, and words of every kind, in bits and in levels.
 #[path = "../../bench/src/baseline.rs"]
 mod baseline;
 mod cards;
@@ -9,7 +9,8 @@ mod random;
 use baseline::{decode, Code, Kept, Order as _};
 use cards::{card_of, offset_card, seal};
 use codes::{golay, reed_muller};
-use dunnavish::{block_start, check_card, make_card, millimetres, read_word, vote_chunk, write_word, Refusal};
+use dunnavish::{block_start, check_card, make_card, millimetres, read_levels, read_word, vote_chunk, write_word};
+use dunnavish::{Reading, Refusal};
 use random::Random;
 
 fn number<T>(answer: Result<T, Refusal>) -> Result<T, u32> {
@@ -50,16 +51,26 @@ fn both_write(card: &[u8], kept: &Kept, position: usize, lent: usize) {
 
 fn both_read(card: &[u8], kept: &Kept, received: &[u8]) -> Result<baseline::Read, u32> {
     let expected = baseline::read(kept, received);
-    let answer = number(read_word(card, received)).map(|reading| baseline::Read {
-        position: reading.position,
-        residual: reading.residual,
-        rule: reading.rule.number(),
-        chunk1_bits: reading.chunk1_bits,
-        chunk2_bits: reading.chunk2_bits,
-    });
+    let answer = number(read_word(card, received)).map(as_read);
     let Code { n, k, .. } = kept.code();
     assert_eq!(answer, expected, "n {n} k {k} word {received:02x?}");
     expected
+}
+
+/// The library's reading in the baseline's form.
+fn as_read(reading: Reading) -> baseline::Read {
+    let Reading { position, residual, rule, chunk1_bits, chunk2_bits } = reading;
+    baseline::Read { position, residual, rule: rule.number(), chunk1_bits, chunk2_bits }
+}
+
+/// Strengths are compared bit for bit.
+fn both_read_levels(card: &[u8], kept: &Kept, levels: &[f32]) {
+    let expected = baseline::read_levels(kept, levels).map(|(read, strength)| (read, [strength.sum, strength.greatest]));
+    let answer =
+        number(read_levels(card, levels)).map(|(reading, strength)| (as_read(reading), [strength.sum, strength.greatest]));
+    let in_bits = |(read, strength): (baseline::Read, [f32; 2])| (read, strength.map(f32::to_bits));
+    let Code { n, k, .. } = kept.code();
+    assert_eq!(answer.map(in_bits), expected.map(in_bits), "n {n} k {k} levels {levels:?}");
 }
 
 /// The word of a position on the track.
@@ -119,6 +130,7 @@ fn every_call_refuses(card: &[u8]) {
     assert_eq!(write_word(card, 0, &mut word).err(), refusal);
     assert_eq!(word, [0xaa; 2]);
     assert_eq!(read_word(card, &[0, 0]).err(), refusal);
+    assert_eq!(read_levels(card, &[f32::NAN; 15]).err(), refusal);
     assert_eq!(block_start(card, 0).err(), refusal);
     assert_eq!(millimetres(card, 0).err(), refusal);
 }
@@ -138,6 +150,33 @@ fn at_the_ends(card: &[u8], kept: &Kept) {
         both_write(card, kept, last + 1, lent);
         both_read(card, kept, &vec![0; lent]).unwrap_err();
     }
+    for count in [0, 1, kept.code().bits() - 1, kept.code().bits() + 1, 320, 321] {
+        both_read_levels(card, kept, &vec![1.0; count]);
+        both_read_levels(card, kept, &vec![f32::NAN; count]);
+    }
+}
+
+/// A word's bits as levels: of magnitude 1, the same with some lost, these of many magnitudes, and then one outside the limits.
+fn at_levels(card: &[u8], kept: &Kept, random: &mut Random, word: &[u8]) {
+    let code = kept.code();
+    let sign = |place: usize| if word[place / 8] >> (place % 8) & 1 == 1 { -1.0 } else { 1.0 };
+    let mut levels: Vec<f32> = (0..code.bits()).map(sign).collect();
+    both_read_levels(card, kept, &levels);
+    for (from, length) in code.chunks() {
+        let lost = random.below(code.distance + 1);
+        for place in random.some_below(lost, length) {
+            levels[from + place] = [0.0, -0.0][random.below(2)];
+        }
+    }
+    both_read_levels(card, kept, &levels);
+    let magnitudes = [1e6, 999_999.94, 0.03, 0.04, 1.0, 1e-7, f32::MIN_POSITIVE, f32::from_bits(1)];
+    for level in &mut levels {
+        *level *= magnitudes[random.below(8)];
+    }
+    both_read_levels(card, kept, &levels);
+    let outside = [f32::NAN, -f32::NAN, f32::INFINITY, f32::NEG_INFINITY, 1_000_000.06, -1_000_000.06];
+    levels[random.below(code.bits())] = outside[random.below(6)];
+    both_read_levels(card, kept, &levels);
 }
 
 /// The word of a position, undamaged and damaged within the radius and beyond, and noise.
@@ -155,9 +194,15 @@ fn at_position(card: &[u8], kept: &Kept, random: &mut Random, position: usize) {
     both_read_damaged(card, kept, random, position, past);
     let anything = code.chunks().map(|(_, length)| random.below(length + 1));
     both_read_damaged(card, kept, random, position, anything);
+    let mut turned = undamaged.clone();
+    let place = random.below(code.bits());
+    turned[place / 8] ^= 1 << (place % 8);
+    at_levels(card, kept, random, &undamaged);
+    at_levels(card, kept, random, &turned);
     // noise over all the bytes, spare bits too
     let noise: Vec<u8> = undamaged.iter().map(|_| random.next() as u8).collect();
     let _ = both_read(card, kept, &noise);
+    at_levels(card, kept, random, &noise);
     if code.bits() % 8 != 0 {
         let mut spare = undamaged;
         let place = code.bits() + random.below(8 * spare.len() - code.bits());

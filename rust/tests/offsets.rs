@@ -2,7 +2,8 @@
 mod cards;
 
 use cards::{card_of, offset_card, seal};
-use dunnavish::{block_start, check_card, make_card, millimetres, read_word, write_word, CardSummary, Reading, Refusal, Rule};
+use dunnavish::{block_start, check_card, make_card, millimetres, read_levels, read_word, write_word};
+use dunnavish::{CardSummary, Reading, Refusal, Rule};
 
 /// Offsets within their range: its ends, 0, and the numbers beside these.
 const WITHIN: [i32; 7] = [-20_000, -19_999, -1, 0, 1, 19_999, 20_000];
@@ -37,6 +38,9 @@ fn every_call_refuses(card: &[u8], refusal: Refusal) {
     }
     for word in [&[][..], &[0x7f, 0x00], &[0xc0, 0x01], &[0x00, 0x80]] {
         assert_eq!(read_word(card, word), Err(refusal));
+    }
+    for levels in [&[][..], &[1.0; 15], &[f32::NAN; 15]] {
+        assert_eq!(read_levels(card, levels), Err(refusal));
     }
 }
 

@@ -1,14 +1,14 @@
 /*
- * What the header itself defines: the version, the text of a status, the bytes of a word, the indices of values, and what stands
- * for a chunk that is not read. Compiled as C99, as C11 and as C++; calls on a card and the two that are given none show that it
- * links in each.
+ * What the header itself defines: the version, the text of a status, the bytes of a word, the indices of values and of a strength,
+ * and what stands for a chunk that is not read. Compiled as C99, as C11 and as C++; calls on a card, one of them on levels, and the
+ * two that are given none show that it links in each.
  */
 #include <stdio.h>
 #include <string.h>
 
 #include "dunnavish.h"
 
-#define KNOWN 16
+#define KNOWN 18
 
 static int failed = 0;
 
@@ -23,7 +23,7 @@ static void expect(int holds, const char *what, unsigned long number)
 /* Every status has a text of its own, and every other number the same one, which is none of them. */
 static void status_texts(void)
 {
-    static const uint32_t known[KNOWN] = {0, 1, 2, 3, 4, 5, 6, 7, 8, 9, 10, 11, 12, 13, 14, 100};
+    static const uint32_t known[KNOWN] = {0, 1, 2, 3, 4, 5, 6, 7, 8, 9, 10, 11, 12, 13, 14, 15, 16, 100};
     const char *unknown = dunnavish_status_text(UINT32_MAX);
     uint32_t status;
     int i, j;
@@ -35,7 +35,7 @@ static void status_texts(void)
         for (j = 0; j < i; j++)
             expect(strcmp(text, dunnavish_status_text(known[j])) != 0, "the text of another for status", known[i]);
     }
-    for (status = 15; status < 100000; status++)
+    for (status = 17; status < 100000; status++)
         if (status != 100)
             expect(strcmp(dunnavish_status_text(status), unknown) == 0, "a text for the unknown status", status);
 }
@@ -116,6 +116,56 @@ static void read_values(const uint8_t card[DUNNAVISH_CARD_BYTES])
     read_as(card, 0x00, 0x04, 0, 3, 0, 1);
 }
 
+/*
+ * The word of position 10 on card B as levels, 111 111 111 100 000, with place 4 lost, in code chunk 1, and place 5 turned there or
+ * not; the last level is 2.5. Chunk 1 with one bit lost is read, and with one turned besides, 2 * 1 + 1 = 3 = D, it is not.
+ */
+static void levels_read(const uint8_t card[DUNNAVISH_CARD_BYTES])
+{
+    float levels[15] = {-1, -1, -1, -1, 0, -1, -1, -1, -1, -1, 1, 1, 1, 1, 2.5f};
+    uint32_t values[DUNNAVISH_READ_VALUES] = {0};
+    float strength[DUNNAVISH_STRENGTH_VALUES] = {0};
+    uint32_t status = dunnavish_read_levels(card, DUNNAVISH_CARD_BYTES, levels, 15, values, DUNNAVISH_READ_VALUES, strength,
+                                            DUNNAVISH_STRENGTH_VALUES);
+
+    expect(status == DUNNAVISH_OK, "levels of card B refused", status);
+    expect(values[DUNNAVISH_READ_POSITION] == 10, "levels not read as position", 10);
+    expect(values[DUNNAVISH_READ_RESIDUAL] == 0, "not the residual of levels", values[DUNNAVISH_READ_RESIDUAL]);
+    expect(values[DUNNAVISH_READ_RULE] == 1, "levels not read by rule", 1);
+    expect(values[DUNNAVISH_READ_CHUNK1_BITS] == 0, "not the bits of chunk 1 of levels", values[DUNNAVISH_READ_CHUNK1_BITS]);
+    expect(values[DUNNAVISH_READ_CHUNK2_BITS] == DUNNAVISH_NOT_READ, "bits of chunk 2 of levels by rule", 1);
+    expect(strength[DUNNAVISH_STRENGTH_SUM] == 15.5f, "not the sum of the magnitudes of levels", 15);
+    expect(strength[DUNNAVISH_STRENGTH_GREATEST] == 2.5f, "not the greatest magnitude of levels", 2);
+    expect(DUNNAVISH_STRENGTH_VALUES == 2, "the count of a strength is", DUNNAVISH_STRENGTH_VALUES);
+}
+
+/* The levels of position 10 on card B, with another one at a place: `count` of them, and so many numbers and floats, are lent. */
+static void levels_refused(const uint8_t card[DUNNAVISH_CARD_BYTES], size_t place, float level, size_t count, size_t numbers,
+                           size_t floats, uint32_t expected)
+{
+    float levels[16] = {-1, -1, -1, -1, 0, -1, -1, -1, -1, -1, 1, 1, 1, 1, 1, 1};
+    uint32_t values[DUNNAVISH_READ_VALUES] = {7, 7, 7, 7, 7}, status, i;
+    float strength[DUNNAVISH_STRENGTH_VALUES] = {7, 7};
+
+    levels[place] = level;
+    status = dunnavish_read_levels(card, DUNNAVISH_CARD_BYTES, levels, count, values, numbers, strength, floats);
+    expect(status == expected, "levels not refused by", expected);
+    for (i = 0; i < DUNNAVISH_READ_VALUES; i++)
+        expect(values[i] == 7, "a number changed by refusal", expected);
+    expect(strength[0] == 7 && strength[1] == 7, "a float changed by refusal", expected);
+}
+
+static void levels_statuses(const uint8_t card[DUNNAVISH_CARD_BYTES])
+{
+    levels_refused(card, 0, -1, 14, 5, 2, DUNNAVISH_LEVEL_COUNT);
+    levels_refused(card, 0, -1, 16, 5, 2, DUNNAVISH_LEVEL_COUNT);
+    levels_refused(card, 14, 1000000.0625f, 15, 5, 2, DUNNAVISH_LEVEL_LIMITS);
+    levels_refused(card, 5, 1, 15, 5, 2, DUNNAVISH_CHUNK_UNREADABLE);
+    levels_refused(card, 5, 1, 15, 4, 2, DUNNAVISH_VALUE_COUNT);
+    levels_refused(card, 5, 1, 15, 5, 1, DUNNAVISH_VALUE_COUNT);
+    levels_refused(card, 0, -1, 14, 5, 0, DUNNAVISH_VALUE_COUNT);
+}
+
 /* The code of order 0 in 2 variables has one row, 15: n 4, k 1, D 4, t 1. 7 is one bit from c(1), and 3 two bits from each. */
 static void made_card(void)
 {
@@ -175,6 +225,8 @@ int main(int argc, char **argv)
         return 1;
     bytes_of_words(card_b);
     read_values(card_b);
+    levels_read(card_b);
+    levels_statuses(card_b);
     made_card();
     offsets();
     return failed;

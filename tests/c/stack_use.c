@@ -1,8 +1,9 @@
 /*
  * Measures the stack that a call takes, and fails if it is not below what include/dunnavish.h promises. Each call runs on a
  * thread whose stack is painted first; a thread that calls nothing is subtracted. Cards of every length n, and of the fewest and
- * the most rows, with offsets, and positions over the whole track, their words as they are and with damaged code chunks; every
- * Reed-Muller code that has a card. Linked with -Wl,-z,now, so that memcpy and memset are bound before the calls.
+ * the most rows, with offsets, and positions over the whole track, their words as they are and with damaged code chunks, in bits
+ * and in levels; every Reed-Muller code that has a card. Linked with -Wl,-z,now, so that memcpy and memset are bound before the
+ * calls.
  */
 #include <pthread.h>
 #include <stdio.h>
@@ -16,16 +17,17 @@
 #define PAINT 0xA5
 
 /* The calls on a card, and from MAKE on those that are given none. */
-enum { NOTHING, CHECK, WRITE, READ, START, MILLIMETRES, MAKE, VOTE, CALLS };
-static const char *const names[CALLS] = {"nothing",     "check_card",  "write_word", "read_word",
-                                         "block_start", "millimetres", "make_card",  "vote_chunk"};
+enum { NOTHING, CHECK, WRITE, READ, LEVELS, START, MILLIMETRES, MAKE, VOTE, CALLS };
+static const char *const names[CALLS] = {"nothing",     "check_card",  "write_word",  "read_word", "read_levels",
+                                         "block_start", "millimetres", "make_card", "vote_chunk"};
 
 /* The greatest order of a Reed-Muller code with at most 12 rows, by the number of variables, 1 to 6. */
 static const uint32_t greatest_order[7] = {0, 1, 2, 3, 2, 1, 1};
 
 static uint8_t card[DUNNAVISH_CARD_BYTES];
 static uint8_t word[DUNNAVISH_WIDEST_WORD_BYTES];
-static size_t word_bytes;
+static size_t word_bytes, word_bits;
+static float levels[8 * DUNNAVISH_WIDEST_WORD_BYTES], strength[DUNNAVISH_STRENGTH_VALUES];
 static uint32_t values[DUNNAVISH_CARD_VALUES];
 static int32_t distance[DUNNAVISH_NUMBER_VALUES];
 static uint32_t position, r, m, status;
@@ -53,6 +55,10 @@ static void *called(void *which)
         break;
     case READ:
         status = dunnavish_read_word(card, sizeof card, word, word_bytes, values, DUNNAVISH_READ_VALUES);
+        break;
+    case LEVELS:
+        status = dunnavish_read_levels(card, sizeof card, levels, word_bits, values, DUNNAVISH_READ_VALUES, strength,
+                                       DUNNAVISH_STRENGTH_VALUES);
         break;
     case START:
         status = dunnavish_block_start(card, sizeof card, 1, values, DUNNAVISH_NUMBER_VALUES);
@@ -144,28 +150,47 @@ static void damage_chunks(void)
     }
 }
 
+/* The word as levels: 1 and -1, but 0 for the first t places of both code chunks if these are lost. It is read all the same. */
+static void make_levels(int lost)
+{
+    uint32_t n = values[DUNNAVISH_CARD_N], width = values[DUNNAVISH_CARD_DISTANCE], p;
+
+    for (p = 0; p < word_bits; p++)
+        levels[p] = word[p / 8] >> (p % 8) & 1 ? -1.0f : 1.0f;
+    for (p = width; lost && p < width + values[DUNNAVISH_CARD_RADIUS]; p++)
+        levels[p] = levels[p + width + n] = 0.0f;
+}
+
+/* One call on the card that was made, at a position that the round chooses. Words are damaged in every second round. */
+static void call_on_card(int which, int round)
+{
+    uint32_t last;
+
+    position = 0;
+    stack_of(CHECK);
+    last = values[DUNNAVISH_CARD_LAST];
+    word_bits = values[DUNNAVISH_CARD_BITS];
+    word_bytes = dunnavish_word_bytes(values[DUNNAVISH_CARD_BITS]);
+    position = round == 0 ? 0 : round == 1 ? last : (uint32_t)(next_random() % (last + 1));
+    if (which == READ || which == LEVELS)
+        stack_of(WRITE);
+    if (which == READ && round % 2 == 1)
+        damage_chunks();
+    if (which == LEVELS)
+        make_levels(round % 2 == 1);
+    measure(which);
+}
+
 static void calls_on_cards(void)
 {
     int n, k, which, round;
 
     for (n = 1; n <= 64; n++)
         for (k = 1; k <= 12 && k <= n; k += 11) {
-            uint32_t last;
-
             make_card(n, k);
             for (which = CHECK; which < MAKE; which++)
-                for (round = 0; round < 4; round++) {
-                    position = 0;
-                    stack_of(CHECK);
-                    last = values[DUNNAVISH_CARD_LAST];
-                    word_bytes = dunnavish_word_bytes(values[DUNNAVISH_CARD_BITS]);
-                    position = round == 0 ? 0 : round == 1 ? last : (uint32_t)(next_random() % (last + 1));
-                    if (which == READ)
-                        stack_of(WRITE);
-                    if (which == READ && round % 2 == 1)
-                        damage_chunks();
-                    measure(which);
-                }
+                for (round = 0; round < 4; round++)
+                    call_on_card(which, round);
         }
 }
 

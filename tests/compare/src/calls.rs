@@ -1,7 +1,7 @@
 //! One call of the library against the same call of the second reader.
 use crate::library;
 use crate::tally::Tally;
-use second_reader::{Facts, Reading, Refusal, Vote};
+use second_reader::{Facts, Reading, Refusal, Strength, Vote};
 
 /// The lent bytes of every write, of which the word is to fill the first ones: what they hold before it, and how many they are.
 const HELD: u8 = 170;
@@ -69,6 +69,20 @@ pub fn read(tally: &mut Tally, answer: Result<Reading, Refusal>, second: Result<
     answered(tally, "words", "words read", second, answer != second);
     if let Ok(reading) = second {
         tally.add(&format!("words read by rule {}", reading.rule), true);
+    }
+}
+
+/// What both read of levels. Strengths are compared bit for bit.
+pub fn read_levels(
+    tally: &mut Tally,
+    answer: Result<(Reading, Strength), Refusal>,
+    second: Result<(Reading, Strength), Refusal>,
+) {
+    let in_bits = |(reading, strength): (Reading, Strength)| (reading, [strength.sum, strength.greatest].map(f32::to_bits));
+    let unlike = answer.map(in_bits) != second.map(in_bits);
+    answered(tally, "words of levels", "words of levels read", second, unlike);
+    if let Ok((reading, _)) = second {
+        tally.add(&format!("words of levels read by rule {}", reading.rule), true);
     }
 }
 

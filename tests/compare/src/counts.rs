@@ -1,5 +1,6 @@
 //! The bits that code chunks needed: which counts have been met, and the library's held to the bits that were turned.
 use crate::calls;
+use crate::levels;
 use crate::library;
 use crate::tally::Tally;
 use crate::trials::counts::{self, Counted};
@@ -24,11 +25,13 @@ pub fn at_borders(tally: &mut Tally, card: &[u8], behind: &Walk, p: usize, id: u
     }
 }
 
-/// A received word, by the library and by the second reader, whose search sets out from a walk.
+/// A received word, by the library and by the second reader, whose search sets out from a walk; and its bits as levels, by the
+/// library.
 pub fn both_read(tally: &mut Tally, card: &[u8], walk: &Walk, bytes: &[u8]) -> [Result<Reading, Refusal>; 2] {
     let (answer, second) = (library::read_word(card, bytes), reading::read_from(walk, bytes));
     calls::read(tally, answer, second);
     needed(tally, walk.track, second);
+    levels::as_plain(tally, card, &walk.track.card.code, bytes, answer);
     [answer, second]
 }
 

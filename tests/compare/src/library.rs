@@ -1,5 +1,5 @@
 //! The library's public calls, with answers in the second reader's form.
-use second_reader::{Facts, Reading, Refusal, Vote};
+use second_reader::{Facts, Reading, Refusal, Strength, Vote};
 
 /// What the Rust crate has no number for (an unknown status or rule, or counts of other chunks than the rule names) is a refusal
 /// that the second reader never answers.
@@ -25,14 +25,22 @@ pub fn write_word(card: &[u8], position: u32, word: &mut [u8]) -> Result<(), Ref
 }
 
 pub fn read_word(card: &[u8], word: &[u8]) -> Result<Reading, Refusal> {
-    let reading = dunnavish::read_word(card, word).map_err(number)?;
-    Ok(Reading {
+    dunnavish::read_word(card, word).map(reading).map_err(number)
+}
+
+pub fn read_levels(card: &[u8], levels: &[f32]) -> Result<(Reading, Strength), Refusal> {
+    let (read, strength) = dunnavish::read_levels(card, levels).map_err(number)?;
+    Ok((reading(read), Strength { sum: strength.sum, greatest: strength.greatest }))
+}
+
+fn reading(reading: dunnavish::Reading) -> Reading {
+    Reading {
         position: reading.position,
         residual: reading.residual,
         rule: reading.rule.number(),
         chunk1_bits: reading.chunk1_bits,
         chunk2_bits: reading.chunk2_bits,
-    })
+    }
 }
 
 pub fn block_start(card: &[u8], block: u32) -> Result<u32, Refusal> {

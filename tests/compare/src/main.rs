@@ -1,16 +1,18 @@
 //! Compares the library's public calls with the second reader, on cards of every shape, with faults and with offsets, on words
-//! damaged in many ways, and on the Reed-Muller codes and their chunks, and prints counts. A call is compared in `calls.rs`, a
-//! count is a line of `tally.rs`, and what is tried stands in `trials`.
+//! damaged in many ways, in bits and in levels, and on the Reed-Muller codes and their chunks, and prints counts. A call is
+//! compared in `calls.rs`, a count is a line of `tally.rs`, and what is tried stands in `trials`.
 //!
-//! How the file `expected` was made: every count but the last ten follows from how the cards, words and chunks are made and from
-//! what the second reader answers, and none of them from the library. The last ten are of the library, and are 0 where it is
-//! right. So the file has the former as the program printed them with a library that refused every call, and 0 for each of the
+//! How the file `expected` was made: every count but the last thirteen follows from how the cards, words and chunks are made and
+//! from what the second reader answers, and none of them from the library. The last thirteen are of the library, and are 0 where it
+//! is right. So the file has the former as the program printed them with a library that refused every call, and 0 for each of the
 //! latter.
 mod calls;
 mod codes;
 mod counts;
+mod levels;
 mod library;
 mod positions;
+mod small_cards;
 mod tally;
 mod trials;
 
@@ -20,15 +22,26 @@ use trials::shapes::{self, Shape};
 use trials::{cards, faults, offsets};
 
 /// The shapes whose cards are also tried with every two faults at once.
-const WITH_FAULTS: [usize; 4] = [63, 65, 77, 90];
+const WITH_FAULTS: [usize; 4] = [WIDEST, 65, CARD_A, 90];
 
-/// The shapes of card B (n 3, k 1, D 3) and of the largest card (n 64, k 12).
+/// The shapes of card A (n 3, k 2, D 2), of card B (n 3, k 1, D 3), of the card with the widest words (n 64, k 1, D 64), and of the
+/// largest card (n 64, k 12).
+const CARD_A: usize = 77;
 const CARD_B: usize = 2;
+const WIDEST: usize = 63;
 const LARGEST: usize = 267;
 
 /// The shapes whose cards are also tried with offsets at the borders: card B's, that of the widest words, two with several rows,
 /// and one with rows that are dependent.
-const WITH_OFFSETS: [usize; 5] = [CARD_B, 63, 77, 90, 199];
+const WITH_OFFSETS: [usize; 5] = [CARD_B, WIDEST, CARD_A, 90, 199];
+
+/// The shapes whose cards are also tried with levels at their limits in every place: those of n 1 and 2, card A's, card B's and the
+/// one with the widest words. Cards A and B and the one of n 5, D 5, are also tried with many words of levels.
+const WITH_LIMITS: [usize; 5] = [0, 1, CARD_A, CARD_B, WIDEST];
+const WITH_MANY: [usize; 3] = [CARD_A, CARD_B, 4];
+
+/// Every word of levels 1, -1 and 0 is tried up to this number of bits, and of card A, with its twelve.
+const EVERY_WORD: usize = 10;
 
 fn main() {
     let mut tally = Tally::new();
@@ -43,6 +56,7 @@ fn main() {
         }
     }
     with_offsets(&mut tally, &shapes);
+    with_levels(&mut tally, &shapes);
     codes::all(&mut tally);
     tally.print();
 }
@@ -67,6 +81,23 @@ fn with_offsets(tally: &mut Tally, shapes: &[Shape]) {
     }
 }
 
+/// Levels on cards of some shapes: every word of 1, -1 and 0, limits in every place, and many words.
+fn with_levels(tally: &mut Tally, shapes: &[Shape]) {
+    for (i, shape) in shapes.iter().enumerate().filter(|&(i, shape)| shape.n <= 5 || i == WIDEST) {
+        let card = cards::sealed(cards::of_shape(shape, i as u16));
+        let Ok(track) = Track::of_card(&card) else { continue };
+        if track.card.code.word_bits() <= EVERY_WORD || i == CARD_A {
+            small_cards::every_word(tally, &card, &track);
+        }
+        if WITH_LIMITS.contains(&i) {
+            small_cards::limits(tally, &card, &track);
+        }
+        if WITH_MANY.contains(&i) {
+            small_cards::many(tally, &card, &track, 50);
+        }
+    }
+}
+
 /// A card of any bytes. What is tried of it is chosen by `id`.
 fn card(tally: &mut Tally, card: &[u8], id: u64) {
     let track = Track::of_card(card);
@@ -80,11 +111,13 @@ fn card(tally: &mut Tally, card: &[u8], id: u64) {
         Err(_) => {
             of_length(tally, card, 0, 2);
             calls::numbers(tally, card, 0);
+            levels::on_refused(tally, card);
         }
     }
 }
 
-/// Blocks and positions at the ends of what there is, and past them, with a right and a wrong length; words of other lengths.
+/// Blocks and positions at the ends of what there is, and past them, with a right and a wrong length; words of other lengths, and
+/// of other counts of levels.
 fn ends(tally: &mut Tally, card: &[u8], track: &Track) {
     let (last, past) = (track.last(), track.last() + 1);
     for number in [0, track.starts.len() as u32, last, past, u32::MAX] {
@@ -96,6 +129,7 @@ fn ends(tally: &mut Tally, card: &[u8], track: &Track) {
     of_length(tally, card, 0, len + 1);
     calls::write(tally, card, past, len);
     calls::write(tally, card, u32::MAX, len);
+    levels::of_counts(tally, card, track);
 }
 
 /// A write into, and a read of, `len` bytes.

@@ -1,6 +1,7 @@
 //! The track of a sound card: its block starts, and its positions from end to end.
 use crate::calls::{self, Lent};
 use crate::counts;
+use crate::levels;
 use crate::library;
 use crate::tally::Tally;
 use crate::trials::{choice, words};
@@ -15,8 +16,8 @@ pub fn blocks(tally: &mut Tally, card: &[u8], track: &Track) {
     }
 }
 
-/// The positions, one after the other: words are written, and at some of them words are read; at the starts of some blocks also
-/// words with counts at their borders.
+/// The positions, one after the other: words are written, and at some of them words are read, and words of levels; at the starts of
+/// some blocks also words with counts at their borders.
 pub fn from_end_to_end(tally: &mut Tally, card: &[u8], track: &Track, id: u64) {
     let mut here = Walk::new(track);
     let mut behind = here.clone();
@@ -31,6 +32,7 @@ pub fn from_end_to_end(tally: &mut Tally, card: &[u8], track: &Track, id: u64) {
         if choice::is_read(&here, id) {
             follow(&mut behind, position);
             read(tally, card, &behind, &here, id);
+            levels::at(tally, card, &behind, &here, id);
         }
         let begins = track.starts.binary_search(&position).ok();
         if let Some(p) = begins.filter(|&p| choice::is_counted(track, p, id)) {

@@ -1,7 +1,7 @@
 //! The counts that the program prints.
 
 /// The printed lines in their order: a name each, under which something is counted.
-const LINES: [&str; 74] = [
+const LINES: [&str; 93] = [
     // What the second reader answered, call by call.
     "cards sound",
     "cards refused 1",
@@ -48,6 +48,17 @@ const LINES: [&str; 74] = [
     "rule 3, chunks needed t bits and some bits",
     "rule 3, chunks needed t bits and t bits",
     "most bits that a chunk of a word needed",
+    "words of levels read",
+    "words of levels on refused cards",
+    "words of levels refused 15",
+    "words of levels refused 16",
+    "words of levels refused 9",
+    "words of levels refused 10",
+    "words of levels refused 11",
+    "words of levels refused 12",
+    "words of levels read by rule 1",
+    "words of levels read by rule 2",
+    "words of levels read by rule 3",
     "cards made",
     "made cards refused 13",
     "chunks read",
@@ -66,6 +77,12 @@ const LINES: [&str; 74] = [
     "words with t + 1 bits turned in a chunk named, refused 10",
     "words with t + 1 bits turned in a chunk named, refused 11",
     "words with t + 1 bits turned in a chunk named, refused 12",
+    // Damage is 2 × wrong + lost.
+    "words of levels damaged below D in every chunk",
+    "most damage of one of them",
+    "greatest error of one of them in steps",
+    "errors of as many steps as the damage",
+    "words of levels 1 and -1 held to the plain word",
     "most bits turned in a chunk that is read",
     "chunks also read in a word",
     "answers compared",
@@ -74,11 +91,14 @@ const LINES: [&str; 74] = [
     "mismatches of writes",
     "mismatches of starts and distances",
     "mismatches of words",
+    "mismatches of words of levels",
     "mismatches of made cards",
     "mismatches of chunks",
     "neighbours not one bit apart",
     "errors above twice the bits turned or refused",
     "counts unlike the bits turned or refused",
+    "errors above the damage or refused",
+    "words of levels 1 and -1 unlike the plain word",
     "votes unlike a chunk's reading in a word",
 ];
 

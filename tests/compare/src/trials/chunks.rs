@@ -44,7 +44,7 @@ fn damaged(reed_muller: &ReedMuller, i: usize, count: usize, seed: u64) -> u64 {
 }
 
 /// The same places in any order.
-fn shuffled(mut places: Vec<usize>, seed: u64) -> Vec<usize> {
+pub fn shuffled(mut places: Vec<usize>, seed: u64) -> Vec<usize> {
     for left in (1..places.len()).rev() {
         places.swap(left, (random(seed, left as u64 + 3) % (left as u64 + 1)) as usize);
     }

@@ -66,7 +66,7 @@ fn moved(q: u64, behind: &Walk, here: &Walk) -> Word {
 }
 
 /// The word of a position, or of the last, sought from where a walk stands.
-fn word_at(from: &Walk, position: u32) -> Word {
+pub fn word_at(from: &Walk, position: u32) -> Word {
     let mut walk = from.clone();
     walk.go_to(position);
     walk.word
@@ -79,7 +79,7 @@ fn sum_of_three(a: &Word, b: &Word, c: &Word) -> Word {
 
 /// Words 22 to 26, not made from a position's word: random bits; one codeword in both chunks, two codewords, the first and the last
 /// codeword, with whole separators of any values; and one codeword in both chunks, damaged within the radius.
-fn made_up(q: u64, here: &Walk, seed: u64) -> Word {
+pub fn made_up(q: u64, here: &Walk, seed: u64) -> Word {
     let code = &here.track.card.code;
     let any = |which| (random(seed, which) % code.codewords() as u64) as usize;
     let of = |a, b| code.word_of_chunks([0, 1, 2].map(|bit| seed >> bit & 1 == 1), [code.codeword(a), code.codeword(b)]);
