@@ -24,8 +24,8 @@
  *   No pointer may be NULL, not even with a count of 0: pass the address of any object then. An array that a call writes
  *   (`values`, `strength`, the word of dunnavish_write_word, the card of dunnavish_make_card) may not overlap another one of the
  *   same call. Pointers to numbers and floats are aligned as uint32_t, int32_t and float are. dunnavish_read_levels is called
- *   under the floating-point settings that a program starts with: sums rounded to the nearest, subnormal numbers kept, no
- *   exception trapped. These are the only things that a call cannot check.
+ *   under the floating-point settings that a program starts with: sums rounded to the nearest, ties to even, subnormal numbers
+ *   kept, no exception trapped. These are the only things that a call cannot check.
  *
  * Who owns what
  *   The caller owns every array, before, during and after the call. The library keeps no pointer, allocates nothing and frees
@@ -164,12 +164,12 @@ uint32_t dunnavish_read_word(const uint8_t *card, size_t card_bytes, const uint8
 
 /*
  * Read a received word whose bits came as levels, exactly d of them. A level below zero is a 1, one above zero a 0, and a zero of
- * either sign a bit that is lost. Every level, whatever its place, is a number of magnitude at most 1,000,000. Answers 0 to 5, 9
- * to 12, 14 to 16, or 100.
+ * either sign a bit that is lost. Any level, whatever its place, that is not a number, infinite or above 1,000,000 in magnitude is
+ * answered DUNNAVISH_LEVEL_LIMITS; 1,000,000 itself is allowed. Answers 0 to 5, 9 to 12, 14 to 16, or 100.
  *
- * A separator reads 1 if its levels, added in order from zero in single precision, each sum rounded to the nearest, sum below
- * zero; so a sum of zero reads 0. A code chunk reads as the codeword for which 2 * wrong + lost is below D (there is at most
- * one): wrong counts the bits that differ from it, lost those that are lost. On 0 the five values are those of
+ * A separator reads 1 if its levels, added in order from zero in single precision, each sum rounded to the nearest, ties to even,
+ * sum below zero; so a sum of zero reads 0. A code chunk reads as the codeword for which 2 * wrong + lost is below D (there is at
+ * most one): wrong counts the bits that differ from it, lost those that are lost. On 0 the five values are those of
  * dunnavish_read_word, at the same indices, with one difference: only bits that are not lost count, in the residual, by which the
  * nearest position is found, and in the bits of the chunks. The two floats are the receiver's strength, at the indices below.
  *

@@ -226,7 +226,7 @@ pub struct Reading {
 /// The receiver's strength in a word that was read from levels.
 #[derive(Clone, Copy, Debug, PartialEq)]
 pub struct Strength {
-    /// The sum of the levels' magnitudes, added in order from zero, each sum rounded to the nearest.
+    /// The sum of the levels' magnitudes, added in order from zero, each sum rounded to the nearest, ties to even.
     pub sum: f32,
     /// The greatest of these magnitudes.
     pub greatest: f32,
@@ -336,10 +336,10 @@ pub fn read_word(card: &[u8], word: &[u8]) -> Result<Reading, Refusal> {
 /// Reads a received word whose bits came as levels, [`CardSummary::word_bits`] of them, and tells the receiver's strength beside
 /// the answer. A level below zero is a 1, one above zero a 0, and a zero of either sign a bit that is lost.
 ///
-/// A separator reads 1 if its levels, added in order from zero in single precision, each sum rounded to the nearest, sum below
-/// zero. A code chunk reads as the codeword for which 2 × wrong + lost is below [`CardSummary::distance`]: wrong counts the bits
-/// that differ from it, lost those that are lost. Only bits that aren't lost count, in the residual, by which the nearest
-/// position is found, and in the bits of the chunks.
+/// A separator reads 1 if its levels, added in order from zero in single precision, each sum rounded to the nearest, ties to even,
+/// sum below zero. A code chunk reads as the codeword for which 2 × wrong + lost is below D, the card's [`CardSummary::distance`]:
+/// wrong counts the bits that differ from it, lost those that are lost. Only bits that aren't lost count, in the residual, by
+/// which the nearest position is found, and in the bits of the chunks.
 ///
 /// If every level is 1 or -1, the reading, or the refusal, is that of [`read_word`] for these bits. If every level is 1, -1 or 0
 /// and, against the word of a position, each of the five chunks has 2 × wrong + lost below D, the answer is a reading, and its

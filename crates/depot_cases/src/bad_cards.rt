@@ -4,7 +4,7 @@ use super::calls;
 use super::cards;
 use super::say;
 
-// All five calls on 512 bytes, as a line of crate::calls.
+// The five calls on 512 bytes, as a line of crate::calls.
 const ALL_CALLS: u64 = 0x4_00_00000200;
 
 // A card a line, in hexadecimal: n, k, rows 0 and 1, and one more byte, its place and its value.

@@ -109,7 +109,7 @@ fn answer(card: &[u8], is: u64, len: usize, value: u32)
     }
 }
 
-// All five calls on one card, whatever it is: position 0, block 0, a lent word of two bytes and a received word of two.
+// The five calls on one card, whatever it is: position 0, block 0, a lent word of two bytes and a received word of two.
 fn all(card: &[u8]) {
     let mut lent = [170u8; 2];
     say::say(b": check");
