@@ -1,9 +1,8 @@
 // The public calls. Each answers every input: a card's bytes may be any list of bytes, levels any list of floats, and a number any number
-// of its type. A call
-// that is given a card checks it itself; one that isn't, as the one that makes a card, checks none. What an answer means is said by
-// the definitions that the contracts name: its status is the refusal's number in documents 01 and 02, or 0 where the call is served;
-// its values are those named, or none where it is refused. The call that makes a card answers the card's bytes instead, 512 zeros
-// where it is refused; and beside the answer to a read of levels stands the strength, two zeros where it is refused.
+// of its type. A call that is given a card checks it itself; one that isn't, as the one that makes a card, checks none. What an answer
+// means is said by the definitions that the contracts name: its status is the refusal's number in documents 01 and 02, or 0 where the
+// call is served; its values are those named, or none where it is refused. The call that makes a card answers the card's bytes instead,
+// 512 zeros where it is refused; and beside the answer to a read of levels stands the strength, two zeros where it is refused.
 ghost use mathlib.Core.Path.{_≡_};
 ghost use mathlib.Core.Bool.{true, false};
 ghost use mathlib.Core.List.{[], _∷_};
@@ -121,9 +120,9 @@ pub fn read_word(card: &[u8], word: &[u8]) -> ReadAnswer
 // the card, 1 to 5 or 14; not exactly d levels, 15; any of them not a number, infinite, or above 1,000,000 in magnitude, 16; and then 9 to
 // 12 as a plain word. The strength of a refused word is two zeros.
 // A code chunk reads as the codeword for which 2 × wrong + lost is below D, one at most (`chunks`, a law of the definition that the other
-// clauses name), and how many bits it needed is the count of its wrong places. Of d levels of 1 and -1 the answer is that of the plain reading of the word of these bits. Of d levels of 1, -1 and 0 that
-// have, against the word of any position on the track, 2 × wrong + lost below D in every chunk, the answer is a position, and it is at most
-// 2 × wrong + lost over the whole word off.
+// clauses name), and how many bits it needed is the count of its wrong places. Of d levels of 1 and -1 the answer is that of the plain
+// reading of the word of these bits. Of d levels of 1, -1 and 0 that have, against the word of any position on the track, 2 × wrong + lost
+// below D in every chunk, the answer is a position, and it is at most 2 × wrong + lost over the whole word off.
 pub fn read_levels(card: &[u8], levels: &[f32]) -> LevelsAnswer
     ensures answer { λ r. ⌜ r ≡ levelsAnswer (now (card .entry)) (now (levels .entry)) ⌝ }
     ensures status { λ r. ⌜ levelsStatus r ≡ levelsRefusal (now (card .entry)) (now (levels .entry)) ⌝ }

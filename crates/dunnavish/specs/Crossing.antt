@@ -1,6 +1,6 @@
 -- How an answer of the library crosses to a caller in C: its status, and its values in numbers that the caller lends, signed ones for a
--- distance, floats for a strength. The status and the values of each answer are those of the model's Statuses.antt; of a made card they are its refusal and
--- its bytes. Assumes nothing.
+-- distance, floats for a strength. The status and the values of each answer are those of the model's Statuses.antt; of a made card they
+-- are its refusal and its bytes. Assumes nothing.
 use Prim.Native.Nat.{ℕ}
 use mathlib.Core.Path.{_≡_}
 use mathlib.Core.Bool.{cond}

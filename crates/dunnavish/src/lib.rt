@@ -1,8 +1,8 @@
 // The library's calls for programs in C, Rust and other languages: numbers and slices alone, no state, no `requires`. Each returns a
 // status, 0 or the refusal's number, and puts the values of its answer into numbers that the caller lends, signed ones for a distance and
-// floats for a strength, or a made card's bytes into lent bytes. Lent numbers that are not exactly as many as the answer has values, or a lent card that has
-// not 512 bytes, are answered 100, before anything else is looked at. Whenever the status is not 0, nothing that was lent has changed.
-// include/dunnavish.h says the same to a programmer in C.
+// floats for a strength, or a made card's bytes into lent bytes. Lent numbers that are not exactly as many as the answer has values, or a
+// lent card that has not 512 bytes, are answered 100, before anything else is looked at. Whenever the status is not 0, nothing that was
+// lent has changed. include/dunnavish.h says the same to a programmer in C.
 ghost use mathlib.Core.Path.{_≡_};
 ghost use lib.ListN.{length};
 ghost use Rattle.model.specs.Answers.{cardAnswer, writeAnswer, lentAfterWrite, readAnswer, startAnswer, millimetresAnswer};

@@ -24,7 +24,8 @@ fn outside_flag(level: f32) -> u32
     if is_outside(level) { 1 } else { 0 }
 }
 
-// Is any of the first `count` levels outside? The flags of all of them are joined and tested once, so that the compiler can test several levels at once.
+// Is any of the first `count` levels outside? The flags of all of them are joined and tested once, so that the compiler can test several
+// levels at once.
 pub fn any_outside(levels: &[f32], count: usize) -> bool
     requires { ⌜ count ≤ length (now levels) ⌝ }
     ensures { λ r. ⌜ r ≡ anyOutside count (now (levels .entry)) ⌝ }

@@ -1,10 +1,10 @@
 -- A number gathered from the places of a byte list: the rest of each byte, from some bit on, is put behind the bits gathered so far.
 -- Assumes nothing.
-use mathlib.Core.Path.{_≡_, sym, ap, _∙_}
+use mathlib.Core.Path.{_≡_, sym, _∙_}
 use mathlib.Core.List.{List}
 use mathlib.Core.Logic.{⊎-elim}
 use Prim.Native.Nat.{ℕ, _+_, _-_, _*_, _/_, _%_, _^_, _≤_, _<_}
-use native.Mathlib.Nat.{le-dest, add-assoc}
+use native.Mathlib.Nat.{le-dest, zero-add}
 use native.Mathlib.Omega.{arith}
 use lib.Bits.{bitAnd, bitXor, and-mask, mask-lt}
 use lib.ListN.{getD}
@@ -24,7 +24,7 @@ rest-of-byte w q k h =
 abbrev pub Gathered : (x : ℕ → ℕ) (p value : ℕ) → Type 0
 Gathered x p value = (k : ℕ) → k < 64 → bit value k ≡ cut p x k
 
-pub none-gathered : (x : ℕ → ℕ) → Gathered x 0 0
+none-gathered : (x : ℕ → ℕ) → Gathered x 0 0
 none-gathered x k h = bit-zero k ∙ sym (cut-above 0 x k (omega arith))
 
 -- the bits of a byte from bit q on are the next of x
@@ -52,13 +52,24 @@ byte-gathered x p value byte q eight narrow so-far next k h =
         rw (cut-above (p + (8 - q)) x (p + s) (omega arith), bit-high byte 8 (q + s) narrow l))
         (lt-or-le (q + s) 8)
 
--- of the places of w from `at` on p are gathered; the rest of the byte that holds the next one is gathered too
-pub places-gathered : (w : List ℕ) (at p value : ℕ) → getD w ((at + p) / 8) 0 < 2 ^ 8 → Gathered (fromPlace at (place w)) p value
-    → Gathered (fromPlace at (place w)) (p + (8 - (at + p) % 8))
-    (bitXor value (getD w ((at + p) / 8) 0 / 2 ^ ((at + p) % 8) * 2 ^ p % 2 ^ 64))
-places-gathered w at p value narrow so-far =
-    byte-gathered (fromPlace at (place w)) p value (getD w ((at + p) / 8) 0) ((at + p) % 8) (omega arith) narrow so-far
-    (λ k h. rw (← (rest-of-byte w (at + p) k h)) (ap (place w) (add-assoc at p k)))
+-- the rest of the byte that holds place `at` of w is the first of the places from there on
+pub first-byte-gathered : (w : List ℕ) (at : ℕ) → getD w (at / 8) 0 < 2 ^ 8
+    → Gathered (fromPlace at (place w)) (8 - at % 8) (getD w (at / 8) 0 / 2 ^ (at % 8) * 2 ^ 0 % 2 ^ 64)
+first-byte-gathered w at narrow =
+    let first =
+    byte-gathered (fromPlace at (place w)) 0 0 (getD w (at / 8) 0) (at % 8) (omega arith) narrow (none-gathered _)
+    (λ k h. rw zero-add (sym (rest-of-byte w at k h))) in
+    rw (zero-add (8 - at % 8)) at first
+
+-- of the places of w from `at` on p are gathered, as far as a byte goes; the next byte is gathered too
+pub next-byte-gathered : (w : List ℕ) (at p j value : ℕ) → at + p ≡ 8 * j → getD w j 0 < 2 ^ 8
+    → Gathered (fromPlace at (place w)) p value
+    → Gathered (fromPlace at (place w)) (p + 8) (bitXor value (getD w j 0 / 2 ^ 0 * 2 ^ p % 2 ^ 64))
+next-byte-gathered w at p j value reached narrow so-far =
+    byte-gathered (fromPlace at (place w)) p value (getD w j 0) 0 (omega arith) narrow so-far
+    (λ k h.
+    let by-byte : at + (p + k) ≡ 8 * j + k = omega (arith, reached) in
+    rw (by-byte, zero-add) (sym (places-of-byte w j k (omega (arith, h)))))
 
 -- cut to n bits, it is the first n bits of x
 pub gathered-cut : (x : ℕ → ℕ) (p value n : ℕ) → n ≤ 64 → n ≤ p → Gathered x p value

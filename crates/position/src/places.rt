@@ -33,18 +33,21 @@ fn moved_to(byte: u8, q: u32, to: u32) -> u64
     ((byte >> q) as u64) << to
 }
 
-// The n bits from place `at` on as a number. Each turn takes the rest of a byte.
+// The n bits from place `at` on as a number: the rest of the byte that has the first of them, and then byte by byte.
 pub fn bits_at(w: [u8; 40], at: u32, n: u32) -> u64
     requires { ⌜ (at + n ≤ 320) × (n ≤ 64) ⌝ }
     ensures { λ r. ⌜ (r < 2 ^ n) × ((p : ℕ) → p < n → bit r p ≡ place w (at + p)) ⌝ }
 {
-    let mut value: u64 = 0;
-    let mut p: u32 = 0;
+    if n == 0 {
+        return 0;
+    }
+    let mut j = (at / 8) as usize;
+    let mut value = moved_to(w[j], at % 8, 0);
+    let mut p = 8 - at % 8;
     while p < n {
-        let q = at + p;
-        let j = (q / 8) as usize;
-        value ^= moved_to(w[j], q % 8, p);
-        p += 8 - q % 8;
+        j += 1;
+        value ^= moved_to(w[j], 0, p);
+        p += 8;
     }
     value & powers::low_bits(n)
 }

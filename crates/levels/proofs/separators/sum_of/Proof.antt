@@ -38,7 +38,8 @@ returns c =
     let first = c .before .before .before in
     let all : loop .q ≡ first .args .distance = omega arith in
     let folded = rw all at (loop .inv .1) in
-    (folded, λ units. folded ∙ sum-exact (fromPlace (first .args .at) (toldAt (first .args .levels .now))) (first .args .distance) (omega (arith, first .pre .1)) (λ q l. unit-told (units q l)))
+    let exact = sum-exact (fromPlace (first .args .at) (toldAt (first .args .levels .now))) (first .args .distance) in
+    (folded, λ units. folded ∙ exact (omega (arith, first .pre .1)) (λ q l. unit-told (units q l)))
 
 pub sum-of-spec : {M : Type 1} → statement M
 sum-of-spec =
