@@ -107,6 +107,14 @@ macro_rules! refusals {
                     Refusal::UnknownStatus(_) | Refusal::UnknownRule(_) | Refusal::OtherChunks(_) => None,
                 }
             }
+
+            /// The refusal with this number, if there is one.
+            pub fn from_number(number: u32) -> Option<Refusal> {
+                match number {
+                    $($number => Some(Refusal::$name),)+
+                    _ => None,
+                }
+            }
         }
 
         impl fmt::Display for Refusal {
@@ -141,13 +149,6 @@ refusals! {
     CardOffset = 14: "the card's offset is outside -20,000 to 20,000 mm",
     LevelCount = 15: "the levels are not exactly as many as the bits of this card's words",
     LevelLimits = 16: "a level is not a number, infinite, or above 1,000,000 in magnitude",
-}
-
-impl Refusal {
-    /// The refusal with this number, if there is one.
-    pub fn from_number(number: u32) -> Option<Refusal> {
-        Refusal::ALL.iter().copied().find(|refusal| refusal.number() == Some(number))
-    }
 }
 
 impl std::error::Error for Refusal {}
