@@ -1,28 +1,15 @@
 //! How many bits each code chunk needed, request P3: cases worked by hand. In words place 0 stands leftmost.
 mod cards;
+mod readings;
 
 use cards::card_of;
-use dunnavish::{check_card, read_word, Reading, Refusal, Rule};
+use dunnavish::{check_card, read_word, Refusal};
+use readings::{rule_1, rule_2, rule_3};
 
 /// Card B: n 3, row 7, so D 3 and t 1. c(0) is 000 and c(1) 111; the word of position m has ones in its first m places, up to
 /// 15. Separators and code chunks take turns, three places each.
 fn card_b() -> Vec<u8> {
     card_of(3, 1, 14, &[7])
-}
-
-/// Rule 1: chunk 1 needed so many bits.
-fn rule_1(position: u32, residual: u32, bits: u32) -> Result<Reading, Refusal> {
-    Ok(Reading { position, residual, rule: Rule::ThirdDiffers, chunk1_bits: Some(bits), chunk2_bits: None })
-}
-
-/// Rule 2: chunk 2 needed so many bits.
-fn rule_2(position: u32, residual: u32, bits: u32) -> Result<Reading, Refusal> {
-    Ok(Reading { position, residual, rule: Rule::FirstDiffers, chunk1_bits: None, chunk2_bits: Some(bits) })
-}
-
-/// Rule 3: each chunk needed so many bits.
-fn rule_3(position: u32, residual: u32, [first, second]: [u32; 2]) -> Result<Reading, Refusal> {
-    Ok(Reading { position, residual, rule: Rule::AllAlike, chunk1_bits: Some(first), chunk2_bits: Some(second) })
 }
 
 #[test]

@@ -1,8 +1,10 @@
 //! Words whose bits came as levels, request P5: cases worked by hand. In words place 0 stands leftmost.
 mod cards;
+mod readings;
 
 use cards::{card_of, offset_card};
-use dunnavish::{read_levels, read_word, Reading, Refusal, Rule, Strength};
+use dunnavish::{read_levels, read_word, Reading, Refusal, Strength};
+use readings::{rule_1, rule_2, rule_3};
 
 /// Card A: n 3, rows 3 and 6, so D 2, t 0 and d 12. c(0) to c(3) are 000, 110, 101 and 011; w(0) is all zeros and w(1) is
 /// 11 110 11 110 11, of whose ones the word of position m, up to 10, has the first m.
@@ -44,21 +46,6 @@ fn reading(card: &[u8], levels: &[f32]) -> Result<Reading, Refusal> {
 /// The reading of a word of levels 1, -1 and 0.
 fn read(card: &[u8], word: &str) -> Result<Reading, Refusal> {
     reading(card, &levels(word))
-}
-
-/// Rule 1: chunk 1 has so many bits wrong.
-fn rule_1(position: u32, residual: u32, bits: u32) -> Result<Reading, Refusal> {
-    Ok(Reading { position, residual, rule: Rule::ThirdDiffers, chunk1_bits: Some(bits), chunk2_bits: None })
-}
-
-/// Rule 2: chunk 2 has so many bits wrong.
-fn rule_2(position: u32, residual: u32, bits: u32) -> Result<Reading, Refusal> {
-    Ok(Reading { position, residual, rule: Rule::FirstDiffers, chunk1_bits: None, chunk2_bits: Some(bits) })
-}
-
-/// Rule 3: each chunk has so many bits wrong.
-fn rule_3(position: u32, residual: u32, [first, second]: [u32; 2]) -> Result<Reading, Refusal> {
-    Ok(Reading { position, residual, rule: Rule::AllAlike, chunk1_bits: Some(first), chunk2_bits: Some(second) })
 }
 
 #[test]
