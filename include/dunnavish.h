@@ -173,9 +173,10 @@ uint32_t dunnavish_read_word(const uint8_t *card, size_t card_bytes, const uint8
  * dunnavish_read_word, at the same indices, with one difference: only bits that are not lost count, in the residual, by which the
  * nearest position is found, and in the bits of the chunks. The two floats are the receiver's strength, at the indices below.
  *
- * If five values and two floats are lent and every level is 1 or -1, status and values are those that dunnavish_read_word answers
- * for these bits. If every level is 1, -1 or 0 and, against the word of a position, each of the five chunks has 2 * wrong + lost
- * below D, the answer is 0, and the position answered is off by at most 2 * wrong + lost, counted over the whole word.
+ * Where five values and two floats are lent: if there are d levels, each 1 or -1, status and values are those that
+ * dunnavish_read_word answers for these bits. If there are d levels, each 1, -1 or 0, and, against the word of a position, each of
+ * the five chunks has 2 * wrong + lost below D, the answer is 0, and the position answered is off by at most 2 * wrong + lost,
+ * counted over the whole word.
  */
 enum dunnavish_strength_value {
     DUNNAVISH_STRENGTH_SUM = 0,      /* the magnitudes of the d levels, added in order as a separator's levels are */

@@ -272,8 +272,8 @@ mod exported {
     }
 }
 
-/// The status of a call as a result. A status without a name here (100 says that too few or too many numbers were lent, or bytes
-/// for a card, and the calls below lend exactly enough) is an error too.
+/// The status of a call as a result. A status without a name here (100 says that too few or too many numbers or floats were lent, or
+/// bytes for a card, and the calls below lend exactly enough) is an error too.
 fn served(status: u32) -> Result<(), Refusal> {
     match status {
         0 => Ok(()),
@@ -342,9 +342,9 @@ pub fn read_word(card: &[u8], word: &[u8]) -> Result<Reading, Refusal> {
 /// wrong counts the bits that differ from it, lost those that are lost. Only bits that aren't lost count, in the residual, by
 /// which the nearest position is found, and in the bits of the chunks.
 ///
-/// If every level is 1 or -1, the reading, or the refusal, is that of [`read_word`] for these bits. If every level is 1, -1 or 0
-/// and, against the word of a position, each of the five chunks has 2 × wrong + lost below D, the answer is a reading, and its
-/// position is off by at most 2 × wrong + lost, counted over the whole word.
+/// If there are as many levels as a word has bits, each 1 or -1, the reading, or the refusal, is that of [`read_word`] for these
+/// bits. If there are as many, each 1, -1 or 0, and, against the word of a position, each of the five chunks has 2 × wrong + lost
+/// below D, the answer is a reading, and its position is off by at most 2 × wrong + lost, counted over the whole word.
 ///
 /// Refused, in this order: the card; [`Refusal::LevelCount`]; [`Refusal::LevelLimits`], for any of the levels (1,000,000 itself
 /// is allowed); and [`Refusal::Separators`] to [`Refusal::NoBlock`].

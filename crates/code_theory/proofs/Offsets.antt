@@ -19,7 +19,7 @@ use Rattle.model.specs.Card.{byte, highFirst, lengthOf, rowCountOf, trackOf, ro
 use Rattle.model.specs.Card.{misplaced, offsetOutside, cardRefusal, codeOf}
 use Rattle.model.specs.Words.{millimetresOf}
 use Rattle.model.specs.Answers.{summaryOf, cardAnswer, writeRefusal, writeAnswer, lentAfterWrite, readRefusal, readAnswer}
-use Rattle.model.specs.Answers.{startRefusal, startAnswer, millimetresRefusal, millimetresAnswer}
+use Rattle.model.specs.Answers.{levelsRefusal, levelsAnswer, startRefusal, startAnswer, millimetresRefusal, millimetresAnswer}
 use Rattle.model.specs.declared.NumberAnswer.the-variants.{Number, Refused as NumberRefused}
 use Rattle.model.specs.declared.MillimetresAnswer.the-variants.{Millimetres, Refused as MillimetresRefused}
 use Rattle.code_theory.specs.Offsets.{OldCard, oldMisplaced, oldCardRefusal, oldCardAnswer, oldMillimetresAnswer, asSigned}
@@ -106,7 +106,7 @@ module _ (b b′ : List ℕ) (same : SameButOffset b b′) where
       )
 
   pub alike-but-distances : AnsweredAlike b b′
-  unfolding cardAnswer summaryOf trackOf writeRefusal writeAnswer lentAfterWrite readRefusal readAnswer startRefusal startAnswer
+  unfolding cardAnswer summaryOf trackOf writeRefusal writeAnswer lentAfterWrite readRefusal readAnswer levelsRefusal levelsAnswer startRefusal startAnswer
   alike-but-distances =
       record {
         refused = same-refusal;
@@ -115,5 +115,6 @@ module _ (b b′ : List ℕ) (same : SameButOffset b b′) where
         written = λ position lent. rw (same-refusal, same-code);
         left = λ position lent. rw (same-refusal, same-code);
         read = λ received. rw (same-refusal, same-code);
+        read-levels = λ levels. rw (same-refusal, same-code);
         started = λ block. rw (same-refusal, same-code);
       }

@@ -6,6 +6,7 @@ use mathlib.Core.Bool.{Bool, false, not, _||_}
 use mathlib.Core.List.{List, [], _∷_}
 use Prim.Native.Nat.{ℕ, _+_, _*_, _<_}
 use lib.Dec.{ltb, eqb}
+use lib.Ieee.{Float}
 use lib.IntN.{pos}
 use lib.ListN.{length}
 use Rattle.bits.specs.Searches.{anyBelow}
@@ -13,7 +14,7 @@ use Rattle.model.specs.Refusals.{refuses, refusedAs, firstRefusal, unlessRefuse
 use Rattle.model.specs.Card.{byte, lengthOf, rowCountOf, rowOf, offsetOf, storedCheck, computedCheck, codeOf}
 use Rattle.model.specs.Card.{withinLimits, rowTooWide, unusedRowSet, offsetOutside, dependent, cardRefusal}
 use Rattle.model.specs.Order.{lastPosition}
-use Rattle.model.specs.Answers.{summaryOf, cardAnswer, writeAnswer, lentAfterWrite, readAnswer, startAnswer}
+use Rattle.model.specs.Answers.{summaryOf, cardAnswer, writeAnswer, lentAfterWrite, readAnswer, levelsAnswer, startAnswer}
 use Rattle.model.specs.declared.CardAnswer.{CardAnswer}
 use Rattle.model.specs.declared.CardAnswer.the-variants.{Sound, Refused as CardRefused}
 use Rattle.model.specs.declared.NumberAnswer.{NumberAnswer}
@@ -87,9 +88,10 @@ pub record AnsweredAlike (b b′ : List ℕ) : Type 0 where
   pub refused : cardRefusal b ≡ cardRefusal b′
   -- the code: its least distance, the word of each position, the start of each block and what each word reads as go by it
   pub code : codeOf b ≡ codeOf b′
-  -- and each call's answer, for every position, lent word, received word and block
+  -- and each call's answer, for every position, lent word, received word, list of levels and block
   pub checked : cardAnswer b ≡ cardAnswer b′
   pub written : (position : ℕ) (lent : List ℕ) → writeAnswer b position lent ≡ writeAnswer b′ position lent
   pub left : (position : ℕ) (lent : List ℕ) → lentAfterWrite b position lent ≡ lentAfterWrite b′ position lent
   pub read : (received : List ℕ) → readAnswer b received ≡ readAnswer b′ received
+  pub read-levels : (levels : List Float) → levelsAnswer b levels ≡ levelsAnswer b′ levels
   pub started : (block : ℕ) → startAnswer b block ≡ startAnswer b′ block

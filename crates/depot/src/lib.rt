@@ -122,7 +122,7 @@ pub fn read_word(card: &[u8], word: &[u8]) -> ReadAnswer
 // A code chunk reads as the codeword for which 2 × wrong + lost is below D, one at most (`chunks`, a law of the definition that the other
 // clauses name), and how many bits it needed is the count of its wrong places. Of d levels of 1 and -1 the answer is that of the plain
 // reading of the word of these bits. Of d levels of 1, -1 and 0 that have, against the word of any position on the track, 2 × wrong + lost
-// below D in every chunk, the answer is a position, and it is at most 2 × wrong + lost over the whole word off.
+// below D in every chunk, the answer is a position, and it is off by at most 2 × wrong + lost, counted over the whole word.
 pub fn read_levels(card: &[u8], levels: &[f32]) -> LevelsAnswer
     ensures answer { λ r. ⌜ r ≡ levelsAnswer (now (card .entry)) (now (levels .entry)) ⌝ }
     ensures status { λ r. ⌜ levelsStatus r ≡ levelsRefusal (now (card .entry)) (now (levels .entry)) ⌝ }
@@ -205,7 +205,7 @@ pub fn make_card(track: u16, r: u32, m: u32) -> MadeCard
 
 // Reads a chunk of the Reed-Muller code of order r in m variables by voting: the codeword's number, and in how many bits the two
 // differ. It takes no card, and checks none. Refused: m, r or k outside the limits, 13; a bit at n or above, 8; no codeword within
-// the radius, 10. It keeps the chunk promise, and on every chunk of n bits it answers as the search does on the card that
+// the radius, 10. It keeps the chunk promise of plain chunks, and on every chunk of n bits it answers as the search does on the card that
 // `make_card` makes.
 pub fn vote_chunk(r: u32, m: u32, chunk: u64) -> VoteAnswer
     ensures answer { λ a. ⌜ a ≡ voteAnswer r m chunk ⌝ }

@@ -103,7 +103,7 @@ pub record LeftAsPromised (r m chunk status : ℕ) (left : List ℕ) : Type 0 wh
       → (p : ℕ) × (p ≤ lastCodeword (reedMuller r m)) × (withinRadius (reedMuller r m) (bit chunk) p ≡ true)
       × (left ≡ p ∷ chunkDistance (reedMuller r m) (bit chunk) p ∷ [])
 
--- Document 02, P1, where two numbers are lent: a vote keeps the chunk promise on every chunk of n bits
+-- Document 02, P1, where two numbers are lent: a vote keeps the chunk promise of plain chunks on every chunk of n bits
 unfoldable pub VotedAsPromised : (r m chunk : ℕ) (lent : List ℕ) (status : ℕ) (left : List ℕ) → Type 0
 VotedAsPromised r m chunk lent status left =
     length lent ≡ voteCount → orderWithinLimits r m ≡ true → chunk < 2 ^ 2 ^ m → LeftAsPromised r m chunk status left

@@ -131,10 +131,10 @@ pub extern "C" fn dunnavish_read_word(card: &[u8], word: &[u8], values: &mut [u3
 }
 
 // Reads a word of levels: the numbers of a plain read, over the bits that aren't lost, into five numbers, and the receiver's strength, the
-// sum of the magnitudes and the greatest, into two floats. Of d levels of 1 and -1 the status and the five numbers are those of the plain
-// read of the word of these bits. Of d levels of 1, -1 and 0 that have, against the word of any position on the track, 2 × wrong + lost
-// below D in every chunk, the status is 0 where five numbers and two floats are lent, and the position put into the first number is at most
-// 2 × wrong + lost over the whole word off.
+// sum of the magnitudes and the greatest, into two floats. Where five numbers and two floats are lent: of d levels of 1 and -1 the status
+// and the five numbers are those of the plain read of the word of these bits; and of d levels of 1, -1 and 0 that have, against the word of
+// any position on the track, 2 × wrong + lost below D in every chunk, the status is 0, and the position put into the first number is off
+// by at most 2 × wrong + lost, counted over the whole word.
 #[no_mangle]
 pub extern "C" fn dunnavish_read_levels(
     card: &[u8],
@@ -246,7 +246,7 @@ pub extern "C" fn dunnavish_make_card(track: u16, r: u32, m: u32, card: &mut [u8
 }
 
 // Votes on a chunk of the Reed-Muller code of order r in m variables: the codeword's number, and in how many bits the two differ, into
-// two numbers. Where two are lent, on every chunk of n bits, it keeps the chunk promise, and the status and the numbers are those of
+// two numbers. Where two are lent, on every chunk of n bits, it keeps the chunk promise of plain chunks, and the status and the numbers are those of
 // the search on the made card.
 #[no_mangle]
 pub extern "C" fn dunnavish_vote_chunk(r: u32, m: u32, chunk: u64, values: &mut [u32]) -> u32

@@ -53,7 +53,8 @@ fn by_rule(code: DecodedCode, levels: &[f32], rule: u32) -> ReadAnswer
     reading::by_rule(code, bits, heard, rule)
 }
 
-// The reading of a list of levels, of any length, with the strength of a word that is read.
+// The reading of a list of levels, of any length, with the strength of a word that is read. What 16 and 9 test is computed first, so that a
+// wrong order of the two is the same code with the tests exchanged.
 pub fn read(code: DecodedCode, levels: &[f32]) -> LevelsAnswer
     requires { ⌜ Sound (meaning code) ⌝ }
     ensures { λ r. ⌜ r ≡ readLevels (meaning code) (now (levels .entry)) ⌝ }
@@ -62,10 +63,11 @@ pub fn read(code: DecodedCode, levels: &[f32]) -> LevelsAnswer
     if levels.len() != at.bits as usize {
         return refused(15);
     }
-    if limits::any_outside(levels, at.bits as usize) {
+    let outside = limits::any_outside(levels, at.bits as usize);
+    let rule = named_rule(code, levels);
+    if outside {
         return refused(16);
     }
-    let rule = named_rule(code, levels);
     if rule == 0 {
         return refused(9);
     }

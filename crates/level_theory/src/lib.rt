@@ -1,1 +1,1 @@
-// No code: the laws of levels (proofs/), and the words of their premises (specs/).
+// No code: the laws of levels (proofs/), and their premises and what a read of levels promises (specs/).

@@ -1,5 +1,5 @@
--- Documents 01, "Where a call can be turned down", and 02: what each public call answers, for every list of bytes and every
--- number. The refusals stand in the documents' order, as far as the call has the thing, and the first that holds is the
+-- Documents 01, "Where a call can be turned down", and 02: what each public call answers, for every list of bytes, every list of levels
+-- and every number. The refusals stand in the documents' order, as far as the call has the thing, and the first that holds is the
 -- answer. Beside each answer stand the number of its refusal, 0 where the call is served, and its values where it is; that the
 -- answer's status and values, by Statuses.antt, are these is part of the calls' contracts. Assumes nothing.
 use mathlib.Core.Bool.{Bool, not}

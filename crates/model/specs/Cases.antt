@@ -301,10 +301,12 @@ starredCases =
     (0 ∷ 5 ∷ 1 ∷ 2 ∷ 4294967295 ∷ 0 ∷ 0x41700000 ∷ 0x3f800000 ∷ [])
     ∷ case (levels cardB (zeroBits 12 ++ oneBits 3)) (12 ∷ [])
     ∷ case (levels cardB (zeroBits 9 ++ oneBits 3 ++ zeroBits 3)) (11 ∷ [])
-    -- lost bits, of either sign: 7 with one lost in chunk 1 and one in chunk 2; with place 6 lost, 6 and 7 are as near, and it is 6
+    -- lost bits, of either sign: 7 with one lost in chunk 1 and one in chunk 2; with place 6 lost, 6 and 7 are as near, and it is 6; with
+    -- place 9 lost, 9 and 10 are, and it is 9, by rule 1
     ∷ case (levels cardB (oneBits 5 ++ lostBits 1 ++ oneBits 1 ++ zeroBits 2 ++ (minusZero ∷ []) ++ zeroBits 5))
     (0 ∷ 7 ∷ 0 ∷ 2 ∷ 4294967295 ∷ 0 ∷ 0x41500000 ∷ 0x3f800000 ∷ [])
     ∷ case (levels cardB (oneBits 6 ++ lostBits 1 ++ zeroBits 8)) (0 ∷ 6 ∷ 0 ∷ 2 ∷ 4294967295 ∷ 0 ∷ 0x41600000 ∷ 0x3f800000 ∷ [])
+    ∷ case (levels cardB (oneBits 9 ++ lostBits 1 ++ zeroBits 5)) (0 ∷ 9 ∷ 0 ∷ 1 ∷ 0 ∷ 4294967295 ∷ 0x41600000 ∷ 0x3f800000 ∷ [])
     -- D 3: two lost in chunk 1 and one wrong in chunk 2 are read; one wrong and one lost in chunk 1, or three lost, are refusal 10
     ∷ case (levels cardB (zeroBits 3 ++ lostBits 2 ++ zeroBits 4 ++ oneBits 1 ++ zeroBits 5))
     (0 ∷ 0 ∷ 1 ∷ 3 ∷ 0 ∷ 1 ∷ 0x41500000 ∷ 0x3f800000 ∷ [])
@@ -323,7 +325,8 @@ starredCases =
     ∷ case (levels cardB (notANumber ∷ zeroBits 13)) (15 ∷ [])
     ∷ case (levels cardB (notANumber ∷ zeroBits 15)) (15 ∷ [])
     ∷ case (levels (replicate 511 0) (notANumber ∷ [])) (1 ∷ [])
-    -- 16: not a number, infinite, and above 1,000,000, in the last place, in a chunk that is not read, and ahead of 9, which it is else
+    -- 16: not a number, infinite, and above 1,000,000, in the last place, in a chunk that is not read, and ahead of 9, by which the same
+    -- word is refused with 1 in that place
     ∷ case (levels cardB (zeroBits 14 ++ (notANumber ∷ []))) (16 ∷ [])
     ∷ case (levels cardB (zeroBits 14 ++ (infinity ∷ []))) (16 ∷ [])
     ∷ case (levels cardB (zeroBits 14 ++ (minusInfinity ∷ []))) (16 ∷ [])

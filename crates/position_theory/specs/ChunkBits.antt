@@ -1,5 +1,5 @@
--- Document 02, P3: how many bits a chunk needed, as the contracts of the reading calls state it of the received word and the codeword, and
--- of the bits that were turned. Assumes nothing.
+-- Document 02, P3 and P5: how many bits a chunk needed, as the contracts of the reading calls state it of the received word and the
+-- codeword, over the places that are heard, and of the bits that were turned. Assumes nothing.
 use mathlib.Core.Path.{_≡_}
 use mathlib.Core.Bool.{Bool, true, false}
 use mathlib.Core.List.{List}
@@ -60,7 +60,7 @@ WrongOfChunks C heard x s =
     (λ named. TellsWrong C named (chunk₁ C heard) (chunk₁ C x))
     (λ named. TellsWrong C named (chunk₂ C heard) (chunk₂ C x))
 
--- of every word that is read, on every card
+-- of every plain word that is read, on every card
 unfoldable pub TellsBitsOfChunks : (card received : List ℕ) → ReadAnswer → Type 0
 TellsBitsOfChunks card received answer =
     (r : Reading) → answer ≡ At r

@@ -46,24 +46,24 @@ module _ (c : tie.After-any-outside) where
 any-outside-requires : tie.Need-any-outside-requires
 any-outside-requires c κs = omega (arith, c .before .if1 .left)
 
+named-rule-requires : tie.Need-named-rule-requires
+named-rule-requires c κs = (first c .pre, whole c)
+
+returns-2 : tie.Need-returns-2
+returns-2 c =
+    let test = c .before .before .before in
+    c .refused2 .ensures ∙ refused-16 _ _ (whole test) (sym (tested test) ∙ c .before .if2 .taken)
+
 -- none is outside, and the rule is that of the levels
-module _ (c : tie.After-named-rule) where
+module _ (c : tie.Else2) where
   abbrev test : tie.After-any-outside
   test = c .before .before
 
   inside : anyOutside (wordBits (C test)) (levels test) ≡ false
-  inside = sym (tested test) ∙ c .before .if2 .left
+  inside = sym (tested test) ∙ c .if2 .left
 
-  rule : c .named-rule .result ≡ ruleSeen (seenTold (C test) (toldAt (levels test)))
-  rule = c .named-rule .ensures .0
-
-returns-2 : tie.Need-returns-2
-returns-2 c =
-    let test = c .before .before in
-    c .refused2 .ensures ∙ refused-16 _ _ (whole test) (sym (tested test) ∙ c .before .if2 .taken)
-
-named-rule-requires : tie.Need-named-rule-requires
-named-rule-requires c κs = (first (c .before) .pre, whole (c .before))
+  rule : c .before .named-rule .result ≡ ruleSeen (seenTold (C test) (toldAt (levels test)))
+  rule = c .before .named-rule .ensures .0
 
 returns-3 : tie.Need-returns-3
 returns-3 c =
@@ -73,7 +73,7 @@ returns-3 c =
 by-rule-requires : tie.Need-by-rule-requires
 by-rule-requires c κs =
     let named = c .before in
-    (first (test named) .pre, whole (test named), omega (arith, c .if3 .left), named .named-rule .ensures .1)
+    (first (test named) .pre, whole (test named), omega (arith, c .if3 .left), named .before .named-rule .ensures .1)
 
 -- what the rule answers
 answered : (c : tie.After-by-rule)
@@ -109,9 +109,9 @@ read-spec =
     returns
     (λ c. search needs)
     any-outside-requires
+    named-rule-requires
     (λ c κs. search needs)
     returns-2
-    named-rule-requires
     (λ c κs. search needs)
     returns-3
     by-rule-requires
