@@ -1,7 +1,7 @@
 // Tries five public calls that take a card, all but that for levels (rust/tests/levels.rs), on the cases of document 01, on bad input of
 // every kind, each refusal from 1 to 12 and 14 and two faults at once for their order, and on the ends of every range, document 02's
-// offsets and bits of chunks among them. The file
-// stdout is written by hand, a line a case, from the documents' cards, tables and rules; it is never taken from what the program writes.
+// offsets and bits of chunks among them. The file stdout is written by hand, a line a case, from the documents' cards, tables and rules;
+// it is never taken from what the program writes.
 mod bad_cards;
 mod calls;
 mod cards;
