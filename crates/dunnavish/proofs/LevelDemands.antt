@@ -1,5 +1,6 @@
--- What P5 promises of the library's read of levels holds of the status and the numbers that the call for C leaves: an answer crosses as that of
--- a plain read does, and its strength beside it. Where the count of the lent numbers or floats is wrong, nothing is claimed. Assumes nothing.
+-- What P5 promises of the library's read of levels holds of the status and the numbers that the call for C leaves: an answer crosses as
+-- that of a plain read does, and its strength beside it. Where the count of the lent numbers or floats is wrong, nothing is claimed.
+-- Assumes nothing.
 use mathlib.Core.Path.{_≡_, refl, _∙_}
 use mathlib.Core.List.{List}
 use Prim.Native.Nat.{ℕ}

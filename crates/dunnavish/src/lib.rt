@@ -246,8 +246,8 @@ pub extern "C" fn dunnavish_make_card(track: u16, r: u32, m: u32, card: &mut [u8
 }
 
 // Votes on a chunk of the Reed-Muller code of order r in m variables: the codeword's number, and in how many bits the two differ, into
-// two numbers. Where two are lent, on every chunk of n bits, it keeps the chunk promise of plain chunks, and the status and the numbers are those of
-// the search on the made card.
+// two numbers. Where two are lent, on every chunk of n bits, it keeps the chunk promise of plain chunks, and the status and the numbers
+// are those of the search on the made card.
 #[no_mangle]
 pub extern "C" fn dunnavish_vote_chunk(r: u32, m: u32, chunk: u64, values: &mut [u32]) -> u32
     ensures status { λ a. ⌜ a ≡ statusFor voteCount (now (values .entry)) (voteStatus (voteAnswer r m chunk)) ⌝ }

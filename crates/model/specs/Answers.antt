@@ -112,10 +112,11 @@ readAnswer card received = unlessRefused (readRefusal card received) ReadRefused
 
 -- the values of a word that is read: the nearest allowed position, its residual, the rule that the separators name, and the bits that
 -- chunks 1 and 2 needed
+abbrev pub figuresOf : Reading → List ℕ
+figuresOf r = r .position ∷ r .residual ∷ r .rule ∷ bitsValue (r .chunk1) ∷ bitsValue (r .chunk2) ∷ []
+
 unfoldable pub readFigures : (card received : List ℕ) → List ℕ
-readFigures card received =
-    let r : Reading = readingOf (codeOf card) received in
-    r .position ∷ r .residual ∷ r .rule ∷ bitsValue (r .chunk1) ∷ bitsValue (r .chunk2) ∷ []
+readFigures card received = figuresOf (readingOf (codeOf card) received)
 
 -- read levels: the rows of what is seen of a word of told bits, and the position nearest to it over bits that aren't lost
 abbrev pub rowsTold : Code → (word : ℕ → Told) → List Row
@@ -155,9 +156,7 @@ levelsAnswer card levels = levelsAnswered (codeOf card) levels (levelsRefusal ca
 
 -- the values of a word of levels that is read, as those of a plain word; and beside them the strength's two floats
 unfoldable pub levelsFigures : (card : List ℕ) (levels : List Float) → List ℕ
-levelsFigures card levels =
-    let r : Reading = readingTold (codeOf card) (toldAt levels) in
-    r .position ∷ r .residual ∷ r .rule ∷ bitsValue (r .chunk1) ∷ bitsValue (r .chunk2) ∷ []
+levelsFigures card levels = figuresOf (readingTold (codeOf card) (toldAt levels))
 
 unfoldable pub strengthFigures : (card : List ℕ) (levels : List Float) → List Float
 strengthFigures card levels =

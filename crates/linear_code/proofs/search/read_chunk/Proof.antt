@@ -1,7 +1,6 @@
 -- `read_chunk` meets its contract: what is not heard is lost, so where D places or more are lost nothing is read, and otherwise the search
 -- over the places heard within its limit reads the chunk. Assumes nothing.
 use mathlib.Core.Path.{_∙_}
-use Prim.Native.Nat.{_-_}
 use native.Mathlib.Omega.{arith}
 use borrow.Author.Needs.{needs}
 use Rattle.model.specs.Decoded.{meaning}
