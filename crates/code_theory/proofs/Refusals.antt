@@ -49,6 +49,23 @@ none-holds (r ∷ rows) all none =
     let (here, below) = not-this (r .holds) (r .number) (firstRefusal rows) ne none in
     (here, none-holds rows rest below)
 
+-- rows that come after others, each of which has a number of the table, are looked at where none of those holds
+pub rows-after : (rows more : List Row) → numbered rows ≡ true
+    → firstRefusal (rows ++ more) ≡ cond (eqb (firstRefusal rows) 0) (firstRefusal more) (firstRefusal rows)
+unfolding numbered firstRefusal
+rows-after [] more all = refl
+rows-after (r ∷ rows) more all =
+    let (ne, rest) = number-first (r .number) (numbered rows) all in
+    here (r .holds) (ne-eqb (r .number) 0 ne) (rows-after rows more rest)
+  where
+    -- this row holds, or those below it decide
+    here : (holds : Bool) → eqb (r .number) 0 ≡ false
+        → firstRefusal (rows ++ more) ≡ cond (eqb (firstRefusal rows) 0) (firstRefusal more) (firstRefusal rows)
+        → cond holds (r .number) (firstRefusal (rows ++ more))
+        ≡ cond (eqb (cond holds (r .number) (firstRefusal rows)) 0) (firstRefusal more) (cond holds (r .number) (firstRefusal rows))
+    here true numbered-here below = rw numbered-here
+    here false numbered-here below = below
+
 pub served-if-none : {A : Type 0} (refusal : ℕ) (refused : ℕ → A) (served : A) → refusal ≡ 0
     → unlessRefused refusal refused served ≡ served
 unfolding unlessRefused

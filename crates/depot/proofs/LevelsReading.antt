@@ -1,5 +1,5 @@
 -- What a read of levels answers, one law for each way out of the code; the status, the values and the strength are those of the answer that
--- the definition gives, and the theorems of P5 hold of it. Assumes nothing.
+-- the definition gives, and the theorems of P5 and P6 hold of it. Assumes nothing.
 use mathlib.Core.Path.{_≡_, refl, sym, _∙_}
 use mathlib.Core.List.{List}
 use Prim.Native.Nat.{ℕ}
@@ -15,6 +15,9 @@ use Rattle.code_theory.proofs.Refusals.{refused-by-card}
 use Rattle.level_theory.specs.LevelPromises.{ChunksReadBelowD, NearestOverHeard, TellsWrongOfChunks, AsPlainReading, OffByAtMostTwiceWrongAndLost}
 use Rattle.level_theory.proofs.LevelPromises.{chunks-read-below-D, levels-sound, nearest-over-heard, tells-wrong-of-chunks}
 use Rattle.level_theory.proofs.LevelPromises.{as-plain-reading, off-by-at-most-twice-wrong-and-lost}
+use Rattle.level_theory.specs.LevelContradictions.{LevelsReadOnlyIfParityAgrees, PastedLevelsNeverRead, LevelsAsBeforeUnlessContradicted}
+use Rattle.level_theory.proofs.LevelContradictions.{levels-read-only-if-parity-agrees, pasted-levels-never-read}
+use Rattle.level_theory.proofs.LevelContradictions.{levels-as-before-unless-contradicted}
 use Rattle.linear_code.specs.DecodedFrom.{DecodedFrom}
 use Rattle.level_reader.specs.Answered.{levelsRefused}
 use Rattle.depot.proofs.Statuses.{levels-told, strength-told}
@@ -30,33 +33,24 @@ module _ (card : List ℕ) (levels : List Float) where
       × (ChunksReadBelowD card
       × (NearestOverHeard card levels (r .answer)
       × (TellsWrongOfChunks card levels (r .answer)
-      × (AsPlainReading card levels (r .answer) × OffByAtMostTwiceWrongAndLost card levels (r .answer))))))))
+      × (AsPlainReading card levels (r .answer)
+      × (OffByAtMostTwiceWrongAndLost card levels (r .answer)
+      × (LevelsReadOnlyIfParityAgrees card levels (r .answer)
+      × (PastedLevelsNeverRead card levels (r .answer) × LevelsAsBeforeUnlessContradicted card levels (r .answer)))))))))))
 
   levels-meet : (r : LevelsAnswer) → r ≡ levelsAnswer card levels → LevelsMeet r
   levels-meet r e =
       let (status, values) = levels-told card levels in
-      (rw e (
-        refl,
-        (
-          status,
-          (
-            values,
-            (
-              strength-told card levels,
-              (
-                chunks-read-below-D card,
-                (
-                  nearest-over-heard card levels,
-                  (
-                    tells-wrong-of-chunks card levels,
-                    (as-plain-reading card levels, off-by-at-most-twice-wrong-and-lost card levels),
-                  ),
-                ),
-              ),
-            ),
-          ),
-        ),
-      ))
+      let strength = strength-told card levels in
+      let chunks = chunks-read-below-D card in
+      let nearest = nearest-over-heard card levels in
+      let bits = tells-wrong-of-chunks card levels in
+      let plain = as-plain-reading card levels in
+      let bounded = off-by-at-most-twice-wrong-and-lost card levels in
+      let agrees = levels-read-only-if-parity-agrees card levels in
+      let pasted = pasted-levels-never-read card levels in
+      let before = levels-as-before-unless-contradicted card levels in
+      rw e (refl, (status, (values, (strength, (chunks, (nearest, (bits, (plain, (bounded, (agrees, (pasted, before)))))))))))
 
   module _ (decoded : Decoded) (from : DecodedFrom card decoded) where
     pub levels-card-refused : (decoded .refusal ≡ 0 → ⊥) → (r : LevelsAnswer) → r ≡ levelsRefused (decoded .refusal) → LevelsMeet r

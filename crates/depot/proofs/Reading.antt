@@ -1,5 +1,5 @@
 -- What a read answers, one law for each way out of the code; the status and the values are those of the answer that the
--- definition gives, and the theorems of demands 2 and 3 and of P3 hold of it. Assumes nothing.
+-- definition gives, and the theorems of demands 2 and 3, of P3 and of P6 hold of it. Assumes nothing.
 use mathlib.Core.Path.{_≡_, refl, sym, _∙_}
 use mathlib.Core.List.{List}
 use Prim.Native.Nat.{ℕ}
@@ -14,6 +14,8 @@ use Rattle.position_theory.specs.Demands.{NearestOfAllowed, OffByAtMostTwiceTur
 use Rattle.position_theory.proofs.Demands.{read-sound, nearest-of-allowed, off-by-at-most-twice-turned, off-by-at-most-turned-and-residual}
 use Rattle.position_theory.specs.ChunkBits.{TellsBitsOfChunks, NeededAsTurned}
 use Rattle.position_theory.proofs.ChunkBits.{tells-bits-of-chunks, needed-as-turned}
+use Rattle.position_theory.specs.Contradictions.{ReadOnlyIfParityAgrees, PastedNeverRead, AsBeforeUnlessContradicted}
+use Rattle.position_theory.proofs.Contradictions.{read-only-if-parity-agrees, pasted-never-read, as-before-unless-contradicted}
 use Rattle.linear_code.specs.DecodedFrom.{DecodedFrom}
 use Rattle.depot.proofs.Statuses.{read-told}
 
@@ -26,27 +28,24 @@ module _ (card received : List ℕ) where
       × ((readValues answer ≡ ifServed (readStatus answer) (readFigures card received))
       × (OffByAtMostTwiceTurned card received answer
       × (OffByAtMostTurnedAndResidual card received answer
-      × (NearestOfAllowed card received answer × (TellsBitsOfChunks card received answer × NeededAsTurned card received answer))))))
+      × (NearestOfAllowed card received answer
+      × (TellsBitsOfChunks card received answer
+      × (NeededAsTurned card received answer
+      × (ReadOnlyIfParityAgrees card received answer
+      × (PastedNeverRead card received answer × AsBeforeUnlessContradicted card received answer)))))))))
 
   read-meets : (answer : ReadAnswer) → answer ≡ readAnswer card received → ReadMeets answer
   read-meets answer e =
       let (status, values) = read-told card received in
-      (rw e (
-        refl,
-        (
-          status,
-          (
-            values,
-            (
-              off-by-at-most-twice-turned card received,
-              (
-                off-by-at-most-turned-and-residual card received,
-                (nearest-of-allowed card received, (tells-bits-of-chunks card received, needed-as-turned card received)),
-              ),
-            ),
-          ),
-        ),
-      ))
+      let demand-3 = off-by-at-most-twice-turned card received in
+      let sharper = off-by-at-most-turned-and-residual card received in
+      let nearest = nearest-of-allowed card received in
+      let bits = tells-bits-of-chunks card received in
+      let turned = needed-as-turned card received in
+      let agrees = read-only-if-parity-agrees card received in
+      let pasted = pasted-never-read card received in
+      let before = as-before-unless-contradicted card received in
+      rw e (refl, (status, (values, (demand-3, (sharper, (nearest, (bits, (turned, (agrees, (pasted, before))))))))))
 
   module _ (decoded : Decoded) (from : DecodedFrom card decoded) where
     pub read-card-refused : (decoded .refusal ≡ 0 → ⊥) → ReadMeets (Refused (decoded .refusal))

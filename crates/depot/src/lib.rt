@@ -23,8 +23,11 @@ ghost use Rattle.code_theory.specs.Offsets.{CheckedAsBefore, DistanceAsBefore};
 ghost use Rattle.position_theory.specs.Demands.{WrittenIfServable, UnchangedIfRefused, NeighboursDifferInOneBit, NoOtherPositionsWord};
 ghost use Rattle.position_theory.specs.Demands.{NearestOfAllowed, OffByAtMostTwiceTurned, OffByAtMostTurnedAndResidual};
 ghost use Rattle.position_theory.specs.ChunkBits.{TellsBitsOfChunks, NeededAsTurned};
+ghost use Rattle.position_theory.specs.Contradictions.{ReadOnlyIfParityAgrees, PastedNeverRead, AsBeforeUnlessContradicted};
 ghost use Rattle.level_theory.specs.LevelPromises.{ChunksReadBelowD, NearestOverHeard, TellsWrongOfChunks, AsPlainReading};
 ghost use Rattle.level_theory.specs.LevelPromises.{OffByAtMostTwiceWrongAndLost};
+ghost use Rattle.level_theory.specs.LevelContradictions.{LevelsReadOnlyIfParityAgrees, PastedLevelsNeverRead};
+ghost use Rattle.level_theory.specs.LevelContradictions.{LevelsAsBeforeUnlessContradicted};
 ghost use Rattle.reed_muller_theory.specs.MadeCards.{IsReedMullerCard};
 ghost use Rattle.reed_muller_theory.specs.Votes.{KeepsPromise, AnswersAsSearch};
 use linear_code::decode;
@@ -92,12 +95,13 @@ pub fn write_word(card: &[u8], position: u32, word: &mut [u8]) -> WriteAnswer
 // rule 1, chunk 2 by rule 2, both by rule 3. A chunk that the rule does not name was not read, and has no count. Refused: the card, 1
 // to 5 or 14; a word that has not exactly the bytes of a word, 6; a spare bit set, 8; separators that name no rule, 9; a chunk that
 // the rule names with no codeword within the radius, 10; two chunks that read differently, 11; a block before the first or after the
-// last, 12.
+// last, 12; separator 1, by rule 2 separator 3, that differs from the parity of the codeword's number, 17.
 // Of the word of any position on the track, with at most t bits turned in each chunk, the answer is a position, and it is at most
 // twice as many steps off as bits are turned, and at most as many as bits are turned and the residual together; and a chunk that is
 // read needed as many bits as are turned in it. Of any word that is read, it is the nearest of the positions that the rule allows, and
 // how many bits a chunk needed is the count of places in which that chunk of the received word and the codeword that it reads as
-// differ, at most t.
+// differ, at most t; and that separator has the parity of the codeword's number. So a word that has the separator from one telegram and
+// the codeword from another, whose parities differ, is never read. Without 17 such words were read; every other is answered as it was.
 pub fn read_word(card: &[u8], word: &[u8]) -> ReadAnswer
     ensures answer { λ r. ⌜ r ≡ readAnswer (now (card .entry)) (now (word .entry)) ⌝ }
     ensures status { λ r. ⌜ readStatus r ≡ readRefusal (now (card .entry)) (now (word .entry)) ⌝ }
@@ -107,6 +111,9 @@ pub fn read_word(card: &[u8], word: &[u8]) -> ReadAnswer
     ensures nearest { λ r. ⌜ NearestOfAllowed (now (card .entry)) (now (word .entry)) r ⌝ }
     ensures bits { λ r. ⌜ TellsBitsOfChunks (now (card .entry)) (now (word .entry)) r ⌝ }
     ensures turned { λ r. ⌜ NeededAsTurned (now (card .entry)) (now (word .entry)) r ⌝ }
+    ensures agrees { λ r. ⌜ ReadOnlyIfParityAgrees (now (card .entry)) (now (word .entry)) r ⌝ }
+    ensures pasted { λ r. ⌜ PastedNeverRead (now (card .entry)) (now (word .entry)) r ⌝ }
+    ensures before { λ r. ⌜ AsBeforeUnlessContradicted (now (card .entry)) (now (word .entry)) r ⌝ }
 {
     let decoded = decode::decode(card);
     if decoded.refusal != 0 {
@@ -118,11 +125,12 @@ pub fn read_word(card: &[u8], word: &[u8]) -> ReadAnswer
 // Reads a word from a receiver that gives levels, negative for 1: what a plain read answers, over the bits that aren't lost, and beside the
 // answer the receiver's strength, the sum of the magnitudes and the greatest. A level that is zero, of either sign, is a lost bit. Refused:
 // the card, 1 to 5 or 14; not exactly d levels, 15; any of them not a number, infinite, or above 1,000,000 in magnitude, 16; and then 9 to
-// 12 as a plain word. The strength of a refused word is two zeros.
+// 12 and 17 as a plain word. The strength of a refused word is two zeros.
 // A code chunk reads as the codeword for which 2 × wrong + lost is below D, one at most (`chunks`, a law of the definition that the other
 // clauses name), and how many bits it needed is the count of its wrong places. Of d levels of 1 and -1 the answer is that of the plain
 // reading of the word of these bits. Of d levels of 1, -1 and 0 that have, against the word of any position on the track, 2 × wrong + lost
-// below D in every chunk, the answer is a position, and it is off by at most 2 × wrong + lost, counted over the whole word.
+// below D in every chunk, the answer is a position, and it is off by at most 2 × wrong + lost, counted over the whole word. What 17 changes
+// is as in a plain word (`agrees`, `pasted`, `before`), the separator read by the sum of its levels.
 pub fn read_levels(card: &[u8], levels: &[f32]) -> LevelsAnswer
     ensures answer { λ r. ⌜ r ≡ levelsAnswer (now (card .entry)) (now (levels .entry)) ⌝ }
     ensures status { λ r. ⌜ levelsStatus r ≡ levelsRefusal (now (card .entry)) (now (levels .entry)) ⌝ }
@@ -133,6 +141,9 @@ pub fn read_levels(card: &[u8], levels: &[f32]) -> LevelsAnswer
     ensures bits { λ r. ⌜ TellsWrongOfChunks (now (card .entry)) (now (levels .entry)) (r .answer) ⌝ }
     ensures plain { λ r. ⌜ AsPlainReading (now (card .entry)) (now (levels .entry)) (r .answer) ⌝ }
     ensures bounded { λ r. ⌜ OffByAtMostTwiceWrongAndLost (now (card .entry)) (now (levels .entry)) (r .answer) ⌝ }
+    ensures agrees { λ r. ⌜ LevelsReadOnlyIfParityAgrees (now (card .entry)) (now (levels .entry)) (r .answer) ⌝ }
+    ensures pasted { λ r. ⌜ PastedLevelsNeverRead (now (card .entry)) (now (levels .entry)) (r .answer) ⌝ }
+    ensures before { λ r. ⌜ LevelsAsBeforeUnlessContradicted (now (card .entry)) (now (levels .entry)) (r .answer) ⌝ }
 {
     let decoded = decode::decode(card);
     if decoded.refusal != 0 {

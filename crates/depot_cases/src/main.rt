@@ -1,5 +1,5 @@
 // Tries five public calls that take a card, all but that for levels (rust/tests/levels.rs), on the cases of document 01, on bad input of
-// every kind, each refusal from 1 to 12 and 14 and two faults at once for their order, and on the ends of every range, document 02's
+// every kind, each refusal from 1 to 12, 14 and 17 and two faults at once for their order, and on the ends of every range, document 02's
 // offsets and bits of chunks among them. The file stdout is written by hand, a line a case, from the documents' cards, tables and rules;
 // it is never taken from what the program writes.
 mod bad_cards;
@@ -9,7 +9,7 @@ mod names;
 mod say;
 
 // Document 01's cards, their words and the ends of their ranges, and words whose chunks needed bits, each line as crate::calls has it.
-const OF_DOCUMENT_01: [u64; 109] = [
+const OF_DOCUMENT_01: [u64; 118] = [
     // card B: n 3, k 1, track 14, row 7
     0x0_00_00000000,
     0x1_00_00000000,
@@ -46,10 +46,18 @@ const OF_DOCUMENT_01: [u64; 109] = [
     // refusal 12 by rules 1 and 2
     0x9_02_c7010000,
     0x9_02_c07f0000,
-    // both ends by rule 3, and codewords that are not of the separators' parity, which rule 3 reads
+    // both ends by rule 3
     0x9_02_01000000,
     0x9_02_ff3f0000,
+    // document 02, P6: a separator that contradicts the codeword, by rule 3 with p 1 and p 0, by rule 1 and by rule 2; refusals 12, 11 and 8
+    // before 17
     0x9_02_380e0000,
+    0x9_02_c7710000,
+    0x9_02_38700000,
+    0x9_02_c0710000,
+    0x9_02_070e0000,
+    0x9_02_c77f0000,
+    0x9_02_388e0000,
     // one bit turned in a chunk that the rule names: by rule 1 with one more in chunk 2, by rule 2, and by rule 3 in chunk 1, in chunk 2
     // and in both
     0x9_02_ef0b0000,
@@ -112,6 +120,11 @@ const OF_DOCUMENT_01: [u64; 109] = [
     0x9_02_84000000,
     // refusal 11: rule 3 with codewords that differ
     0x9_02_8c020000,
+    // refusal 17: rule 1 with p 2, whose parity separator 3 has; rule 2 with p 1, whose parity separator 1 has; rule 3 with p 1, where
+    // separator 1 ties
+    0x9_02_77000000,
+    0x9_02_83010000,
+    0x9_02_8d010000,
     // three cards of document 01 that are refused; the fourth, of 511 bytes, is among the bad cards
     0x0_00_00000002,
     0x1_00_00000000,

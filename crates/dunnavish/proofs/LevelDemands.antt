@@ -1,18 +1,23 @@
--- What P5 promises of the library's read of levels holds of the status and the numbers that the call for C leaves: an answer crosses as
+-- What P5 and P6 promise of the library's read of levels holds of the status and the numbers that the call for C leaves: an answer crosses as
 -- that of a plain read does, and its strength beside it. Where the count of the lent numbers or floats is wrong, nothing is claimed.
 -- Assumes nothing.
 use mathlib.Core.Path.{_≡_, refl, _∙_}
 use mathlib.Core.List.{List}
 use Prim.Native.Nat.{ℕ}
+use native.Mathlib.Omega.{arith}
 use borrow.Author.Tests.{eq-eqb, ne-eqb}
 use lib.Ieee.{Float}
 use lib.ListN.{length}
-use Rattle.model.specs.Answers.{levelsAnswer}
-use Rattle.model.specs.Statuses.{levelsStatus, levelsValues, strengthValues}
+use Rattle.model.specs.Answers.{levelsAnswer, levelsFigures}
+use Rattle.model.specs.Statuses.{ifServed, levelsStatus, levelsValues, strengthValues}
 use Rattle.model.specs.declared.LevelsAnswer.{LevelsAnswer}
 use Rattle.level_theory.specs.LevelPromises.{AsPlainReading, OffByAtMostTwiceWrongAndLost}
+use Rattle.level_theory.specs.LevelContradictions.{LevelsReadOnlyIfParityAgrees, PastedLevelsNeverRead}
 use Rattle.dunnavish.specs.Crossing.{readCount, strengthCount, wrongCount, statusFor, leftBy, UnchangedUnlessZero}
 use Rattle.dunnavish.specs.Demands.{ServedWithinTwiceWrongAndLost, LeavesAsPlain}
+use Rattle.dunnavish.specs.Contradictions.{LevelsServedOnlyIfParityAgrees, PastedLevelsNeverServed}
+use Rattle.dunnavish.proofs.ServedReads.{ReadLeaves}
+use Rattle.dunnavish.proofs.Contradictions.{agreement-crosses, never-crosses}
 use Rattle.dunnavish.proofs.ReadDemands.{near-crosses}
 
 -- what is left by a status other than 0 is what was lent
@@ -33,25 +38,19 @@ module _ (card : List ℕ) (levels : List Float) (lent : List ℕ) (lentStrength
       × (UnchangedUnlessZero lent status left
       × (UnchangedUnlessZero lentStrength status strengthLeft
       × (LeavesAsPlain card levels lent lentStrength status left
-      × ServedWithinTwiceWrongAndLost card levels lent lentStrength status left)))))
+      × (ServedWithinTwiceWrongAndLost card levels lent lentStrength status left
+      × (LevelsServedOnlyIfParityAgrees card levels status left × PastedLevelsNeverServed card levels status)))))))
 
   -- too few or too many numbers, or floats
   wrong-counts : wrongCount ≡ statusFor readCount lent (statusFor strengthCount lentStrength (levelsStatus answered))
       → (length lent ≡ readCount → length lentStrength ≡ strengthCount → ⊥) → LevelsMeet wrongCount lent lentStrength
-  unfolding leftBy UnchangedUnlessZero LeavesAsPlain ServedWithinTwiceWrongAndLost
-  wrong-counts status never = (
-    status,
-    (
-      refl,
-      (
-        refl,
-        (
-          λ _. refl,
-          (λ _. refl, (λ a b. absurd (never a b), λ a b. absurd (never a b))),
-        ),
-      ),
-    ),
-  )
+  unfolding leftBy UnchangedUnlessZero LeavesAsPlain ServedWithinTwiceWrongAndLost LevelsServedOnlyIfParityAgrees PastedLevelsNeverServed
+  wrong-counts status never =
+      let no-read : wrongCount ≡ 0 → ⊥ = λ zero. omega arith in
+      let plain : LeavesAsPlain card levels lent lentStrength wrongCount lent = λ a b. absurd (never a b) in
+      let bounded : ServedWithinTwiceWrongAndLost card levels lent lentStrength wrongCount lent = λ a b. absurd (never a b) in
+      let agrees : LevelsServedOnlyIfParityAgrees card levels wrongCount lent = λ zero. absurd (no-read zero) in
+      (status, (refl, (refl, (λ _. refl, (λ _. refl, (plain, (bounded, (agrees, λ i j from. no-read))))))))
 
   pub wrong-count-of-numbers : (length lent ≡ readCount → ⊥) → LevelsMeet wrongCount lent lentStrength
   unfolding statusFor
@@ -65,13 +64,18 @@ module _ (card : List ℕ) (levels : List Float) (lent : List ℕ) (lentStrength
 
     -- the right counts: what the library answered
     module _ (floats : length lentStrength ≡ strengthCount) (r : LevelsAnswer) (is : r ≡ answered)
-        (plain : AsPlainReading card levels (r .answer)) (bounded : OffByAtMostTwiceWrongAndLost card levels (r .answer)) where
+        (values : levelsValues r ≡ ifServed (levelsStatus r) (levelsFigures card levels))
+        (plain : AsPlainReading card levels (r .answer)) (bounded : OffByAtMostTwiceWrongAndLost card levels (r .answer))
+        (agrees : LevelsReadOnlyIfParityAgrees card levels (r .answer)) (pasted : PastedLevelsNeverRead card levels (r .answer)) where
       pub levels-cross : (status : ℕ) (left : List ℕ) (strengthLeft : List Float) → status ≡ levelsStatus r
           → left ≡ leftBy status (levelsValues r) lent → strengthLeft ≡ leftBy status (strengthValues r) lentStrength
           → LevelsMeet status left strengthLeft
-      unfolding statusFor AsPlainReading OffByAtMostTwiceWrongAndLost LeavesAsPlain ServedWithinTwiceWrongAndLost
+      unfolding statusFor AsPlainReading OffByAtMostTwiceWrongAndLost LeavesAsPlain ServedWithinTwiceWrongAndLost levelsFigures
+          LevelsReadOnlyIfParityAgrees PastedLevelsNeverRead LevelsServedOnlyIfParityAgrees PastedLevelsNeverServed
       levels-cross status left strengthLeft is-status is-left is-strength =
           let crosses : status ≡ statusFor readCount lent (levelsStatus r) = is-status ∙ rw (eq-eqb (length lent) readCount alike) in
+          let leaves : ReadLeaves lent (r .answer) status left =
+          record { told = _; values = values; is-status = crosses; is-left = is-left } in
           rw (← is) (
             is-status ∙ rw (eq-eqb (length lent) readCount alike, eq-eqb (length lentStrength) strengthCount floats),
             (
@@ -84,9 +88,15 @@ module _ (card : List ℕ) (levels : List Float) (lent : List ℕ) (lentStrength
                     unchanged-by status _ lentStrength strengthLeft is-strength,
                     (
                       λ _ _ whole ones. rw (← plain whole ones) (is-status, is-left),
-                      λ _ _ position sound on-track whole units below.
-                          near-crosses lent alike (r .answer) status left crosses is-left position _
-                          (bounded position sound on-track whole units below) .0,
+                      (
+                        λ _ _ position sound on-track whole units below.
+                            near-crosses lent alike (r .answer) status left crosses is-left position _
+                            (bounded position sound on-track whole units below) .0,
+                        (
+                          agreement-crosses lent (r .answer) status left leaves _ _ agrees,
+                          λ i j from. never-crosses lent (r .answer) status left leaves (pasted i j from),
+                        ),
+                      ),
                     ),
                   ),
                 ),

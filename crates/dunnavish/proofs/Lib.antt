@@ -1,4 +1,6 @@
 pub mod Lent
+pub mod ServedReads
+pub mod Contradictions
 pub mod OldCards
 pub mod ReadDemands
 pub mod LevelDemands

@@ -1,15 +1,13 @@
 -- Demand 3 and the bits of the chunks, of the library's reading call, hold of the status and the numbers that the call for C leaves: an
 -- answer that is near a position crosses with status 0, and the numbers left are its values. Where the count of the lent numbers is
 -- wrong, nothing is claimed. Assumes nothing.
-use mathlib.Core.Path.{_≡_, refl, sym, _∙_}
+use mathlib.Core.Path.{_≡_, refl, _∙_}
 use mathlib.Core.Bool.{Bool, true, false}
 use mathlib.Core.List.{List}
-use mathlib.Core.Logic.{⊎-elim}
 use Prim.Native.Nat.{ℕ}
 use native.Mathlib.Omega.{arith}
 use lib.ListN.{length}
-use borrow.Author.Tests.{eq-eqb, ne-eqb}
-use Rattle.bits.proofs.Numbers.{eq-or-ne}
+use borrow.Author.Tests.{eq-eqb}
 use Rattle.bits.specs.Places.{place}
 use Rattle.model.specs.Card.{Code, codeOf}
 use Rattle.model.specs.Answers.{readFigures, readAnswer}
@@ -21,10 +19,14 @@ use Rattle.model.specs.declared.ReadAnswer.the-variants.{At, Refused}
 use Rattle.position_theory.specs.Damage.{Near, residualOf}
 use Rattle.position_theory.specs.Demands.{OffByAtMostTwiceTurned, OffByAtMostTurnedAndResidual}
 use Rattle.position_theory.specs.ChunkBits.{TellsBits, BitsOfChunks, TellsBitsOfChunks, NeededAsTurned}
+use Rattle.position_theory.specs.Contradictions.{ReadOnlyIfParityAgrees, PastedNeverRead}
 use Rattle.dunnavish.specs.Crossing.{readCount, wrongCount, statusFor, leftBy, UnchangedUnlessZero}
 use Rattle.dunnavish.specs.Demands.{residualLeft, ServedNear, ServedWithinTwiceTurned, ServedWithinTurnedAndResidual}
 use Rattle.dunnavish.specs.Demands.{LeavesBits, LeavesBitsOfChunks, LeavesBitsTurned}
-use Rattle.dunnavish.proofs.Lent.{Crosses, wrong-count-changes-nothing, refusal-nonzero}
+use Rattle.dunnavish.specs.Contradictions.{ServedOnlyIfParityAgrees, PastedNeverServed}
+use Rattle.dunnavish.proofs.Lent.{Crosses, wrong-count-changes-nothing}
+use Rattle.dunnavish.proofs.ServedReads.{ReadLeaves, reading-crosses}
+use Rattle.dunnavish.proofs.Contradictions.{agreement-crosses, never-crosses}
 
 -- where the count is right, an answer near a position is served, and leaves its values: a position as near, and its residual
 pub near-crosses : (lent : List ℕ) → length lent ≡ readCount → (answer : ReadAnswer) (status : ℕ) (left : List ℕ)
@@ -43,26 +45,8 @@ unfolding TellsBits LeavesBits bitsValue
 bits-cross C true chunk p answered (count, differing, counts) = rw differing counts
 bits-cross C false chunk p answered not-read = rw not-read
 
--- a status of 0 is that of an answer that is served
-served-crosses : (lent : List ℕ) (answered : ℕ) → statusFor readCount lent answered ≡ 0 → answered ≡ 0
-unfolding statusFor
-served-crosses lent answered zero =
-    ⊎-elim (λ (alike : length lent ≡ readCount). rw (eq-eqb (length lent) readCount alike) at zero)
-    (λ (unlike : length lent ≡ readCount → ⊥).
-    let never : wrongCount ≡ 0 = rw (ne-eqb (length lent) readCount unlike) at zero in absurd (omega arith))
-    (eq-or-ne (length lent) readCount)
-
 module _ (card received lent : List ℕ) where
-  -- the numbers left by a read of status 0 are the values of a reading
-  reading-crosses : (answer : ReadAnswer) → readValues answer ≡ ifServed (readStatus answer) (readFigures card received)
-      → (status : ℕ) (left : List ℕ) → status ≡ statusFor readCount lent (readStatus answer)
-      → left ≡ leftBy status (readValues answer) lent → status ≡ 0 → (r : Reading) × (answer ≡ At r) × (left ≡ readValues (At r))
-  unfolding leftBy readStatus readValues readFigures
-  reading-crosses (At r) values status left is-status is-left zero = (r, refl, is-left ∙ rw zero)
-  reading-crosses (Refused refusal) values status left is-status is-left zero =
-      absurd (refusal-nonzero refusal _ _ values (served-crosses lent refusal (sym is-status ∙ zero)))
-
-  -- so the bits of its chunks cross
+  -- the bits of a reading's chunks cross
   all-bits-cross : (r : Reading) → BitsOfChunks ChunkBits TellsBits (codeOf card) (place received) (r .rule) (r .chunk1) (r .chunk2)
       → BitsOfChunks ℕ LeavesBits (codeOf card) (place received) (r .rule) (bitsValue (r .chunk1)) (bitsValue (r .chunk2))
   all-bits-cross r bits =
@@ -83,38 +67,35 @@ module _ (card received lent : List ℕ) where
       × (UnchangedUnlessZero lent status left
       × (ServedWithinTwiceTurned card received lent status left
       × (ServedWithinTurnedAndResidual card received lent status left
-      × (LeavesBitsOfChunks card received status left × LeavesBitsTurned card received status left)))))
+      × (LeavesBitsOfChunks card received status left
+      × (LeavesBitsTurned card received status left
+      × (ServedOnlyIfParityAgrees card received status left × PastedNeverServed card received status)))))))
 
   pub wrong-count-claims-nothing : (length lent ≡ readCount → ⊥) → ReadMeets wrongCount lent
-  unfolding ServedWithinTwiceTurned ServedWithinTurnedAndResidual LeavesBitsOfChunks LeavesBitsTurned
+  unfolding ServedWithinTwiceTurned ServedWithinTurnedAndResidual LeavesBitsOfChunks LeavesBitsTurned ServedOnlyIfParityAgrees PastedNeverServed
   wrong-count-claims-nothing unlike =
-      let crosses = wrong-count-changes-nothing readCount lent unlike _ _ in
-      let no-read : wrongCount ≡ 0 → ⊥ = λ zero. omega arith in (
-        crosses .0,
-        (
-          crosses .1 .0,
-          (
-            crosses .1 .1,
-            (
-              λ alike. absurd (unlike alike),
-              (
-                λ alike. absurd (unlike alike),
-                (λ zero. absurd (no-read zero), λ position sound on-track within zero. absurd (no-read zero)),
-              ),
-            ),
-          ),
-        ),
-      )
+      let no-read : wrongCount ≡ 0 → ⊥ = λ zero. omega arith in
+      let (status, (left, unchanged)) = wrong-count-changes-nothing readCount lent unlike _ _ in
+      let bounded : ServedWithinTwiceTurned card received lent wrongCount lent = λ alike. absurd (unlike alike) in
+      let sharper : ServedWithinTurnedAndResidual card received lent wrongCount lent = λ alike. absurd (unlike alike) in
+      let bits : LeavesBitsOfChunks card received wrongCount lent = λ zero. absurd (no-read zero) in
+      let turned : LeavesBitsTurned card received wrongCount lent = λ position sound on-track within zero. absurd (no-read zero) in
+      let agrees : ServedOnlyIfParityAgrees card received wrongCount lent = λ zero. absurd (no-read zero) in
+      (status, (left, (unchanged, (bounded, (sharper, (bits, (turned, (agrees, λ i j from. no-read))))))))
 
   pub demands-cross : (answer : ReadAnswer) → answer ≡ readAnswer card received
       → readValues answer ≡ ifServed (readStatus answer) (readFigures card received)
       → OffByAtMostTwiceTurned card received answer → OffByAtMostTurnedAndResidual card received answer
       → TellsBitsOfChunks card received answer → NeededAsTurned card received answer
+      → ReadOnlyIfParityAgrees card received answer → PastedNeverRead card received answer
       → (status : ℕ) (left : List ℕ) → Crosses readCount lent (readStatus answer) (readValues answer) status left
       → ReadMeets status left
   unfolding OffByAtMostTwiceTurned OffByAtMostTurnedAndResidual ServedWithinTwiceTurned ServedWithinTurnedAndResidual
       TellsBitsOfChunks NeededAsTurned LeavesBitsOfChunks LeavesBitsTurned readValues
-  demands-cross answer is values bounded sharper tells needed status left (is-status, (is-left, unchanged)) =
+      ReadOnlyIfParityAgrees PastedNeverRead ServedOnlyIfParityAgrees PastedNeverServed readFigures
+  demands-cross answer is values bounded sharper tells needed agrees pasted status left (is-status, (is-left, unchanged)) =
+      let leaves : ReadLeaves lent answer status left = record { told = _; values = values; is-status = is-status; is-left = is-left } in
+      let crosses = reading-crosses lent answer status left leaves in
       rw (← is) (
         is-status,
         (
@@ -130,12 +111,15 @@ module _ (card received lent : List ℕ) where
                     near-crosses lent alike answer status left is-status is-left position _ (sharper position sound on-track within) in
                     rw residual near,
                 (
-                  λ zero.
-                      let (r, at, left-are) = reading-crosses answer values status left is-status is-left zero in
-                      rw left-are (all-bits-cross r (tells r at)),
-                  λ position sound on-track within zero.
-                      let (r, at, left-are) = reading-crosses answer values status left is-status is-left zero in
-                      rw left-are (needed position sound on-track within r at),
+                  λ zero. let (r, at, left-are) = crosses zero in rw left-are (all-bits-cross r (tells r at)),
+                  (
+                    λ position sound on-track within zero.
+                        let (r, at, left-are) = crosses zero in rw left-are (needed position sound on-track within r at),
+                    (
+                      agreement-crosses lent answer status left leaves _ _ agrees,
+                      λ i j from. never-crosses lent answer status left leaves (pasted i j from),
+                    ),
+                  ),
                 ),
               ),
             ),

@@ -17,6 +17,8 @@ ghost use Rattle.dunnavish.specs.Demands.{CheckLeftAsBefore, DistanceLef
 ghost use Rattle.dunnavish.specs.Demands.{ServedWithinTwiceTurned, ServedWithinTurnedAndResidual};
 ghost use Rattle.dunnavish.specs.Demands.{LeavesBitsOfChunks, LeavesBitsTurned};
 ghost use Rattle.dunnavish.specs.Demands.{ServedWithinTwiceWrongAndLost, LeavesAsPlain};
+ghost use Rattle.dunnavish.specs.Contradictions.{ServedOnlyIfParityAgrees, PastedNeverServed};
+ghost use Rattle.dunnavish.specs.Contradictions.{LevelsServedOnlyIfParityAgrees, PastedLevelsNeverServed};
 ghost use Rattle.dunnavish.specs.Demands.{MadeWithinLimits, VotedAsPromised, VotedAsSearch};
 use model::CardAnswer;
 use model::ChunkBits;
@@ -106,7 +108,8 @@ fn put_reading(read: Reading, values: &mut [u32])
 // into the first of them is at most twice as many steps off as bits are turned, and at most as many as bits are turned and the
 // residual, the second, together; and the number put for a chunk that the rule names is that of the bits turned in it. Of any word that
 // is read, it is the count of places in which that chunk of the word and the codeword that it reads as differ, at most t; for any
-// other chunk NOT_READ is put.
+// other chunk NOT_READ is put. Of a word whose status is 0, separator 1, by rule 2 separator 3, has the parity of the codeword's number, so
+// that of a word pasted from two telegrams whose parities differ there the status is never 0.
 #[no_mangle]
 pub extern "C" fn dunnavish_read_word(card: &[u8], word: &[u8], values: &mut [u32]) -> u32
     ensures status { λ r. ⌜ r ≡ statusFor readCount (now (values .entry)) (readStatus (readAnswer (now (card .entry)) (now (word .entry)))) ⌝ }
@@ -116,6 +119,8 @@ pub extern "C" fn dunnavish_read_word(card: &[u8], word: &[u8], values: &mut [u3
     ensures sharper { λ r. ⌜ ServedWithinTurnedAndResidual (now (card .entry)) (now (word .entry)) (now (values .entry)) r (now (values .exit)) ⌝ }
     ensures bits { λ r. ⌜ LeavesBitsOfChunks (now (card .entry)) (now (word .entry)) r (now (values .exit)) ⌝ }
     ensures turned { λ r. ⌜ LeavesBitsTurned (now (card .entry)) (now (word .entry)) r (now (values .exit)) ⌝ }
+    ensures agrees { λ r. ⌜ ServedOnlyIfParityAgrees (now (card .entry)) (now (word .entry)) r (now (values .exit)) ⌝ }
+    ensures pasted { λ r. ⌜ PastedNeverServed (now (card .entry)) (now (word .entry)) r ⌝ }
 {
     if values.len() != 5 {
         return WRONG_COUNT;
@@ -134,7 +139,7 @@ pub extern "C" fn dunnavish_read_word(card: &[u8], word: &[u8], values: &mut [u3
 // sum of the magnitudes and the greatest, into two floats. Where five numbers and two floats are lent: of d levels of 1 and -1 the status
 // and the five numbers are those of the plain read of the word of these bits; and of d levels of 1, -1 and 0 that have, against the word of
 // any position on the track, 2 × wrong + lost below D in every chunk, the status is 0, and the position put into the first number is off
-// by at most 2 × wrong + lost, counted over the whole word.
+// by at most 2 × wrong + lost, counted over the whole word. Separators that contradict the codeword are as in a plain word.
 #[no_mangle]
 pub extern "C" fn dunnavish_read_levels(
     card: &[u8],
@@ -149,6 +154,8 @@ pub extern "C" fn dunnavish_read_levels(
     ensures strength_unchanged { λ r. ⌜ UnchangedUnlessZero (now (strength .entry)) r (now (strength .exit)) ⌝ }
     ensures plain { λ r. ⌜ LeavesAsPlain (now (card .entry)) (now (levels .entry)) (now (values .entry)) (now (strength .entry)) r (now (values .exit)) ⌝ }
     ensures bounded { λ r. ⌜ ServedWithinTwiceWrongAndLost (now (card .entry)) (now (levels .entry)) (now (values .entry)) (now (strength .entry)) r (now (values .exit)) ⌝ }
+    ensures agrees { λ r. ⌜ LevelsServedOnlyIfParityAgrees (now (card .entry)) (now (levels .entry)) r (now (values .exit)) ⌝ }
+    ensures pasted { λ r. ⌜ PastedLevelsNeverServed (now (card .entry)) (now (levels .entry)) r ⌝ }
 {
     if values.len() != 5 {
         return WRONG_COUNT;

@@ -17,7 +17,7 @@ use Rattle.bits.proofs.Heard.{heard-ext}
 use Rattle.model.specs.Refusals.{firstRefusal, unlessRefused}
 use Rattle.model.specs.Card.{Code}
 use Rattle.model.specs.Words.{wordBits}
-use Rattle.model.specs.Reading.{ruleSeen, rowsSeen}
+use Rattle.model.specs.Reading.{ruleSeen, separatorBy, rows9To12, rowsSeen}
 use Rattle.model.specs.Levels.{anyOutside, toldAt, isHeard, heardIn, bitsIn, seenTold, residualHeard, noStrength, strengthOf}
 use Rattle.model.specs.Answers.{rowsOfLevels, levelsAnswered, readLevels}
 use Rattle.model.specs.declared.Reading.{Reading}
@@ -26,7 +26,7 @@ use Rattle.model.specs.declared.ReadAnswer.the-variants.{At, Refused}
 use Rattle.code_theory.proofs.Refusals.{served-if-none, refused-if-some}
 use Rattle.code_theory.proofs.ChunkReading.{heard-reading-ext}
 use Rattle.position_theory.specs.Nearest.{refusalOf}
-use Rattle.position_theory.proofs.ChunkBits.{read-if-served}
+use Rattle.position_theory.proofs.ReadWords.{read-if-served}
 use Rattle.levels.specs.declared.heard.HeardWord.{HeardWord}
 use Rattle.levels.specs.Heard.{HeardWordOf}
 use Rattle.reader.specs.Received.{residualIn, SeesIn, AnswersRule, answerBy, NothingSpare}
@@ -63,10 +63,11 @@ module _ (C : Code) (levels : List Float) (whole : length levels ≡ wordBits C)
   residual-in-arrays =
       fun-ext (λ q. heard-ext (wordBits C) (λ p b. sym (heard-marked p b)) (λ p b. refl) (λ p b. sym (bits-placed p b)))
 
-  pub rule-of-told : (rule : ℕ) (answer : ReadAnswer) → AnswersRule C (w .bits) (w .heard) rule answer
+  pub rule-of-told : (rule : ℕ) (answer : ReadAnswer)
+      → AnswersRule C (w .bits) (w .heard) rule (separatorBy (seenTold C (toldAt levels)) rule) answer
       → answer ≡ answerTold C (toldAt levels) rule
   rule-of-told rule answer by-rule =
-      by-rule (seenTold C (toldAt levels)) told-in-arrays
+      by-rule (seenTold C (toldAt levels)) told-in-arrays refl
       ∙ ap (λ (residual : ℕ → ℕ). answerBy C (seenTold C (toldAt levels)) residual rule) residual-in-arrays
 
 -- ---- the ways out
@@ -95,7 +96,7 @@ module _ (C : Code) (levels : List Float) (whole : length levels ≡ wordBits C)
 
   module _ (inside : anyOutside (wordBits C) levels ≡ false) where
     pub refused-9 : ruleSeen (seenTold C (toldAt levels)) ≡ 0 → levelsRefused 9 ≡ readLevels C levels
-    unfolding readLevels levelsAnswered rowsOfLevels rowsSeen firstRefusal unlessRefused levelsRefused
+    unfolding readLevels levelsAnswered rowsOfLevels rowsSeen rows9To12 firstRefusal unlessRefused levelsRefused
     refused-9 unnamed = rw (eq-eqb (length levels) (wordBits C) whole, inside, unnamed)
 
     -- by the rule that is named

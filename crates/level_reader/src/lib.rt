@@ -6,9 +6,9 @@ ghost use lib.ListN.{length};
 ghost use Rattle.model.specs.Answers.{readLevels};
 ghost use Rattle.model.specs.Decoded.{meaning};
 ghost use Rattle.model.specs.Levels.{toldAt, seenTold};
-ghost use Rattle.model.specs.Reading.{ruleSeen};
 ghost use Rattle.model.specs.Words.{wordBits};
 ghost use Rattle.code_theory.specs.Promise.{Sound};
+ghost use Rattle.reader.specs.Naming.{NamesOf};
 ghost use Rattle.level_reader.specs.Answered.{levelsRefused, answerTold};
 use levels::heard;
 use levels::limits;
@@ -18,6 +18,8 @@ use model::DecodedCode;
 use model::LevelsAnswer;
 use model::ReadAnswer;
 use position::layout;
+use reader::naming;
+use reader::naming::NamedRule;
 use reader::reading;
 
 // A refusal: it has no strength.
@@ -30,27 +32,27 @@ pub fn refused(refusal: u32) -> LevelsAnswer
     }
 }
 
-// The number of the rule that the separators of d levels name.
-fn named_rule(code: DecodedCode, levels: &[f32]) -> u32
+// What the separators of d levels name: the rule, and with it the separator that is held against the codeword.
+fn named_rule(code: DecodedCode, levels: &[f32]) -> NamedRule
     requires { ⌜ Sound (meaning code) × (length (now levels) ≡ wordBits (meaning code)) ⌝ }
-    ensures { λ r. ⌜ (r ≡ ruleSeen (seenTold (meaning code) (toldAt (now (levels .entry))))) × (r ≤ 3) ⌝ }
+    ensures { λ r. ⌜ NamesOf (seenTold (meaning code) (toldAt (now (levels .entry)))) r ⌝ }
 {
     let at = layout::layout_of(code);
     let s1 = separators::separator_at(levels, 0, code.distance);
     let s2 = separators::separator_at(levels, at.separator2, code.distance);
     let s3 = separators::separator_at(levels, at.separator3, code.distance);
-    reading::rule_of(s1, s2, s3)
+    naming::named_by(s1, s2, s3)
 }
 
-// What the rule with this number answers of d levels: they are told, and the word is read over the bits that are heard.
-fn by_rule(code: DecodedCode, levels: &[f32], rule: u32) -> ReadAnswer
-    requires { ⌜ Sound (meaning code) × (length (now levels) ≡ wordBits (meaning code)) × (1 ≤ rule) × (rule ≤ 3) ⌝ }
-    ensures { λ r. ⌜ r ≡ answerTold (meaning code) (toldAt (now (levels .entry))) rule ⌝ }
+// What the rule that is named answers of d levels: they are told, and the word is read over the bits that are heard.
+fn by_rule(code: DecodedCode, levels: &[f32], named: NamedRule) -> ReadAnswer
+    requires { ⌜ Sound (meaning code) × (length (now levels) ≡ wordBits (meaning code)) × NamesOf (seenTold (meaning code) (toldAt (now levels))) named × (1 ≤ named .rule) ⌝ }
+    ensures { λ r. ⌜ r ≡ answerTold (meaning code) (toldAt (now (levels .entry))) (named .rule) ⌝ }
 {
     let word = heard::heard_word(levels);
     let bits = word.bits;
     let heard = word.heard;
-    reading::by_rule(code, bits, heard, rule)
+    reading::by_rule(code, bits, heard, named)
 }
 
 // The reading of a list of levels, of any length, with the strength of a word that is read. What 16 and 9 test is computed first, so that a
@@ -64,14 +66,15 @@ pub fn read(code: DecodedCode, levels: &[f32]) -> LevelsAnswer
         return refused(15);
     }
     let outside = limits::any_outside(levels, at.bits as usize);
-    let rule = named_rule(code, levels);
+    let named = named_rule(code, levels);
+    let rule = named.rule;
     if outside {
         return refused(16);
     }
     if rule == 0 {
         return refused(9);
     }
-    match by_rule(code, levels, rule) {
+    match by_rule(code, levels, named) {
         ReadAnswer::At(reading) => LevelsAnswer {
             answer: ReadAnswer::At(reading),
             strength: strength::strength_of(levels),

@@ -17,20 +17,24 @@ use Rattle.bits.proofs.Places.{length-pack, place-packed, place-spare}
 use Rattle.model.specs.Refusals.{firstRefusal}
 use Rattle.model.specs.Card.{Code, cardRefusal, codeOf, SoundCard}
 use Rattle.model.specs.Words.{wordBits, wordBytes}
-use Rattle.model.specs.Reading.{rowsSeen}
+use Rattle.model.specs.Reading.{rows9To12, rowsSeen}
 use Rattle.model.specs.Levels.{anyOutside, toldAt, withinLosses, seenTold, residualHeard}
 use Rattle.model.specs.Answers.{spareSet, readWord, readRefusal, readAnswer, rowsTold, rowsOfLevels, levelsAnswered, readLevels}
-use Rattle.model.specs.Answers.{levelsRefusal, levelsAnswer}
+use Rattle.model.specs.Answers.{readingTold, levelsRefusal, levelsAnswer}
+use Rattle.model.specs.declared.Reading.{Reading}
+use Rattle.model.specs.declared.ReadAnswer.the-variants.{At}
 use Rattle.code_theory.proofs.Promise.{one-near}
 use Rattle.code_theory.proofs.Refusals.{NoneHolds, numbered, none-refuses, none-holds, refused-by-card, none-past-card}
 use Rattle.code_theory.proofs.SoundCard.{sound-card}
 use Rattle.position_theory.specs.Damage.{wrongInAll}
+use Rattle.position_theory.specs.Nearest.{refusalOf}
 use Rattle.position_theory.proofs.Words.{five-wrong, five-lost}
 use Rattle.position_theory.proofs.WordBytes.{readingOfSeen, reading, read-if-whole, place-of-word}
 use Rattle.position_theory.proofs.RuleReads.{reads-in-code}
 use Rattle.position_theory.proofs.Nearest.{reading-is-nearest}
 use Rattle.position_theory.proofs.BoundedError.{error-of-seen, near-loosen}
-use Rattle.position_theory.proofs.ChunkBits.{wrong-of-chunks, read-if-served}
+use Rattle.position_theory.proofs.ChunkBits.{wrong-of-chunks}
+use Rattle.position_theory.proofs.ReadWords.{read-if-served}
 use Rattle.position_theory.proofs.Demands.{card-promise, read-sound}
 use Rattle.level_theory.specs.UnitLevels.{OneLevels, UnitLevels, one}
 use Rattle.level_theory.specs.LevelPromises.{ChunksReadBelowD, heardOf, bitsOf, NearestOverHeard, TellsWrongOfChunks}
@@ -76,17 +80,26 @@ nearest-over-heard card levels sound whole inside =
     rw (levels-sound card levels sound, read-if-inside C levels whole inside)
     (reading-is-nearest C promised (seenTold C word) (reads-in-code C promised (told-sees-chunks C word)) _)
 
--- and the wrong places of the chunks that the rule names
-pub tells-wrong-of-chunks : (card : List ℕ) (levels : List Float) → TellsWrongOfChunks card levels (levelsAnswer card levels .answer)
-unfolding TellsWrongOfChunks levelsAnswer levelsAnswered levelsRefusal rowsOfLevels rowsSeen NoneHolds numbered
-tells-wrong-of-chunks card levels r answered =
+-- a word that is read shows that its card is sound and that no row holds of what its levels tell, and the answer is its reading
+pub levels-show : (card : List ℕ) (levels : List Float) (r : Reading) → levelsAnswer card levels .answer ≡ At r
+    → (cardRefusal card ≡ 0) × (refusalOf (codeOf card) (seenTold (codeOf card) (toldAt levels)) ≡ 0)
+    × (readingTold (codeOf card) (toldAt levels) ≡ r)
+unfolding levelsAnswer levelsAnswered levelsRefusal rowsOfLevels rowsSeen rows9To12 NoneHolds numbered
+levels-show card levels r answered =
     let C = codeOf card in
-    let word = toldAt levels in
     let (none, is) = read-if-served _ _ _ answered in
     let (sound, none-of-levels) = none-past-card (cardRefusal card) (rowsOfLevels C levels) none in
     let (_, (_, none-of-rows)) = none-holds (rowsOfLevels C levels) refl none-of-levels in
-    rw (← is)
-    (wrong-of-chunks C (card-promise card sound) (seenTold C word) (told-sees-chunks C word) _ (none-refuses (rowsTold C word) none-of-rows))
+    (sound, none-refuses (rowsTold C (toldAt levels)) none-of-rows, is)
+
+-- and the wrong places of the chunks that the rule names
+pub tells-wrong-of-chunks : (card : List ℕ) (levels : List Float) → TellsWrongOfChunks card levels (levelsAnswer card levels .answer)
+unfolding TellsWrongOfChunks
+tells-wrong-of-chunks card levels r answered =
+    let C = codeOf card in
+    let word = toldAt levels in
+    let (sound, none, is) = levels-show card levels r answered in
+    rw (← is) (wrong-of-chunks C (card-promise card sound) (seenTold C word) (told-sees-chunks C word) _ none)
 
 -- ---- levels of 1 and -1
 

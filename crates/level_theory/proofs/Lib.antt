@@ -5,3 +5,4 @@ pub mod ExactSums
 pub mod SeparatorsTell
 pub mod LevelsSeen
 pub mod LevelPromises
+pub mod LevelContradictions

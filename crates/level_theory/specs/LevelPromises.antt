@@ -45,7 +45,7 @@ abbrev pub bitsOf : (levels : List Float) (p : ℕ) → ℕ
 bitsOf levels = bitsIn (toldAt levels)
 
 -- For a sound card and d levels, none of them outside the limits: the answer is the allowed position nearest to the word over bits that
--- aren't lost, the smallest on a tie, with its residual over these bits; or the refusal by the first of rows 9 to 12 that holds
+-- aren't lost, the smallest on a tie, with its residual over these bits; or the refusal by the first of rows 9 to 12 and 17 that holds
 unfoldable pub NearestOverHeard : (card : List ℕ) (levels : List Float) → ReadAnswer → Type 0
 NearestOverHeard card levels answer =
     let C : Code = codeOf card in

@@ -1,2 +1,3 @@
 pub mod UnitLevels
 pub mod LevelPromises
+pub mod LevelContradictions

@@ -14,7 +14,8 @@ use Rattle.model.specs.CardBytes.{bytesOf, rowBytes, sealed, cardOf}
 use Rattle.model.specs.Order.{gray, lastCodeword, codeword, changedRow, changedWeight, start, lastPosition, sumAfterRow, sumBeforeRow}
 use Rattle.model.specs.Words.{fiveChunks, word, blockOf, wordAt, wordBytes, millimetresOf}
 use Rattle.model.specs.Reading.{majority, chunkDistance, withinRadius, readFirst, chunkReading, unreadable, numberRead, seen}
-use Rattle.model.specs.Reading.{ruleOf, numberBy, twoEnds, rowsSeen, ruleNamed, rowsOf, allowed, residual, nearestIn, bitsNeeded, nearest}
+use Rattle.model.specs.Reading.{ruleOf, numberBy, separatorOf, parityDiffers, twoEnds, rows9To12, rowsSeen, ruleNamed, rowsOf}
+use Rattle.model.specs.Reading.{allowed, residual, nearestIn, bitsNeeded, nearest}
 use Rattle.model.specs.Answers.{summaryOf, cardAnswer, writeRefusal, writeAnswer, lentAfterWrite}
 use Rattle.model.specs.Answers.{spareSet, rowsOfWord, readRefusal, readAnswer, millimetresRefusal, millimetresAnswer}
 use Rattle.model.specs.Levels.{magnitude, infinite, outside, anyOutside, told, toldAt, isHeard, bitTold, plusLevel, sumOfLevels}
@@ -43,7 +44,7 @@ unfolding sumBelow sumOver distance distanceHeard lostBelow joinAt
     magnitude infinite outside anyOutside told toldAt isHeard bitTold plusLevel sumOfLevels
     separatorReading chunkWrong withinLosses heardReading seenTold residualHeard withLevel strengthOf
     rowsOfLevels levelsAnswered levelsRefusal levelsAnswer ifServed strengthValues
-    ruleOf numberBy twoEnds rowsSeen ruleNamed rowsOf allowed residual nearestIn bitsNeeded nearest
+    ruleOf numberBy separatorOf parityDiffers twoEnds rows9To12 rowsSeen ruleNamed rowsOf allowed residual nearestIn bitsNeeded nearest
     summaryOf cardAnswer writeRefusal writeAnswer lentAfterWrite spareSet rowsOfWord readRefusal readAnswer millimetresRefusal millimetresAnswer
     makeRefusal makeAnswer voteRefusal voteAnswer
     product those setsOf setsUpTo countOfSets productRow productOf reedMullerCard orderWithinLimits

@@ -1,5 +1,5 @@
 -- Document 01, "Two cards to try": every case marked *, and with them the cards' figures and the refused cards and words that it
--- names; and the borders of document 02's P1 to P5. One table of questions and answers, whose numbers are signed, since a distance
+-- names; and the borders of document 02's P1 to P6. One table of questions and answers, whose numbers are signed, since a distance
 -- may be below zero. That the definitions answer so is one theorem, `starred-cases`. Assumes nothing.
 use mathlib.Core.List.{List, [], _∷_, _++_, map}
 use Prim.Native.Nat.{ℕ, zero, suc, _-_}
@@ -178,6 +178,13 @@ minusInfinity = 0xff800000
 abbrev nearestBelowZero : ℕ
 nearestBelowZero = 0x80000001
 
+-- 3 and -3
+abbrev three : ℕ
+three = 0x40400000
+
+abbrev minusThree : ℕ
+minusThree = 0xc0400000
+
 -- a question and what the documents say
 pub record Case : Type 0 where
   pub question : Question
@@ -334,4 +341,28 @@ starredCases =
     ∷ case (levels cardB (oneBits 3 ++ (aboveMillion ∷ []) ++ zeroBits 11)) (16 ∷ [])
     ∷ case (levels cardB (zeroBits 6 ++ oneBits 3 ++ zeroBits 5 ++ (notANumber ∷ []))) (16 ∷ [])
     ∷ case (levels cardB (zeroBits 6 ++ oneBits 3 ++ zeroBits 6)) (9 ∷ [])
+    -- document 02, P6, on card B: both chunks read 1 and all separators 0, which was read as position 12 (residual 6, rule 3); both read
+    -- 0 and all separators 1; rule 1 with 1 in chunk 1 and separator 1 at 0; rule 2 with 0 in chunk 2 and separator 3 at 1
+    ∷ case (read cardB (0x38 ∷ 0x0e ∷ [])) (17 ∷ [])
+    ∷ case (read cardB (0xc7 ∷ 0x71 ∷ [])) (17 ∷ [])
+    ∷ case (read cardB (0x38 ∷ 0x70 ∷ [])) (17 ∷ [])
+    ∷ case (read cardB (0xc0 ∷ 0x71 ∷ [])) (17 ∷ [])
+    -- 12 before 17, by rules 1 and 2; 11 before 17; and on card A, where no codeword is 100, 10 before 17
+    ∷ case (read cardB (0xc7 ∷ 0x01 ∷ [])) (12 ∷ [])
+    ∷ case (read cardB (0x07 ∷ 0x0e ∷ [])) (12 ∷ [])
+    ∷ case (read cardB (0xc7 ∷ 0x7f ∷ [])) (11 ∷ [])
+    ∷ case (read cardA (0b01100111 ∷ 0b1100 ∷ [])) (10 ∷ [])
+    -- card A: 11 101 11 000 00, by rule 1 with p 2, whose parity separator 3 has, and block p - 1; 11 000 00 110 00, by rule 2 with p 1,
+    -- whose parity separator 1 has; 10 110 00 110 00, by rule 3 with p 1, where separator 1 ties and reads 0
+    ∷ case (read cardA (0b01110111 ∷ 0b0000 ∷ [])) (17 ∷ [])
+    ∷ case (read cardA (0b10000011 ∷ 0b0001 ∷ [])) (17 ∷ [])
+    ∷ case (read cardA (0b10001101 ∷ 0b0001 ∷ [])) (17 ∷ [])
+    -- the first word and the fifth as levels, the first also with two bits of separator 1 lost
+    ∷ case (levels cardB (zeroBits 3 ++ oneBits 3 ++ zeroBits 3 ++ oneBits 3 ++ zeroBits 3)) (17 ∷ [])
+    ∷ case (levels cardB (oneBits 3 ++ zeroBits 3 ++ oneBits 3 ++ zeroBits 6)) (12 ∷ [])
+    ∷ case (levels cardB (lostBits 2 ++ zeroBits 1 ++ oneBits 3 ++ zeroBits 3 ++ oneBits 3 ++ zeroBits 3)) (17 ∷ [])
+    -- a separator is what its levels sum to: -1, -1 and 3 read 0, against both chunks; 1, 1 and -3 read 1, as both chunks ask
+    ∷ case (levels cardB (oneBits 2 ++ (three ∷ []) ++ oneBits 3 ++ oneBits 2 ++ (three ∷ []) ++ oneBits 3 ++ oneBits 2 ++ (three ∷ [])))
+    (17 ∷ [])
+    ∷ case (levels cardB (zeroBits 2 ++ (minusThree ∷ []) ++ oneBits 12)) (0 ∷ 15 ∷ 2 ∷ 3 ∷ 0 ∷ 0 ∷ 0x41880000 ∷ 0x40400000 ∷ [])
     ∷ []

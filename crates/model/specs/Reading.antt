@@ -1,9 +1,9 @@
 -- Document 01, "Reading a word": the separators, the code chunks, the three rules, refusals 9 to 12, and the nearest allowed
--- position; with it, by document 02's P3, how many bits the chunks that the rule names needed. A received word is a bit function
--- here; Answers.antt takes it from bytes. Assumes nothing.
+-- position; with them, by document 02's P6, refusal 17, and by its P3 how many bits the chunks that the rule names needed. A received
+-- word is a bit function here; Answers.antt takes it from bytes. Assumes nothing.
 use mathlib.Core.Bool.{Bool, true, false, cond, not, _&&_, _||_}
-use mathlib.Core.List.{List, [], _∷_}
-use Prim.Native.Nat.{ℕ, _+_, _-_, _*_, _^_, min}
+use mathlib.Core.List.{List, [], _∷_, _++_}
+use Prim.Native.Nat.{ℕ, _+_, _-_, _*_, _%_, _^_, min}
 use lib.Dec.{leb, ltb, eqb}
 use Rattle.bits.specs.Sums.{sumBelow, distance}
 use Rattle.bits.specs.Places.{bit}
@@ -95,6 +95,18 @@ namesSecond rule = eqb rule 2 || eqb rule 3
 unfoldable pub numberBy : Seen → (rule : ℕ) → ℕ
 numberBy s rule = cond (eqb rule 2) (numberRead (s .read₂)) (numberRead (s .read₁))
 
+-- document 02, P6: which separator must be equal to the parity of p, by what the separators read: separator 1 by rules 1 and 3,
+-- separator 3 by rule 2
+unfoldable pub separatorOf : (rule s₁ s₃ : ℕ) → ℕ
+separatorOf rule s₁ s₃ = cond (eqb rule 2) s₃ s₁
+
+abbrev pub separatorBy : Seen → (rule : ℕ) → ℕ
+separatorBy s rule = separatorOf rule (s .s₁) (s .s₃)
+
+-- whether what a separator reads differs from the parity of p
+unfoldable pub parityDiffers : (separator p : ℕ) → Bool
+parityDiffers separator p = not (eqb separator (p % 2))
+
 -- the positions that a rule allows: from low to high, ends included
 pub record Range : Type 0 where
   pub low : ℕ
@@ -127,13 +139,17 @@ twoEnds C =
     }
 
 -- rows 9 to 12 of the table, for what is seen of a word whose separators name this rule, 0 for none
-unfoldable pub rowsSeen : Rules → Seen → (rule : ℕ) → List Row
-rowsSeen R s rule =
+unfoldable pub rows9To12 : Rules → Seen → (rule : ℕ) → List Row
+rows9To12 R s rule =
     refuses 9 (eqb rule 0)
     ∷ refuses 10 (namesFirst rule && unreadable (s .read₁) || namesSecond rule && unreadable (s .read₂))
     ∷ refuses 11 (eqb rule 3 && not (eqb (numberRead (s .read₁)) (numberRead (s .read₂))))
     ∷ refuses 12 (R .noBlock rule (numberBy s rule))
     ∷ []
+
+-- and straight after 12, by document 02's P6, 17: the separator that must be equal to the parity of p differs from it
+unfoldable pub rowsSeen : Rules → Seen → (rule : ℕ) → List Row
+rowsSeen R s rule = rows9To12 R s rule ++ (refuses 17 (parityDiffers (separatorBy s rule) (numberBy s rule)) ∷ [])
 
 -- the positions that a rule allows of what is seen, where none of these rows holds
 abbrev pub rangeSeen : Rules → Seen → (rule : ℕ) → Range

@@ -5,7 +5,6 @@
 use mathlib.Core.Path.{_≡_, refl, _∙_, sym, ap}
 use mathlib.Core.Bool.{Bool, true, false, false≢true}
 use mathlib.Core.List.{List}
-use mathlib.Core.Logic.{⊎-elim}
 use Prim.Native.Nat.{ℕ, _<_}
 use native.Mathlib.Omega.{arith}
 use borrow.Author.Tests.{ltb-true}
@@ -13,34 +12,32 @@ use Rattle.bits.specs.Sums.{distance, everywhere}
 use Rattle.bits.specs.Places.{bit, place}
 use Rattle.bits.proofs.Distance.{distance-ext-left}
 use Rattle.bits.proofs.Places.{place-bit}
-use Rattle.bits.proofs.Numbers.{eq-or-ne}
-use Rattle.model.specs.Refusals.{unlessRefused}
-use Rattle.model.specs.Card.{Code, codeOf, cardRefusal}
+use Rattle.model.specs.Card.{Code, codeOf}
 use Rattle.model.specs.Order.{codeword}
 use Rattle.model.specs.Words.{chunkSize, placesBefore, chunk₁, chunk₂, wordAt, wordBytes}
 use Rattle.model.specs.Reading.{chunkDistance, Seen, seen, ruleSeen, ruleNamed, namesFirst, namesSecond, numberBy}
-use Rattle.model.specs.Reading.{rowsSeen, rowsOf, allowed, residual, bitsNeeded, nearest}
+use Rattle.model.specs.Reading.{allowed, residual, bitsNeeded, nearest}
 use Rattle.model.specs.Levels.{withinLosses, heardReading}
 use Rattle.model.specs.Statuses.{bitsValue}
-use Rattle.model.specs.Answers.{readRefusal, readAnswer, rowsOfWord}
+use Rattle.model.specs.Answers.{readAnswer}
 use Rattle.model.specs.declared.Chunk.{Chunk}
 use Rattle.model.specs.declared.ChunkBits.{ChunkBits}
 use Rattle.model.specs.declared.Reading.{Reading}
-use Rattle.model.specs.declared.ReadAnswer.the-variants.{At, Refused}
+use Rattle.model.specs.declared.ReadAnswer.the-variants.{At}
 use Rattle.code_theory.specs.Promise.{ChunkPromise}
-use Rattle.code_theory.proofs.Refusals.{NoneHolds, numbered, none-refuses, none-holds, served-if-none, refused-if-some, none-past-card}
 use Rattle.code_theory.proofs.ChunkReading.{plain-count}
 use Rattle.position_theory.specs.Damage.{turnedIn}
-use Rattle.position_theory.specs.SeenChunks.{SeesChunks}
+use Rattle.position_theory.specs.SeenChunks.{SeesChunks, NamedReads}
 use Rattle.position_theory.specs.Nearest.{refusalOf, allowedBy}
 use Rattle.position_theory.specs.ChunkBits.{TellsBits, TellsWrong, BitsOfChunks, WrongOfChunks}
 use Rattle.position_theory.specs.ChunkBits.{TellsBitsOfChunks, NeededAsTurned}
-use Rattle.position_theory.proofs.RuleReads.{NamedReads, reads-in-code, word-reads}
+use Rattle.position_theory.proofs.RuleReads.{reads-in-code, word-reads}
 use Rattle.position_theory.proofs.PlainSeen.{plain-sees-chunks}
 use Rattle.position_theory.proofs.WordBytes.{place-of-word, readingOfSeen, reading, read-if-whole}
 use Rattle.position_theory.proofs.NamedChunks.{InRange, named-hold}
 use Rattle.position_theory.proofs.BoundedError.{turned-in-ext, plain-allowed}
 use Rattle.position_theory.proofs.Demands.{card-promise, read-sound}
+use Rattle.position_theory.proofs.ReadWords.{read-if-served, read-shows}
 
 module _ (C : Code) (promise : ChunkPromise C) where
   -- the bits of a chunk that reads as codeword p where it is named
@@ -91,26 +88,12 @@ module _ (C : Code) (promise : ChunkPromise C) where
         second = plain-tells _ _ _ _ (bits .second);
       }
 
--- a word is read where no refusal holds, and what is answered is its reading
-pub read-if-served : (refusal : ℕ) (reading r : Reading) → unlessRefused refusal Refused (At reading) ≡ At r → (refusal ≡ 0) × (reading ≡ r)
-read-if-served refusal reading r answered =
-    ⊎-elim
-    (λ (none : refusal ≡ 0).
-    let same : At reading ≡ At r = sym (served-if-none refusal Refused (At reading) none) ∙ answered in (none, cc))
-    (λ (some : refusal ≡ 0 → ⊥).
-    let clash : Refused refusal ≡ At r = sym (refused-if-some refusal Refused (At reading) some) ∙ answered in
-    let no : _≡_ {A = ℕ} 0 1 = cc in absurd (omega arith))
-    (eq-or-ne refusal 0)
-
 -- of every card and word as bytes
 pub tells-bits-of-chunks : (card received : List ℕ) → TellsBitsOfChunks card received (readAnswer card received)
-unfolding TellsBitsOfChunks readAnswer readRefusal rowsOfWord rowsOf allowed ruleNamed rowsSeen NoneHolds numbered
+unfolding TellsBitsOfChunks allowed ruleNamed
 tells-bits-of-chunks card received r answered =
-    let (none, is) = read-if-served _ _ _ answered in
-    let (sound, none-of-word) = none-past-card (cardRefusal card) (rowsOfWord (codeOf card) received) none in
-    let (_, (_, none-of-rows)) = none-holds (rowsOfWord (codeOf card) received) refl none-of-word in
-    rw (← is)
-    (bits-of-chunks (codeOf card) (card-promise card sound) (place received) (none-refuses (rowsOf (codeOf card) (place received)) none-of-rows))
+    let (sound, none, is) = read-shows card received r answered in
+    rw (← is) (bits-of-chunks (codeOf card) (card-promise card sound) (place received) none)
 
 -- the bits of a chunk that is named are those in which it differs from any chunk that holds its codeword
 needed-is : (C : Code) (named : Bool) (chunk : ℕ → ℕ) (p : ℕ) (answered : ChunkBits) → TellsBits C named chunk p answered

@@ -16,5 +16,7 @@ pub mod Nearest
 pub mod BoundedError
 pub mod DistinctWords
 pub mod Demands
+pub mod ReadWords
 pub mod ChunkBits
+pub mod Contradictions
 pub mod Writing

@@ -1,8 +1,9 @@
--- Where no row of the table holds of what is seen of a word, its separators name a rule, the rule's block exists, and each code chunk that
--- the rule names reads as one number, the one that the rule goes by. Assumes nothing.
+-- Where no row of the table holds of what is seen of a word, its separators name a rule, the rule's block exists, each code chunk that
+-- the rule names reads as one number, the one that the rule goes by, and the separator that the rule holds against it reads its parity.
+-- Assumes nothing.
 use mathlib.Core.Path.{_≡_, refl, sym, ap, _∙_}
 use mathlib.Core.Bool.{Bool, true, false, not, true≢false, false≢true}
-use Prim.Native.Nat.{ℕ, _≤_}
+use Prim.Native.Nat.{ℕ, _%_, _≤_}
 use native.Mathlib.Omega.{arith}
 use borrow.Author.Tests.{eqb-true}
 use lib.Dec.{eqb}
@@ -10,15 +11,15 @@ use Rattle.bits.proofs.Numbers.{or-false-left, or-false-right}
 use Rattle.model.specs.Refusals.{firstRefusal}
 use Rattle.model.specs.Card.{Code}
 use Rattle.model.specs.Order.{lastCodeword}
-use Rattle.model.specs.Reading.{unreadable, numberRead, Seen, ruleSeen, namesFirst, namesSecond, numberBy, Rules, twoEnds, rowsSeen}
+use Rattle.model.specs.Reading.{unreadable, numberRead, Seen, ruleSeen, namesFirst, namesSecond, numberBy}
+use Rattle.model.specs.Reading.{separatorOf, separatorBy, parityDiffers, Rules, twoEnds, rows9To12, rowsSeen}
 use Rattle.model.specs.declared.Chunk.{Chunk}
 use Rattle.model.specs.declared.Chunk.the-variants.{Codeword, Unreadable}
 use Rattle.code_theory.specs.Promise.{ChunkPromise}
 use Rattle.code_theory.proofs.Refusals.{NoneHolds, numbered, none-holds}
-use Rattle.position_theory.specs.SeenChunks.{SeesChunks}
+use Rattle.position_theory.specs.SeenChunks.{SeesChunks, ReadsAs, NamedReads}
 use Rattle.position_theory.specs.Nearest.{refusalOf}
 use Rattle.position_theory.proofs.Separators.{of-every-rule}
-use Rattle.position_theory.proofs.Telling.{ReadsAs}
 
 -- a chunk reads as a codeword whose number is of some kind, if any
 abbrev pub ReadsKind : (Kind : ℕ → Type 0) → Chunk → Type 0
@@ -38,10 +39,6 @@ reads-in-code C promise sees = (
   λ p e read. promise .chunks _ .within _ p e (sym (sees .second) ∙ read) .0,
 )
 
--- a chunk that is named reads as codeword number p
-abbrev pub NamedReads : (named : Bool) → Chunk → (p : ℕ) → Type 0
-NamedReads named read p = named ≡ true → ReadsAs read p
-
 -- what is known of a rule, where chunks read numbers of some kind only
 pub record RuleReads (R : Rules) (s : Seen) (Kind : ℕ → Type 0) (rule : ℕ) : Type 0 where
   pub some-rule : rule ≡ 0 → ⊥
@@ -49,12 +46,18 @@ pub record RuleReads (R : Rules) (s : Seen) (Kind : ℕ → Type 0) (rule : ℕ)
   pub block : R .noBlock rule (numberBy s rule) ≡ false
   pub first : NamedReads (namesFirst rule) (s .read₁) (numberBy s rule)
   pub second : NamedReads (namesSecond rule) (s .read₂) (numberBy s rule)
+  pub parity : separatorBy s rule ≡ numberBy s rule % 2
 
 -- a chunk that is not unreadable reads as its number
 readable : (read : Chunk) → unreadable read ≡ false → ReadsAs read (numberRead read)
 unfolding unreadable numberRead
 readable (Codeword p e) is = (e, refl)
 readable Unreadable is = absurd (true≢false is)
+
+-- and one that reads as p has that number
+pub number-of : (read : Chunk) {p : ℕ} → ReadsAs read p → numberRead read ≡ p
+unfolding numberRead
+number-of read reads = rw (reads .1)
 
 -- two numbers that no test finds unlike
 same-number : (a b : ℕ) → not (eqb a b) ≡ false → a ≡ b
@@ -66,11 +69,11 @@ same-number a b alike = eqb-true a b (holds (eqb a b) alike)
 
 module _ (R : Rules) (s : Seen) (Kind : ℕ → Type 0) (kinds : BothRead Kind s) where
   pub rule-reads : firstRefusal (rowsSeen R s (ruleSeen s)) ≡ 0 → RuleReads R s Kind (ruleSeen s)
-  unfolding NoneHolds numbered rowsSeen numberBy
+  unfolding NoneHolds numbered rowsSeen rows9To12 numberBy separatorOf parityDiffers
   rule-reads none =
       of-every-rule (λ rule. NoneHolds (rowsSeen R s rule) → RuleReads R s Kind rule)
       (λ holds. absurd (true≢false (holds .0)))
-      (λ (_, (row, (_, (block, _)))).
+      (λ (_, (row, (_, (block, (agrees, _))))).
       let read = readable (s .read₁) (or-false-left _ _ row) in
       record {
         some-rule = λ e. omega arith;
@@ -78,8 +81,9 @@ module _ (R : Rules) (s : Seen) (Kind : ℕ → Type 0) (kinds : BothRead Kind s
         block = block;
         first = λ named. read;
         second = λ named. absurd (false≢true named);
+        parity = same-number _ _ agrees;
       })
-      (λ (_, (row, (_, (block, _)))).
+      (λ (_, (row, (_, (block, (agrees, _))))).
       let read = readable (s .read₂) row in
       record {
         some-rule = λ e. omega arith;
@@ -87,8 +91,9 @@ module _ (R : Rules) (s : Seen) (Kind : ℕ → Type 0) (kinds : BothRead Kind s
         block = block;
         first = λ named. absurd (false≢true named);
         second = λ named. read;
+        parity = same-number _ _ agrees;
       })
-      (λ (_, (row, (alike, (block, _)))).
+      (λ (_, (row, (alike, (block, (agrees, _))))).
       let read = readable (s .read₁) (or-false-left _ _ row) in
       let (e, read′) = readable (s .read₂) (or-false-right (unreadable (s .read₁)) _ row) in
       record {
@@ -97,6 +102,7 @@ module _ (R : Rules) (s : Seen) (Kind : ℕ → Type 0) (kinds : BothRead Kind s
         block = block;
         first = λ named. read;
         second = λ named. (e, read′ ∙ ap (λ (p : ℕ). Codeword p e) (sym (same-number _ _ alike)));
+        parity = same-number _ _ agrees;
       })
       (s .s₁) (s .s₂) (s .s₃) (none-holds _ refl none)
 

@@ -17,17 +17,11 @@ use Rattle.model.specs.Order.{codeword, lastCodeword}
 use Rattle.model.specs.Words.{chunkSize, placesBefore, chunkOf, word}
 use Rattle.model.specs.Reading.{Seen}
 use Rattle.model.specs.Levels.{chunkWrong, withinLosses, heardReading}
-use Rattle.model.specs.declared.Chunk.{Chunk}
-use Rattle.model.specs.declared.Chunk.the-variants.{Codeword}
 use Rattle.code_theory.specs.Promise.{ChunkPromise}
 use Rattle.position_theory.specs.Damage.{wrongIn, lostIn, ChunkBelowD}
-use Rattle.position_theory.specs.SeenChunks.{SeesChunks}
-use Rattle.position_theory.proofs.Words.{content}
+use Rattle.position_theory.specs.SeenChunks.{SeesChunks, ReadsAs}
+use Rattle.position_theory.proofs.Words.{content, word-chunk}
 use Rattle.position_theory.proofs.Between.{Next, WholeAt, chunk-ahead, chunk-passed}
-
--- a code chunk reads as codeword number p
-abbrev pub ReadsAs : Chunk → (p : ℕ) → Type 0
-ReadsAs read p = (e : ℕ) × (read ≡ Codeword p e)
 
 -- what is seen of chunk c tells the number j
 unfoldable pub Tells : Seen → (c j : ℕ) → Type 0
@@ -81,6 +75,10 @@ module _ (C : Code) (promise : ChunkPromise C) {heard : ℕ → Bool} {x : ℕ �
       rw (sees .chunks .second) (code-reads C promise _ j _ _ h same d)
   chunk-tells u (suc (suc (suc (suc zero)))) j b h same d = sees .separator₃ .tells (j % 2) _ (omega arith) same d
   chunk-tells u (suc (suc (suc (suc (suc c))))) j b h same d = absurd (omega arith)
+
+  -- so a chunk of w(j) tells j
+  pub word-tells : (c j : ℕ) → c < 5 → j ≤ lastCodeword C → ChunkBelowD C heard (word C j) x c → Tells s c j
+  word-tells c j b h d = chunk-tells (word C j) c j b h (word-chunk C j c b) d
 
   -- m steps on the way from w(i) to w(j), where every whole chunk has 2 × wrong + lost below D
   pub whole-tell : {i j A : ℕ} → Next C i j A → (m : ℕ)

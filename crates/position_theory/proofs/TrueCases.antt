@@ -9,8 +9,9 @@ use Rattle.bits.specs.Sums.{unlike}
 use Rattle.bits.proofs.Numbers.{lt-or-le, eq-or-ne}
 use Rattle.model.specs.Words.{chunkSize, placesBefore}
 use Rattle.model.specs.Reading.{Seen, ruleSeen}
+use Rattle.position_theory.specs.SeenChunks.{ReadsAs}
 use Rattle.position_theory.proofs.Separators.{rule₁-named, rule₂-named, rule₃-named}
-use Rattle.position_theory.proofs.Telling.{ReadsAs, Tells, WholeTell}
+use Rattle.position_theory.proofs.Telling.{Tells, WholeTell}
 
 pub data TrueCase (D A i j m : ℕ) (s : Seen) : Type 0 where
   -- rule 3 around w(i)

@@ -41,7 +41,7 @@ NoOtherPositionsWord card position written =
     (other : ℕ) → other ≤ lastPosition (codeOf card) → wordBytes (codeOf card) other ≡ written → other ≡ position
 
 -- Demand 2, reading, for a sound card and a word of the right length with spare bits zero: the answer is the allowed position
--- nearest to the word, or the refusal by the first of rows 9 to 12 that holds, and a residual is the count of differing bits
+-- nearest to the word, or the refusal by the first of rows 9 to 12 and 17 that holds, and a residual is the count of differing bits
 unfoldable pub NearestOfAllowed : (card received : List ℕ) → ReadAnswer → Type 0
 NearestOfAllowed card received answer =
     SoundCard card → length received ≡ wordLength (codeOf card) → spareSet (codeOf card) received ≡ false

@@ -9,14 +9,14 @@ use Rattle.model.specs.Reading.{Seen, seen, ruleSeen, Range, twoEnds, rowsSeen,
 use Rattle.model.specs.declared.ReadAnswer.{ReadAnswer}
 use Rattle.model.specs.declared.ReadAnswer.the-variants.{At, Refused}
 
--- the refusal by rows 9 to 12 of what is seen, 0 where none of them holds; and the positions that its rule allows
+-- the refusal by rows 9 to 12 and 17 of what is seen, 0 where none of them holds; and the positions that its rule allows
 abbrev pub refusalOf : Code → Seen → ℕ
 refusalOf C s = firstRefusal (rowsSeen (twoEnds C) s (ruleSeen s))
 
 abbrev pub allowedBy : Code → Seen → Range
 allowedBy C s = rangeSeen (twoEnds C) s (ruleSeen s)
 
--- none of rows 9 to 12 holds, the position q is allowed by this rule, the one named, and on the track, no allowed one is nearer, none
+-- none of these rows holds, the position q is allowed by this rule, the one named, and on the track, no allowed one is nearer, none
 -- smaller is as near, and e is its residual
 pub record NearestOf (C : Code) (s : Seen) (residualAt : ℕ → ℕ) (q e rule : ℕ) : Type 0 where
   pub none-refuses : refusalOf C s ≡ 0

@@ -14,7 +14,7 @@ use Rattle.bits.proofs.Heard.{heard-ext}
 use Rattle.model.specs.Refusals.{firstRefusal, unlessRefused}
 use Rattle.model.specs.Answers.{wordLength, spareSet, rowsOfWord, readWord}
 use Rattle.model.specs.Card.{Code}
-use Rattle.model.specs.Reading.{seen, ruleNamed, rowsSeen, residual}
+use Rattle.model.specs.Reading.{seen, ruleNamed, separatorBy, rows9To12, rowsSeen, residual}
 use Rattle.model.specs.Levels.{residualHeard}
 use Rattle.model.specs.Words.{wordBits}
 use Rattle.model.specs.declared.ReadAnswer.{ReadAnswer}
@@ -67,12 +67,13 @@ module _ (C : Code) (received : List ℕ) (whole : length received ≡ wordLengt
   module _ (none : ones ≡ 0) where
     -- the array that holds the received word is answered by the rule that is named, where all of it is heard
     pub read-by-rule : Sound C → (x h : List ℕ) → place x ≡ place received → ((p : ℕ) → p < 320 → place h p ≡ 1) → (answer : ReadAnswer)
-        → AnswersRule C x h (ruleNamed C (place received)) answer → answer ≡ readWord C received
+        → let rule : ℕ = ruleNamed C (place received) in
+        AnswersRule C x h rule (separatorBy (seen C (place received)) rule) answer → answer ≡ readWord C received
     unfolding answerBy readingOfSeen ruleNamed
     read-by-rule sound x h same all answer by-rule =
-        by-rule (seen C (place x)) (plain-in-array C sound x h all)
+        by-rule (seen C (place x)) (plain-in-array C sound x h all) (rw same)
         ∙ rw (plain-residual-in C sound x h all, same) (sym (read-if-whole C received whole (none-spare none)))
 
     pub refused-9 : ruleNamed C (place received) ≡ 0 → Refused 9 ≡ readWord C received
-    unfolding readingOfSeen ruleNamed rowsSeen firstRefusal unlessRefused
+    unfolding readingOfSeen ruleNamed rowsSeen rows9To12 firstRefusal unlessRefused
     refused-9 unnamed = rw (read-if-whole C received whole (none-spare none), unnamed)

@@ -1,18 +1,19 @@
 -- What each rule answers, by what its chunks read as: one law for each way out of the code. A chunk that is unreadable is refusal 10;
--- chunks that read differently are 11; a block that does not exist is 12. What a search of the allowed positions has found is answered
--- with the bits that the rule's chunks needed. Assumes nothing.
-use mathlib.Core.Path.{_≡_, refl}
-use mathlib.Core.Bool.{Bool}
-use mathlib.Core.List.{List}
+-- chunks that read differently are 11; a block that does not exist is 12; a separator that contradicts the codeword is 17. What a search of
+-- the allowed positions has found is answered with the bits that the rule's chunks needed. Assumes nothing.
+use mathlib.Core.Path.{_≡_, refl, sym, _∙_}
+use mathlib.Core.Bool.{Bool, true, false, _||_}
+use mathlib.Core.List.{List, [], _∷_}
 use Prim.Native.Nat.{ℕ}
-use borrow.Author.Tests.{eq-eqb, ne-eqb}
+use borrow.Author.Tests.{eqb-false, eq-eqb, ne-eqb}
+use lib.Dec.{eqb}
 use Rattle.bits.specs.Sums.{fromPlace, marked}
 use Rattle.bits.specs.Places.{place}
-use Rattle.model.specs.Refusals.{firstRefusal, unlessRefused}
+use Rattle.model.specs.Refusals.{refuses, firstRefusal, unlessRefused}
 use Rattle.model.specs.Card.{Code}
 use Rattle.model.specs.Order.{lastCodeword}
-use Rattle.model.specs.Reading.{unreadable, numberRead, Seen, namesFirst, namesSecond, numberBy}
-use Rattle.model.specs.Reading.{Range, range₁, range₂, range₃, twoEnds, rowsSeen, nearestIn, bitsNeeded, nearest}
+use Rattle.model.specs.Reading.{unreadable, numberRead, Seen, namesFirst, namesSecond, numberBy, separatorBy, parityDiffers}
+use Rattle.model.specs.Reading.{Range, range₁, range₂, range₃, twoEnds, rows9To12, rowsSeen, rangeSeen, nearestIn, bitsNeeded, nearest}
 use Rattle.model.specs.Words.{chunk₁, chunk₂}
 use Rattle.model.specs.Levels.{heardReading}
 use Rattle.model.specs.declared.Chunk.{Chunk}
@@ -21,6 +22,7 @@ use Rattle.model.specs.declared.ChunkBits.{ChunkBits}
 use Rattle.model.specs.declared.ChunkBits.the-variants.{Differing, NotRead}
 use Rattle.model.specs.declared.ReadAnswer.{ReadAnswer}
 use Rattle.model.specs.declared.ReadAnswer.the-variants.{At, Refused}
+use Rattle.code_theory.proofs.Refusals.{NoneHolds, numbered, none-holds, served-if-none, refused-if-some}
 use Rattle.reader.specs.declared.scan.Scan.{Scan}
 use Rattle.reader.specs.Received.{residualIn, SearchedRange, foundAt, answerBy}
 
@@ -29,12 +31,48 @@ pub read-from : (C : Code) (heard : ℕ → Bool) (x : ℕ → ℕ) (at there : 
     → heardReading C (fromPlace at heard) (fromPlace at x) ≡ heardReading C (fromPlace there heard) (fromPlace there x)
 read-from C heard x at there e = rw e
 
+-- what a test of one separator has told is so of what is seen of that separator
+pub differs-told : {found : Bool} {separator held : ℕ} (p : ℕ) → found ≡ parityDiffers separator p → held ≡ separator
+    → parityDiffers held p ≡ found
+differs-told p told same = rw same (sym told)
+
+-- where neither of rows 12 and 17 refuses codeword p, it is not the one at the track's end
+pub not-at-end : (p end : ℕ) (differs : Bool) (refusal : ℕ) → refusal ≡ firstRefusal (refuses 12 (eqb p end) ∷ refuses 17 differs ∷ [])
+    → refusal ≡ 0 → p ≡ end → ⊥
+unfolding NoneHolds numbered
+not-at-end p end differs refusal is none =
+    eqb-false p end (none-holds (refuses 12 (eqb p end) ∷ refuses 17 differs ∷ []) refl (sym is ∙ none) .0)
+
+or-none : (a : Bool) → (a || false) ≡ a
+or-none true = refl
+or-none false = refl
+
 -- what the code chunks of the word in the array x read as, over the places marked in h
 abbrev pub chunk₁In : Code → (x h : List ℕ) → Chunk
 chunk₁In C x h = heardReading C (chunk₁ C (marked (place h))) (chunk₁ C (place x))
 
 abbrev pub chunk₂In : Code → (x h : List ℕ) → Chunk
 chunk₂In C x h = heardReading C (chunk₂ C (marked (place h))) (chunk₂ C (place x))
+
+-- where its chunk reads p, rows 12 and 17 are left to rule 1 or 2, and the positions that it allows go by p
+module _ (C : Code) (s : Seen) (p e : ℕ) where
+  pub rule₁-refusal : s .read₁ ≡ Codeword p e → (differs : Bool) → parityDiffers (separatorBy s 1) p ≡ differs
+      → firstRefusal (refuses 12 (eqb p 0) ∷ refuses 17 differs ∷ []) ≡ firstRefusal (rowsSeen (twoEnds C) s 1)
+  unfolding rowsSeen rows9To12 unreadable numberBy numberRead twoEnds firstRefusal
+  rule₁-refusal r differs is = rw (r, is, or-none (eqb p 0))
+
+  pub rule₁-range : s .read₁ ≡ Codeword p e → range₁ C p ≡ rangeSeen (twoEnds C) s 1
+  unfolding numberBy numberRead twoEnds
+  rule₁-range r = rw r
+
+  pub rule₂-refusal : s .read₂ ≡ Codeword p e → (differs : Bool) → parityDiffers (separatorBy s 2) p ≡ differs
+      → firstRefusal (refuses 12 (eqb p (lastCodeword C)) ∷ refuses 17 differs ∷ []) ≡ firstRefusal (rowsSeen (twoEnds C) s 2)
+  unfolding rowsSeen rows9To12 unreadable numberBy numberRead twoEnds firstRefusal
+  rule₂-refusal r differs is = rw (r, is)
+
+  pub rule₂-range : s .read₂ ≡ Codeword p e → range₂ C p ≡ rangeSeen (twoEnds C) s 2
+  unfolding numberBy numberRead twoEnds
+  rule₂-range r = rw r
 
 -- what is seen of that word
 module _ (C : Code) (x h : List ℕ) (s : Seen) where
@@ -51,60 +89,59 @@ module _ (C : Code) (x h : List ℕ) (s : Seen) where
       let scanned = searched .scanned in
       rw (← (searched .low), ← (searched .high), ← (scanned .nearest), scanned .least, is₁, is₂)
 
+  -- what a rule answers by the refusal that its rows give: that refusal, or the nearest position where there is none
+  module _ (rule refusal : ℕ) (is : refusal ≡ firstRefusal (rowsSeen (twoEnds C) s rule)) where
+    pub refused-by-rule : (refusal ≡ 0 → ⊥) → Refused refusal ≡ answerBy C s (residualIn C x h) rule
+    unfolding answerBy
+    refused-by-rule some = rw (← is) (sym (refused-if-some refusal Refused _ some))
+
+    pub served-by-rule : refusal ≡ 0 → nearestBy rule (rangeSeen (twoEnds C) s rule) ≡ answerBy C s (residualIn C x h) rule
+    unfolding answerBy
+    served-by-rule none = sym (served-if-none _ Refused _ (sym is ∙ none))
+
   pub rule₁-unreadable : s .read₁ ≡ Unreadable → Refused 10 ≡ answerBy C s (residualIn C x h) 1
-  unfolding answerBy rowsSeen unreadable firstRefusal unlessRefused
+  unfolding answerBy rowsSeen rows9To12 unreadable firstRefusal unlessRefused
   rule₁-unreadable r = rw r
 
   pub rule₂-unreadable : s .read₂ ≡ Unreadable → Refused 10 ≡ answerBy C s (residualIn C x h) 2
-  unfolding answerBy rowsSeen unreadable firstRefusal unlessRefused
+  unfolding answerBy rowsSeen rows9To12 unreadable firstRefusal unlessRefused
   rule₂-unreadable r = rw r
 
   pub rule₃-unreadable : s .read₁ ≡ Unreadable → Refused 10 ≡ answerBy C s (residualIn C x h) 3
-  unfolding answerBy rowsSeen unreadable firstRefusal unlessRefused
+  unfolding answerBy rowsSeen rows9To12 unreadable firstRefusal unlessRefused
   rule₃-unreadable r = rw r
 
   module _ (p e : ℕ) where
-    pub rule₁-no-block : s .read₁ ≡ Codeword p e → p ≡ 0 → Refused 12 ≡ answerBy C s (residualIn C x h) 1
-    unfolding answerBy rowsSeen unreadable numberBy numberRead twoEnds firstRefusal unlessRefused
-    rule₁-no-block r first = rw (r, eq-eqb p 0 first)
-
     pub rule₁-found : s .read₁ ≡ Codeword p e → (range : Range) (scan : Scan) → SearchedRange C x h range scan
         → foundAt scan 1 (Differing e) NotRead ≡ nearestBy 1 range
     unfolding bitsNeeded
     rule₁-found r range scan searched = answer-of-search 1 range scan searched _ _ (rw r) refl
-
-    pub rule₁-answers : s .read₁ ≡ Codeword p e → (p ≡ 0 → ⊥) → nearestBy 1 (range₁ C p) ≡ answerBy C s (residualIn C x h) 1
-    unfolding answerBy rowsSeen unreadable numberBy numberRead twoEnds firstRefusal unlessRefused
-    rule₁-answers r later = rw (r, ne-eqb p 0 later)
-
-    pub rule₂-no-block : s .read₂ ≡ Codeword p e → p ≡ lastCodeword C → Refused 12 ≡ answerBy C s (residualIn C x h) 2
-    unfolding answerBy rowsSeen unreadable numberBy numberRead twoEnds firstRefusal unlessRefused
-    rule₂-no-block r last = rw (r, eq-eqb p (lastCodeword C) last)
 
     pub rule₂-found : s .read₂ ≡ Codeword p e → (range : Range) (scan : Scan) → SearchedRange C x h range scan
         → foundAt scan 2 NotRead (Differing e) ≡ nearestBy 2 range
     unfolding bitsNeeded
     rule₂-found r range scan searched = answer-of-search 2 range scan searched _ _ refl (rw r)
 
-    pub rule₂-answers : s .read₂ ≡ Codeword p e → (p ≡ lastCodeword C → ⊥) → nearestBy 2 (range₂ C p) ≡ answerBy C s (residualIn C x h) 2
-    unfolding answerBy rowsSeen unreadable numberBy numberRead twoEnds firstRefusal unlessRefused
-    rule₂-answers r earlier = rw (r, ne-eqb p (lastCodeword C) earlier)
-
     pub rule₃-second-unreadable : s .read₁ ≡ Codeword p e → s .read₂ ≡ Unreadable → Refused 10 ≡ answerBy C s (residualIn C x h) 3
-    unfolding answerBy rowsSeen unreadable firstRefusal unlessRefused
+    unfolding answerBy rowsSeen rows9To12 unreadable firstRefusal unlessRefused
     rule₃-second-unreadable r r′ = rw (r, r′)
 
     module _ (q f : ℕ) where
       pub rule₃-unlike : s .read₁ ≡ Codeword p e → s .read₂ ≡ Codeword q f → (p ≡ q → ⊥) → Refused 11 ≡ answerBy C s (residualIn C x h) 3
-      unfolding answerBy rowsSeen unreadable numberBy numberRead firstRefusal unlessRefused
+      unfolding answerBy rowsSeen rows9To12 unreadable numberBy numberRead firstRefusal unlessRefused
       rule₃-unlike r r′ differ = rw (r, r′, ne-eqb p q differ)
+
+      pub rule₃-contradicted : s .read₁ ≡ Codeword p e → s .read₂ ≡ Codeword q f → p ≡ q → parityDiffers (separatorBy s 3) p ≡ true
+          → Refused 17 ≡ answerBy C s (residualIn C x h) 3
+      unfolding answerBy rowsSeen rows9To12 unreadable numberBy numberRead twoEnds firstRefusal unlessRefused
+      rule₃-contradicted r r′ same differs = rw (r, r′, eq-eqb p q same, differs)
 
       pub rule₃-found : s .read₁ ≡ Codeword p e → s .read₂ ≡ Codeword q f → (range : Range) (scan : Scan)
           → SearchedRange C x h range scan → foundAt scan 3 (Differing e) (Differing f) ≡ nearestBy 3 range
       unfolding bitsNeeded
       rule₃-found r r′ range scan searched = answer-of-search 3 range scan searched _ _ (rw r) (rw r′)
 
-      pub rule₃-answers : s .read₁ ≡ Codeword p e → s .read₂ ≡ Codeword q f → p ≡ q
+      pub rule₃-answers : s .read₁ ≡ Codeword p e → s .read₂ ≡ Codeword q f → p ≡ q → parityDiffers (separatorBy s 3) p ≡ false
           → nearestBy 3 (range₃ C p) ≡ answerBy C s (residualIn C x h) 3
-      unfolding answerBy rowsSeen unreadable numberBy numberRead twoEnds firstRefusal unlessRefused
-      rule₃-answers r r′ same = rw (r, r′, eq-eqb p q same)
+      unfolding answerBy rowsSeen rows9To12 unreadable numberBy numberRead twoEnds firstRefusal unlessRefused
+      rule₃-answers r r′ same agrees = rw (r, r′, eq-eqb p q same, agrees)

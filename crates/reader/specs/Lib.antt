@@ -1,3 +1,4 @@
 pub mod Received
 pub mod Scanned
 pub mod Passing
+pub mod Naming

@@ -10,7 +10,7 @@ use Rattle.model.specs.Refusals.{firstRefusal, unlessRefused}
 use Rattle.model.specs.Card.{Code}
 use Rattle.model.specs.Order.{lastCodeword, start}
 use Rattle.model.specs.Words.{wordBits, word}
-use Rattle.model.specs.Reading.{Seen, Range, twoEnds, rowsSeen, rangeSeen, nearest}
+use Rattle.model.specs.Reading.{Seen, separatorBy, Range, twoEnds, rowsSeen, rangeSeen, nearest}
 use Rattle.model.specs.Levels.{residualHeard}
 use Rattle.model.specs.declared.ChunkBits.{ChunkBits}
 use Rattle.model.specs.declared.ReadAnswer.{ReadAnswer}
@@ -33,14 +33,17 @@ unfoldable pub foundAt : Scan → (rule : ℕ) (chunk1 chunk2 : ChunkBits) → R
 foundAt s rule chunk1 chunk2 =
     At (record { position = s .best; residual = s .least; rule = rule; chunk1 = chunk1; chunk2 = chunk2 })
 
--- what the rule with this number answers of what is seen of a word: refusals 9 to 12, or the nearest position that it allows by this residual
+-- what the rule with this number answers of what is seen of a word: refusals 9 to 12 and 17, or the nearest position that it allows by
+-- this residual
 unfoldable pub answerBy : Code → Seen → (residual : ℕ → ℕ) (rule : ℕ) → ReadAnswer
 answerBy C s residual rule =
     unlessRefused (firstRefusal (rowsSeen (twoEnds C) s rule)) Refused (At (nearest residual s rule (rangeSeen (twoEnds C) s rule)))
 
--- an answer by the rule with this number, for whatever else is seen of the word: the rule goes by the code chunks alone
-abbrev pub AnswersRule : Code → (x h : List ℕ) (rule : ℕ) → ReadAnswer → Type 0
-AnswersRule C x h rule answer = (s : Seen) → SeesIn C x h s → answer ≡ answerBy C s (residualIn C x h) rule
+-- an answer by the rule with this number, whatever else is seen of the word: the rule goes by the code chunks, and by what the one
+-- separator reads that it holds against the parity of p
+abbrev pub AnswersRule : Code → (x h : List ℕ) (rule separator : ℕ) → ReadAnswer → Type 0
+AnswersRule C x h rule separator answer =
+    (s : Seen) → SeesIn C x h s → separatorBy s rule ≡ separator → answer ≡ answerBy C s (residualIn C x h) rule
 
 -- nothing that is heard is set past the word's bits
 unfoldable pub NothingSpare : Code → (x h : List ℕ) → Type 0

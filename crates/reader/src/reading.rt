@@ -1,17 +1,20 @@
-// Reading a received word: the separators name a rule, the rule names code chunks, and these name the positions that it allows. The rules
-// read a word over the places that are heard, which `heard` marks: all of a plain word, and the places that aren't lost of one that comes
-// as levels.
+// Reading a received word: the separators name a rule, the rule names code chunks, and these name the positions that it allows. A separator
+// that contradicts the codeword is refusal 17. The rules read a word over the places that are heard, which `heard` marks: all of a plain
+// word, and the places that aren't lost of one that comes as levels.
 ghost use mathlib.Core.Path.{_≡_};
+ghost use mathlib.Core.List.{[], _∷_};
 ghost use Prim.Native.Nat.{_+_, _≤_};
 ghost use Rattle.bits.specs.Sums.{fromPlace, marked};
 ghost use Rattle.bits.specs.Places.{place};
+ghost use Rattle.model.specs.Refusals.{refuses, firstRefusal};
 ghost use Rattle.model.specs.Answers.{readWord};
 ghost use Rattle.model.specs.Decoded.{meaning};
 ghost use Rattle.model.specs.Words.{wordBits};
-ghost use Rattle.model.specs.Reading.{ruleOf, ruleNamed};
 ghost use Rattle.model.specs.Levels.{heardReading};
 ghost use Rattle.code_theory.specs.Promise.{Sound};
 ghost use Rattle.reader.specs.Received.{NothingSpare, foundAt, AnswersRule};
+use super::naming;
+use super::naming::NamedRule;
 use super::nearest;
 use super::scan::Scan;
 use linear_code::search;
@@ -47,16 +50,32 @@ fn found(s: Scan, rule: u32, chunk1: ChunkBits, chunk2: ChunkBits) -> ReadAnswer
     })
 }
 
-// What rule 1 answers: it reads chunk 1.
-fn by_rule1(code: DecodedCode, x: [u8; 40], heard: [u8; 40]) -> ReadAnswer
+// The refusal of a codeword that a rule has read, by what is tested of it: 12 where the track ends before the rule's block, 17 where the
+// separator differs from the parity of the codeword's number, and 0 where neither is so.
+fn refusal_of(ends: bool, differs: bool) -> u32
+    ensures { λ r. ⌜ r ≡ firstRefusal (refuses 12 ends ∷ refuses 17 differs ∷ []) ⌝ }
+{
+    if ends {
+        return 12;
+    }
+    if differs {
+        return 17;
+    }
+    0
+}
+
+// What rule 1 answers: it reads chunk 1, and `separator` is what separator 1 reads.
+fn by_rule1(code: DecodedCode, x: [u8; 40], heard: [u8; 40], separator: u32) -> ReadAnswer
     requires { ⌜ Sound (meaning code) × NothingSpare (meaning code) x heard ⌝ }
-    ensures { λ r. ⌜ AnswersRule (meaning code) x heard 1 r ⌝ }
+    ensures { λ r. ⌜ AnswersRule (meaning code) x heard 1 separator r ⌝ }
 {
     let at = layout::layout_of(code);
     match chunk_reading(code, x, heard, at.chunk1) {
         Chunk::Codeword { number, unlike } => {
-            if number == 0 {
-                return ReadAnswer::Refused(12);
+            let differs = naming::contradicts(separator, number);
+            let refusal = refusal_of(number == 0, differs);
+            if refusal != 0 {
+                return ReadAnswer::Refused(refusal);
             }
             let s = nearest::nearest_before(code, x, heard, number);
             found(s, 1, ChunkBits::Differing(unlike), ChunkBits::NotRead)
@@ -65,16 +84,18 @@ fn by_rule1(code: DecodedCode, x: [u8; 40], heard: [u8; 40]) -> ReadAnswer
     }
 }
 
-// What rule 2 answers: it reads chunk 2.
-fn by_rule2(code: DecodedCode, x: [u8; 40], heard: [u8; 40]) -> ReadAnswer
+// What rule 2 answers: it reads chunk 2, and `separator` is what separator 3 reads.
+fn by_rule2(code: DecodedCode, x: [u8; 40], heard: [u8; 40], separator: u32) -> ReadAnswer
     requires { ⌜ Sound (meaning code) × NothingSpare (meaning code) x heard ⌝ }
-    ensures { λ r. ⌜ AnswersRule (meaning code) x heard 2 r ⌝ }
+    ensures { λ r. ⌜ AnswersRule (meaning code) x heard 2 separator r ⌝ }
 {
     let at = layout::layout_of(code);
     match chunk_reading(code, x, heard, at.chunk2) {
         Chunk::Codeword { number, unlike } => {
-            if number == blocks::last_codeword(code) {
-                return ReadAnswer::Refused(12);
+            let differs = naming::contradicts(separator, number);
+            let refusal = refusal_of(number == blocks::last_codeword(code), differs);
+            if refusal != 0 {
+                return ReadAnswer::Refused(refusal);
             }
             let s = nearest::nearest_after(code, x, heard, number);
             found(s, 2, ChunkBits::NotRead, ChunkBits::Differing(unlike))
@@ -83,10 +104,10 @@ fn by_rule2(code: DecodedCode, x: [u8; 40], heard: [u8; 40]) -> ReadAnswer
     }
 }
 
-// What rule 3 answers: it reads both chunks, which must read alike.
-fn by_rule3(code: DecodedCode, x: [u8; 40], heard: [u8; 40]) -> ReadAnswer
+// What rule 3 answers: it reads both chunks, which must read alike, and `separator` is what separator 1 reads.
+fn by_rule3(code: DecodedCode, x: [u8; 40], heard: [u8; 40], separator: u32) -> ReadAnswer
     requires { ⌜ Sound (meaning code) × NothingSpare (meaning code) x heard ⌝ }
-    ensures { λ r. ⌜ AnswersRule (meaning code) x heard 3 r ⌝ }
+    ensures { λ r. ⌜ AnswersRule (meaning code) x heard 3 separator r ⌝ }
 {
     let at = layout::layout_of(code);
     let Chunk::Codeword {
@@ -106,6 +127,9 @@ fn by_rule3(code: DecodedCode, x: [u8; 40], heard: [u8; 40]) -> ReadAnswer
     if first != second {
         return ReadAnswer::Refused(11);
     }
+    if naming::contradicts(separator, first) {
+        return ReadAnswer::Refused(17);
+    }
     let s = nearest::nearest_around(code, x, heard, first);
     found(
         s,
@@ -115,46 +139,20 @@ fn by_rule3(code: DecodedCode, x: [u8; 40], heard: [u8; 40]) -> ReadAnswer
     )
 }
 
-// What the rule with this number answers.
-pub fn by_rule(code: DecodedCode, x: [u8; 40], heard: [u8; 40], rule: u32) -> ReadAnswer
-    requires { ⌜ Sound (meaning code) × NothingSpare (meaning code) x heard × (1 ≤ rule) × (rule ≤ 3) ⌝ }
-    ensures { λ r. ⌜ AnswersRule (meaning code) x heard rule r ⌝ }
+// What the named rule answers.
+pub fn by_rule(code: DecodedCode, x: [u8; 40], heard: [u8; 40], named: NamedRule) -> ReadAnswer
+    requires { ⌜ Sound (meaning code) × NothingSpare (meaning code) x heard × (1 ≤ named .rule) × (named .rule ≤ 3) ⌝ }
+    ensures { λ r. ⌜ AnswersRule (meaning code) x heard (named .rule) (named .separator) r ⌝ }
 {
+    let rule = named.rule;
+    let separator = named.separator;
     if rule == 1 {
-        return by_rule1(code, x, heard);
+        return by_rule1(code, x, heard, separator);
     }
     if rule == 2 {
-        return by_rule2(code, x, heard);
+        return by_rule2(code, x, heard, separator);
     }
-    by_rule3(code, x, heard)
-}
-
-// The number of the rule that three separators name: 1 for b b c, 2 for b c c, 3 for b b b, and 0 for b c b.
-pub fn rule_of(s1: u32, s2: u32, s3: u32) -> u32
-    ensures { λ r. ⌜ (r ≡ ruleOf s1 s2 s3) × (r ≤ 3) ⌝ }
-{
-    if s1 == s2 {
-        if s2 == s3 {
-            return 3;
-        }
-        return 1;
-    }
-    if s2 == s3 {
-        return 2;
-    }
-    0
-}
-
-// The number of the rule that the separators of a plain word name.
-fn named_rule(code: DecodedCode, x: [u8; 40]) -> u32
-    requires { ⌜ Sound (meaning code) ⌝ }
-    ensures { λ r. ⌜ (r ≡ ruleNamed (meaning code) (place x)) × (r ≤ 3) ⌝ }
-{
-    let at = layout::layout_of(code);
-    let s1 = places::separator_at(x, 0, code.distance);
-    let s2 = places::separator_at(x, at.separator2, code.distance);
-    let s3 = places::separator_at(x, at.separator3, code.distance);
-    rule_of(s1, s2, s3)
+    by_rule3(code, x, heard, separator)
 }
 
 // The reading of a plain word, of any length: all of it is heard.
@@ -168,7 +166,8 @@ pub fn read(code: DecodedCode, word: &[u8]) -> ReadAnswer
     }
     let x = words::received(word);
     let bits = layout::layout_of(code).bits;
-    let rule = named_rule(code, x);
+    let named = naming::named_rule(code, x);
+    let rule = named.rule;
     let spare = places::ones_from(x, bits, 8 * len as u32 - bits);
     if spare != 0 {
         return ReadAnswer::Refused(8);
@@ -176,5 +175,5 @@ pub fn read(code: DecodedCode, word: &[u8]) -> ReadAnswer
     if rule == 0 {
         return ReadAnswer::Refused(9);
     }
-    by_rule(code, x, places::all_heard(), rule)
+    by_rule(code, x, places::all_heard(), named)
 }

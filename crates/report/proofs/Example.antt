@@ -13,7 +13,8 @@ use Rattle.model.specs.Card.{withinLimits, rowTooWide, unusedRowSet, unusedByte
 use Rattle.model.specs.Order.{gray, lastCodeword, codeword, changedRow, changedWeight, start, lastPosition}
 use Rattle.model.specs.Words.{fiveChunks, word, blockOf, wordAt}
 use Rattle.model.specs.Reading.{majority, chunkDistance, withinRadius, readFirst, chunkReading, unreadable, numberRead, seen}
-use Rattle.model.specs.Reading.{ruleOf, numberBy, twoEnds, rowsSeen, ruleNamed, rowsOf, allowed, residual, nearestIn, bitsNeeded, nearest}
+use Rattle.model.specs.Reading.{ruleOf, numberBy, separatorOf, parityDiffers, twoEnds, rows9To12, rowsSeen, ruleNamed, rowsOf}
+use Rattle.model.specs.Reading.{allowed, residual, nearestIn, bitsNeeded, nearest}
 use Rattle.model.specs.Answers.{summaryOf, cardAnswer, spareSet, rowsOfWord, readWord}
 use Rattle.model.specs.CardBytes.{bytesOf, rowBytes, sealed, cardOf}
 use Rattle.model.specs.Cases.{cardB}
@@ -36,7 +37,7 @@ unfolding sumBelow distance joinAt
     gray lastCodeword codeword changedRow changedWeight start lastPosition
     fiveChunks word blockOf wordAt
     majority chunkDistance withinRadius readFirst chunkReading unreadable numberRead seen
-    ruleOf numberBy twoEnds rowsSeen ruleNamed rowsOf allowed residual nearestIn bitsNeeded nearest
+    ruleOf numberBy separatorOf parityDiffers twoEnds rows9To12 rowsSeen ruleNamed rowsOf allowed residual nearestIn bitsNeeded nearest
     summaryOf cardAnswer spareSet rowsOfWord readWord
     bytesOf rowBytes sealed cardOf cardB
     ascii digitsWithin decimal

@@ -38,8 +38,9 @@ returns-3 c =
     let answered = asked .read-levels .ensures in
     let told = c .before .answer .given .1 in
     let nonzero = refusal-nonzero _ _ _ (rw told at (answered .1 .1 .0)) in
-    levels-cross _ _ _ _ (asked .before .before .if1 .left) (asked .before .if2 .left) (asked .read-levels .result) (answered .0)
-    (answered .1 .1 .1 .1 .1 .1 .1 .0) (answered .1 .1 .1 .1 .1 .1 .1 .1) _ _ _
+    levels-cross _ _ _ _ (asked .before .before .if1 .left) (asked .before .if2 .left) (asked .read-levels .result) (answered .0) (answered .1 .1 .0)
+    (answered .1 .1 .1 .1 .1 .1 .1 .0) (answered .1 .1 .1 .1 .1 .1 .1 .1 .0) (answered .1 .1 .1 .1 .1 .1 .1 .1 .1 .0)
+    (answered .1 .1 .1 .1 .1 .1 .1 .1 .1 .1 .0) _ _ _
     (rw told) (rw (ne-eqb _ 0 nonzero)) (rw (ne-eqb _ 0 nonzero))
 
 returns-4 : tie.Need-returns-4
@@ -51,8 +52,9 @@ returns-4 c =
     let alike = asked .before .before .if1 .left in
     let floats = asked .before .if2 .left in
     let told = arm .answer2 .given .1 in
-    levels-cross _ _ _ _ alike floats (asked .read-levels .result) (answered .0)
-    (answered .1 .1 .1 .1 .1 .1 .1 .0) (answered .1 .1 .1 .1 .1 .1 .1 .1) _ _ _
+    levels-cross _ _ _ _ alike floats (asked .read-levels .result) (answered .0) (answered .1 .1 .0)
+    (answered .1 .1 .1 .1 .1 .1 .1 .0) (answered .1 .1 .1 .1 .1 .1 .1 .1 .0) (answered .1 .1 .1 .1 .1 .1 .1 .1 .1 .0)
+    (answered .1 .1 .1 .1 .1 .1 .1 .1 .1 .1 .0) _ _ _
     (rw told)
     (rw (told, c .before .before .put-reading .ensures))
     (rw (told, all-stored (_ ∷ _ ∷ []) _ floats))

@@ -15,14 +15,19 @@ by-rule-requires : tie.Need-by-rule-requires
 by-rule-requires c κs =
     let held = c .before .before in
     let first = held .before .before in
-    let (sound, whole, low, high) = first .pre in
-    (sound, nothing-past (meaning (first .args .code)) (first .args .levels .now) whole _ (held .heard-word .ensures), low, high)
+    let (sound, whole, names, low) = first .pre in (
+      sound,
+      nothing-past (meaning (first .args .code)) (first .args .levels .now) whole _ (held .heard-word .ensures),
+      low,
+      names .one-of-three,
+    )
 
 returns : tie.Need-returns
 returns c =
     let held = c .before .before .before in
     let first = held .before .before in
-    rule-of-told (meaning (first .args .code)) (first .args .levels .now) (first .pre .1) _ (held .heard-word .ensures) _ _ (c .by-rule .ensures)
+    rule-of-told (meaning (first .args .code)) (first .args .levels .now) (first .pre .1) _ (held .heard-word .ensures) _ _
+    (rw (first .pre .2 .separator) at (c .by-rule .ensures))
 
 pub by-rule-spec : {M : Type 1} → statement M
 by-rule-spec = tie.close (tie.spec heard-word-requires by-rule-requires returns)

@@ -19,7 +19,7 @@ returns c =
     first .separator-at .ensures .0 ∙ ap (separatorReading (args .code .distance)) (from-place-zero (toldAt (args .levels .now))) in
     let s₂ = rw (at .separator₂-at) at (second .separator-at2 .ensures .0) in
     let s₃ = rw (at .separator₃-at) at (third .separator-at3 .ensures .0) in
-    (rw (s₁, s₂, s₃) at (c .rule-of .ensures .0), c .rule-of .ensures .1)
+    rw (s₁, s₂, s₃) at (c .named-by .ensures)
 
 pub named-rule-spec : {M : Type 1} → statement M
 named-rule-spec =

@@ -62,8 +62,8 @@ module _ (c : tie.Else2) where
   inside : anyOutside (wordBits (C test)) (levels test) ≡ false
   inside = sym (tested test) ∙ c .if2 .left
 
-  rule : c .before .named-rule .result ≡ ruleSeen (seenTold (C test) (toldAt (levels test)))
-  rule = c .before .named-rule .ensures .0
+  rule : c .before .named-rule .result .rule ≡ ruleSeen (seenTold (C test) (toldAt (levels test)))
+  rule = c .before .named-rule .ensures .rule
 
 returns-3 : tie.Need-returns-3
 returns-3 c =
@@ -73,7 +73,7 @@ returns-3 c =
 by-rule-requires : tie.Need-by-rule-requires
 by-rule-requires c κs =
     let named = c .before in
-    (first (test named) .pre, whole (test named), omega (arith, c .if3 .left), named .before .named-rule .ensures .1)
+    (first (test named) .pre, whole (test named), named .before .named-rule .ensures, omega (arith, c .if3 .left))
 
 -- what the rule answers
 answered : (c : tie.After-by-rule)

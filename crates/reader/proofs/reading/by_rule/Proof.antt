@@ -13,7 +13,7 @@ returns-2 c s sees = rw (c .before .if2 .taken) (c .by-rule2 .ensures s sees)
 
 returns-3 : tie.Need-returns-3
 returns-3 c s sees =
-    let third : c .before .before .before .args .rule ≡ 3 = omega (arith, c .before .if2 .left, c .before .before .if1 .left) in
+    let third : c .before .before .before .args .named .rule ≡ 3 = omega (arith, c .before .if2 .left, c .before .before .if1 .left) in
     rw third (c .by-rule3 .ensures s sees)
 
 pub by-rule-spec : {M : Type 1} → statement M

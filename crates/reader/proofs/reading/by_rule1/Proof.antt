@@ -1,15 +1,19 @@
 -- `reader::reading::by_rule1` meets its contract: each way out is a law of what rule 1 answers, by what chunk 1 reads as. Where it
 -- reads as a codeword other than the first, its number is within the code, by the chunk promise, so there is a block before it
 -- to search. Assumes nothing.
-use mathlib.Core.Path.{_≡_, _∙_, sym}
+use mathlib.Core.Path.{_≡_, _∙_, sym, ap}
 use Rattle.bits.specs.Sums.{marked}
 use Rattle.bits.specs.Places.{place}
 use Rattle.model.specs.Decoded.{meaning}
+use Rattle.model.specs.Refusals.{firstRefusal}
+use Rattle.model.specs.Reading.{Seen, separatorBy, twoEnds, rowsSeen}
 use Rattle.model.specs.declared.Chunk.the-variants.{Codeword}
 use Rattle.code_theory.proofs.Promise.{promise}
 use native.Mathlib.Omega.{arith}
 use borrow.Author.Needs.{needs}
-use Rattle.reader.proofs.RuleAnswers.{chunk₁In, read-from, rule₁-unreadable, rule₁-no-block, rule₁-found, rule₁-answers}
+use Rattle.reader.specs.Received.{SeesIn}
+use Rattle.reader.proofs.RuleAnswers.{read-from, differs-told, not-at-end, chunk₁In, nearestBy, refused-by-rule, served-by-rule}
+use Rattle.reader.proofs.RuleAnswers.{rule₁-unreadable, rule₁-refusal, rule₁-range, rule₁-found}
 use Rattle.reader.proofs.reading.by_rule1.Statement.{statement}
 use Rattle.reader.proofs.reading.by_rule1.Tie as tie
 
@@ -28,26 +32,39 @@ codeword-read : (c : tie.After-number)
     chunk₁In C (first .args .x) (first .args .heard) ≡ Codeword (read .0) (read .1 .0)
 codeword-read c = sym (chunk-read (c .before .before)) ∙ c .number .given .1
 
+-- the refusal is that of the rule's rows, whatever else is seen of the word
+refusal : (c : tie.After-refusal-of) (s : Seen)
+    → let first = c .before .before .before .before .before .before .before in
+    let C = meaning (first .args .code) in
+    SeesIn C (first .args .x) (first .args .heard) s → separatorBy s 1 ≡ first .args .separator
+    → c .refusal-of .result ≡ firstRefusal (rowsSeen (twoEnds C) s 1)
+refusal c s sees separator =
+    let told = c .before in
+    c .refusal-of .ensures
+    ∙ rule₁-refusal _ s _ _ (sees .first ∙ codeword-read (told .before .before)) _ (differs-told _ (told .contradicts .ensures) separator)
+
 returns : tie.Need-returns
-returns c s sees = rule₁-no-block _ _ _ s _ _ (sees .first ∙ codeword-read (c .before .before)) (c .if1 .taken)
+returns c s sees separator = refused-by-rule _ _ _ s 1 _ (refusal (c .before) s sees separator) (c .if1 .taken)
 
 nearest-before-requires : tie.Need-nearest-before-requires
 nearest-before-requires c κs =
-    let known = c .before .before in
+    let known = c .before .before .before .before in
     let first = known .before .before .before .before in
     let bound = promise (meaning (first .args .code)) (first .pre .0) .chunks _ .within _ _ _ (codeword-read known) .0 in
-    (first .pre .0, first .pre .1, omega (arith, c .if1 .left), bound)
+    let later = not-at-end (known .number .given .0 .0) 0 _ _ (c .before .refusal-of .ensures) (c .if1 .left) in
+    (first .pre .0, first .pre .1, omega (arith, later), bound)
 
 returns-2 : tie.Need-returns-2
-returns-2 c s sees =
-    let searched = c .before in
-    let read = sees .first ∙ codeword-read (searched .before .before .before) in
+returns-2 c s sees separator =
+    let served = c .before .before in
+    let read = sees .first ∙ codeword-read (served .before .before .before .before) in
     c .found .ensures
-    ∙ rule₁-found _ _ _ s _ _ read _ _ (searched .nearest-before .ensures)
-    ∙ rule₁-answers _ _ _ s _ _ read (searched .before .if1 .left)
+    ∙ rule₁-found _ _ _ s _ _ read _ _ (c .before .nearest-before .ensures)
+    ∙ ap (nearestBy _ _ _ s 1) (rule₁-range _ s _ _ read)
+    ∙ served-by-rule _ _ _ s 1 _ (refusal (served .before) s sees separator) (served .if1 .left)
 
 returns-3 : tie.Need-returns-3
-returns-3 c s sees = rule₁-unreadable _ _ _ s (sees .first ∙ sym (chunk-read (c .before .before)) ∙ c .enum-told .given .1)
+returns-3 c s sees separator = rule₁-unreadable _ _ _ s (sees .first ∙ sym (chunk-read (c .before .before)) ∙ c .enum-told .given .1)
 
 pub by-rule1-spec : {M : Type 1} → statement M
 by-rule1-spec =
@@ -56,6 +73,8 @@ by-rule1-spec =
     (λ c κs. search needs)
     (λ c κs. search needs)
     (λ c. search needs)
+    (λ c κs. search needs)
+    (λ c κs. search needs)
     returns
     nearest-before-requires
     (λ c κs. search needs)

@@ -1,15 +1,19 @@
 -- `reader::reading::by_rule2` meets its contract: each way out is a law of what rule 2 answers, by what chunk 2 reads as. Where it
 -- reads as a codeword other than the last, its number is below the last's, by the chunk promise, so there is a block after it
 -- to search. Assumes nothing.
-use mathlib.Core.Path.{_≡_, _∙_, sym}
+use mathlib.Core.Path.{_≡_, _∙_, sym, ap}
 use Rattle.bits.specs.Sums.{marked}
 use Rattle.bits.specs.Places.{place}
 use Rattle.model.specs.Decoded.{meaning}
+use Rattle.model.specs.Refusals.{firstRefusal}
+use Rattle.model.specs.Reading.{Seen, separatorBy, twoEnds, rowsSeen}
 use Rattle.model.specs.declared.Chunk.the-variants.{Codeword}
 use Rattle.code_theory.proofs.Promise.{promise}
 use native.Mathlib.Omega.{arith}
 use borrow.Author.Needs.{needs}
-use Rattle.reader.proofs.RuleAnswers.{chunk₂In, read-from, rule₂-unreadable, rule₂-no-block, rule₂-found, rule₂-answers}
+use Rattle.reader.specs.Received.{SeesIn}
+use Rattle.reader.proofs.RuleAnswers.{read-from, differs-told, not-at-end, chunk₂In, nearestBy, refused-by-rule, served-by-rule}
+use Rattle.reader.proofs.RuleAnswers.{rule₂-unreadable, rule₂-refusal, rule₂-range, rule₂-found}
 use Rattle.reader.proofs.reading.by_rule2.Statement.{statement}
 use Rattle.reader.proofs.reading.by_rule2.Tie as tie
 
@@ -28,27 +32,41 @@ codeword-read : (c : tie.After-number)
     chunk₂In C (first .args .x) (first .args .heard) ≡ Codeword (read .0) (read .1 .0)
 codeword-read c = sym (chunk-read (c .before .before)) ∙ c .number .given .1
 
+-- the refusal is that of the rule's rows, whatever else is seen of the word
+refusal : (c : tie.After-refusal-of) (s : Seen)
+    → let first = c .before .before .before .before .before .before .before .before in
+    let C = meaning (first .args .code) in
+    SeesIn C (first .args .x) (first .args .heard) s → separatorBy s 2 ≡ first .args .separator
+    → c .refusal-of .result ≡ firstRefusal (rowsSeen (twoEnds C) s 2)
+refusal c s sees separator =
+    let told = c .before .before in
+    rw (c .before .last-codeword .ensures) at (c .refusal-of .ensures)
+    ∙ rule₂-refusal _ s _ _ (sees .second ∙ codeword-read (told .before .before)) _ (differs-told _ (told .contradicts .ensures) separator)
+
 returns : tie.Need-returns
-returns c s sees = rule₂-no-block _ _ _ s _ _ (sees .second ∙ codeword-read (c .before .before .before)) (c .if1 .taken ∙ c .before .last-codeword .ensures)
+returns c s sees separator = refused-by-rule _ _ _ s 2 _ (refusal (c .before) s sees separator) (c .if1 .taken)
 
 nearest-after-requires : tie.Need-nearest-after-requires
 nearest-after-requires c κs =
-    let known = c .before .before .before in
+    let at-last = c .before .before in
+    let known = at-last .before .before .before in
     let first = known .before .before .before .before in
     let bound = promise (meaning (first .args .code)) (first .pre .0) .chunks _ .within _ _ _ (codeword-read known) .0 in
-    (first .pre .0, first .pre .1, omega (arith, c .if1 .left, c .before .last-codeword .ensures, bound))
+    let not-last =
+    not-at-end (known .number .given .0 .0) (at-last .last-codeword .result) _ _ (c .before .refusal-of .ensures) (c .if1 .left) in
+    (first .pre .0, first .pre .1, omega (arith, not-last, at-last .last-codeword .ensures, bound))
 
 returns-2 : tie.Need-returns-2
-returns-2 c s sees =
-    let searched = c .before in
-    let at-last = searched .before .before in
-    let read = sees .second ∙ codeword-read (at-last .before .before) in
+returns-2 c s sees separator =
+    let served = c .before .before in
+    let read = sees .second ∙ codeword-read (served .before .before .before .before .before) in
     c .found .ensures
-    ∙ rule₂-found _ _ _ s _ _ read _ _ (searched .nearest-after .ensures)
-    ∙ rule₂-answers _ _ _ s _ _ read (λ e. searched .before .if1 .left (e ∙ sym (at-last .last-codeword .ensures)))
+    ∙ rule₂-found _ _ _ s _ _ read _ _ (c .before .nearest-after .ensures)
+    ∙ ap (nearestBy _ _ _ s 2) (rule₂-range _ s _ _ read)
+    ∙ served-by-rule _ _ _ s 2 _ (refusal (served .before) s sees separator) (served .if1 .left)
 
 returns-3 : tie.Need-returns-3
-returns-3 c s sees = rule₂-unreadable _ _ _ s (sees .second ∙ sym (chunk-read (c .before .before)) ∙ c .enum-told .given .1)
+returns-3 c s sees separator = rule₂-unreadable _ _ _ s (sees .second ∙ sym (chunk-read (c .before .before)) ∙ c .enum-told .given .1)
 
 pub by-rule2-spec : {M : Type 1} → statement M
 by-rule2-spec =
@@ -57,6 +75,8 @@ by-rule2-spec =
     (λ c κs. search needs)
     (λ c κs. search needs)
     (λ c. search needs)
+    (λ c κs. search needs)
+    (λ c κs. search needs)
     (λ c κs. search needs)
     returns
     nearest-after-requires

@@ -13,8 +13,9 @@ use Rattle.bits.specs.Places.{place}
 use Rattle.model.specs.Answers.{wordLength, spareSet}
 use Rattle.model.specs.Card.{Code}
 use Rattle.model.specs.Decoded.{meaning}
-use Rattle.model.specs.Reading.{ruleNamed}
+use Rattle.model.specs.Reading.{seen, ruleNamed}
 use Rattle.model.specs.Words.{wordBits}
+use Rattle.reader.specs.Naming.{NamesOf}
 use Rattle.reader.proofs.ReadRefusals.{refused-6, none-spare, refused-8, refused-9, read-by-rule}
 use Rattle.reader.proofs.SpareBits.{spare-test, nothing-spare}
 use Rattle.reader.proofs.reading.read.Statement.{statement}
@@ -24,11 +25,17 @@ use Rattle.reader.proofs.reading.read.Tie as tie
 held : (c : tie.After-received) → place (c .received .result) ≡ place (c .before .before .before .before .args .word .now)
 held c = fun-ext (c .received .ensures)
 
--- the rule is that of the received word
+-- the rule that is named, and its separator, are those of the received word
+named : (c : tie.After-named-rule)
+    → let first = c .before .before .before .before .before .before in
+    NamesOf (seen (meaning (first .args .code)) (place (first .args .word .now))) (c .named-rule .result)
+named c = rw (held (c .before .before)) at (c .named-rule .ensures)
+
 rule : (c : tie.After-named-rule)
     → let first = c .before .before .before .before .before .before in
-    c .named-rule .result ≡ ruleNamed (meaning (first .args .code)) (place (first .args .word .now))
-rule c = c .named-rule .ensures .0 ∙ ap (ruleNamed _) (held (c .before .before))
+    c .named-rule .result .rule ≡ ruleNamed (meaning (first .args .code)) (place (first .args .word .now))
+unfolding ruleNamed
+rule c = named c .rule
 
 -- the count of ones is that of the spare bits
 spare-ones : (c : tie.After-ones-from)
@@ -80,16 +87,17 @@ by-rule-requires c κs =
       first counted .pre,
       nothing-spare (C counted) (received counted) (array .result) (array .ensures) _ (whole counted) none,
       omega (arith, c .before .if3 .left),
-      counted .before .named-rule .ensures .1,
+      counted .before .named-rule .ensures .one-of-three,
     )
 
 returns-4 : tie.Need-returns-4
 returns-4 c =
     let marked = c .before in
     let counted = marked .before .before .before in
-    let named = counted .before in
+    let at-named = counted .before in
     read-by-rule _ _ (whole counted) _ (spare counted) (marked .before .before .if2 .left) (first counted .pre) _ _
-    (held (named .before .before)) (marked .all-heard .ensures) _ (rw (rule named) at (c .by-rule .ensures))
+    (held (at-named .before .before)) (marked .all-heard .ensures) _
+    (rw (named at-named .separator, rule at-named) at (c .by-rule .ensures))
 
 pub read-spec : {M : Type 1} → statement M
 read-spec =

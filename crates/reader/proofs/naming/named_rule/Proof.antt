@@ -1,15 +1,15 @@
--- `reader::reading::named_rule` meets its contract: the three separators are read, each where the layout says, the first at place 0, and
+-- `reader::naming::named_rule` meets its contract: the three separators are read, each where the layout says, the first at place 0, and
 -- name the rule. Assumes nothing.
 use mathlib.Core.Path.{_≡_, ap, _∙_}
 use borrow.Author.Needs.{needs}
 use Rattle.bits.specs.Places.{place}
 use Rattle.bits.proofs.Sums.{from-place-zero}
-use Rattle.model.specs.Reading.{majority, seen, ruleNamed}
-use Rattle.reader.proofs.reading.named_rule.Statement.{statement}
-use Rattle.reader.proofs.reading.named_rule.Tie as tie
+use Rattle.model.specs.Reading.{majority, seen}
+use Rattle.reader.proofs.naming.named_rule.Statement.{statement}
+use Rattle.reader.proofs.naming.named_rule.Tie as tie
 
 returns : tie.Need-returns
-unfolding ruleNamed seen
+unfolding seen
 returns c =
     let third = c .before in
     let second = third .before in
@@ -20,7 +20,7 @@ returns c =
     first .separator-at .ensures ∙ ap (majority (args .code .distance)) (from-place-zero (place (args .x))) in
     let s₂ = rw (at .separator₂-at) at (second .separator-at2 .ensures) in
     let s₃ = rw (at .separator₃-at) at (third .separator-at3 .ensures) in
-    (rw (s₁, s₂, s₃) at (c .rule-of .ensures .0), c .rule-of .ensures .1)
+    rw (s₁, s₂, s₃) at (c .named-by .ensures)
 
 pub named-rule-spec : {M : Type 1} → statement M
 named-rule-spec =

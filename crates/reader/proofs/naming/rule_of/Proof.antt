@@ -1,10 +1,10 @@
--- `reader::reading::rule_of` meets its contract: each way out of the tests is a law on the rule that three separators name.
+-- `reader::naming::rule_of` meets its contract: each way out of the tests is a law on the rule that three separators name.
 -- Assumes nothing.
 use mathlib.Core.Path.{sym}
 use native.Mathlib.Omega.{arith}
 use Rattle.position_theory.proofs.Separators.{rule₁-named, rule₂-named, rule₃-named, none-named}
-use Rattle.reader.proofs.reading.rule_of.Statement.{statement}
-use Rattle.reader.proofs.reading.rule_of.Tie as tie
+use Rattle.reader.proofs.naming.rule_of.Statement.{statement}
+use Rattle.reader.proofs.naming.rule_of.Tie as tie
 
 returns : tie.Need-returns
 returns c = (sym (rule₃-named (c .before .if1 .taken) (c .if2 .taken)), omega arith)

@@ -1,0 +1,43 @@
+-- P6 of cards and levels: what holds of whatever is seen of a word holds of what its levels tell, and the theorems of plain words follow for
+-- levels. Assumes nothing.
+use mathlib.Core.Path.{_≡_, refl}
+use mathlib.Core.List.{List}
+use Prim.Native.Nat.{ℕ}
+use lib.Ieee.{Float}
+use Rattle.model.specs.Card.{codeOf, cardRefusal}
+use Rattle.model.specs.Reading.{ruleSeen, rows9To12, rowsSeen, nearest}
+use Rattle.model.specs.Levels.{toldAt}
+use Rattle.model.specs.Answers.{rowsOfLevels, levelsRefusal, levelsAnswered, levelsAnswer}
+use Rattle.code_theory.proofs.Refusals.{numbered}
+use Rattle.code_theory.proofs.SoundCard.{sound-card}
+use Rattle.position_theory.specs.Contradictions.{contradicted}
+use Rattle.position_theory.proofs.RuleReads.{reads-in-code}
+use Rattle.position_theory.proofs.Contradictions.{parity-agrees, pasted-refused, seventeen-past-card}
+use Rattle.position_theory.proofs.Demands.{card-promise}
+use Rattle.level_theory.specs.LevelContradictions.{seenOf, LevelsReadOnlyIfParityAgrees, PastedLevelsNeverRead}
+use Rattle.level_theory.specs.LevelContradictions.{levelsAnswerBefore, LevelsAsBeforeUnlessContradicted}
+use Rattle.level_theory.proofs.UnitsTold.{unit-told}
+use Rattle.level_theory.proofs.LevelsSeen.{told-sees-chunks, told-sees}
+use Rattle.level_theory.proofs.LevelPromises.{levels-show}
+
+module _ (card : List ℕ) (levels : List Float) where
+  pub levels-read-only-if-parity-agrees : LevelsReadOnlyIfParityAgrees card levels (levelsAnswer card levels .answer)
+  unfolding LevelsReadOnlyIfParityAgrees nearest
+  levels-read-only-if-parity-agrees r answered =
+      let C = codeOf card in
+      let (sound, none, is) = levels-show card levels r answered in
+      rw (← is)
+      (parity-agrees C (seenOf card levels) (reads-in-code C (card-promise card sound) (told-sees-chunks C (toldAt levels))) none)
+
+  pub pasted-levels-never-read : PastedLevelsNeverRead card levels (levelsAnswer card levels .answer)
+  unfolding PastedLevelsNeverRead toldAt
+  pasted-levels-never-read i j pasted r answered =
+      let C = codeOf card in
+      let (sound, none, _) = levels-show card levels r answered in
+      let sees = told-sees C (sound-card card sound) (toldAt levels) (λ p b. unit-told (pasted .units p b)) in
+      pasted-refused C (card-promise card sound) sees i j (pasted .in-code) (pasted .in-code′) (pasted .differ) (pasted .separator)
+      (pasted .chunk) none
+
+  pub levels-as-before-unless-contradicted : LevelsAsBeforeUnlessContradicted card levels (levelsAnswer card levels .answer)
+  unfolding LevelsAsBeforeUnlessContradicted levelsAnswerBefore levelsAnswer levelsAnswered levelsRefusal rowsOfLevels rowsSeen rows9To12 numbered
+  levels-as-before-unless-contradicted = seventeen-past-card (cardRefusal card) _ refl (contradicted (seenOf card levels)) _

@@ -1,0 +1,95 @@
+-- Document 02, P6, "Separators that contradict the codeword": what is promised of every word that is read, that a word pasted from two
+-- telegrams is never read, and which words are answered otherwise than without P6. Assumes nothing.
+use mathlib.Core.Path.{_≡_}
+use mathlib.Core.Bool.{Bool, true, false, cond, not}
+use mathlib.Core.List.{List, _∷_}
+use Prim.Native.Nat.{ℕ, _%_, _≤_}
+use lib.Dec.{eqb}
+use lib.ListN.{length}
+use Rattle.bits.specs.Places.{place}
+use Rattle.model.specs.Refusals.{refuses, refusedAs, firstRefusal, unlessRefused}
+use Rattle.model.specs.Card.{Code, codeOf, cardRefusal, radius}
+use Rattle.model.specs.Order.{lastCodeword}
+use Rattle.model.specs.Words.{word}
+use Rattle.model.specs.Reading.{Seen, seen, ruleSeen, ruleNamed, namesFirst, namesSecond, numberBy, separatorBy, parityDiffers}
+use Rattle.model.specs.Reading.{twoEnds, rows9To12}
+use Rattle.model.specs.Answers.{wordLength, spareSet, readingOf}
+use Rattle.model.specs.declared.Reading.{Reading}
+use Rattle.model.specs.declared.ReadAnswer.{ReadAnswer}
+use Rattle.model.specs.declared.ReadAnswer.the-variants.{At, Refused}
+use Rattle.position_theory.specs.Damage.{turnedIn}
+use Rattle.position_theory.specs.SeenChunks.{NamedReads}
+
+-- ---- words that are read
+
+-- The rule is the one that the separators name; the code chunks that it names read as one codeword c(p); and the separator that the rule
+-- holds against p, separator 1 by rules 1 and 3 and separator 3 by rule 2, reads as the parity of p.
+pub record ParityAgrees (C : Code) (s : Seen) (rule : ℕ) : Type 0 where
+  pub by-rule : rule ≡ ruleSeen s
+  pub p : ℕ
+  pub in-code : p ≤ lastCodeword C
+  pub first : NamedReads (namesFirst rule) (s .read₁) p
+  pub second : NamedReads (namesSecond rule) (s .read₂) p
+  pub parity : separatorBy s rule ≡ p % 2
+
+-- so it is of whatever is seen of a word that is read, and of every plain word that is, on every card
+abbrev pub AgreesIfRead : Code → Seen → ReadAnswer → Type 0
+AgreesIfRead C s answer = (r : Reading) → answer ≡ At r → ParityAgrees C s (r .rule)
+
+unfoldable pub ReadOnlyIfParityAgrees : (card received : List ℕ) → ReadAnswer → Type 0
+ReadOnlyIfParityAgrees card received answer = AgreesIfRead (codeOf card) (seen (codeOf card) (place received)) answer
+
+-- ---- words pasted from two telegrams
+
+-- of the five chunks, 0 to 4: the separator that a rule holds against p, and the code chunk that p is read from (by rule 3 the first of
+-- the two)
+abbrev pub separatorHeld : (rule : ℕ) → ℕ
+separatorHeld rule = cond (eqb rule 2) 4 0
+
+abbrev pub chunkHeld : (rule : ℕ) → ℕ
+chunkHeld rule = cond (eqb rule 2) 3 1
+
+-- A word x is pasted from two telegrams, w(i) and w(j), whose parities differ: by the rule that its separators name, it has its separator
+-- from the first and its code chunk from the second, at most t bits turned in either, and whatever else elsewhere
+pub record Pasted (C : Code) (x : ℕ → ℕ) (i j : ℕ) : Type 0 where
+  pub in-code : i ≤ lastCodeword C
+  pub in-code′ : j ≤ lastCodeword C
+  pub differ : i % 2 ≡ j % 2 → ⊥
+  pub separator : turnedIn C (separatorHeld (ruleNamed C x)) (word C i) x ≤ radius C
+  pub chunk : turnedIn C (chunkHeld (ruleNamed C x)) (word C j) x ≤ radius C
+
+-- such a word is never read
+unfoldable pub PastedNeverRead : (card received : List ℕ) → ReadAnswer → Type 0
+PastedNeverRead card received answer =
+    (i j : ℕ) → Pasted (codeOf card) (place received) i j → (r : Reading) → answer ≡ At r → ⊥
+
+-- ---- what is answered otherwise than without P6
+
+-- whether the separator that the named rule holds against p differs from the parity of p
+abbrev pub contradicted : Seen → Bool
+contradicted s = parityDiffers (separatorBy s (ruleSeen s)) (numberBy s (ruleSeen s))
+
+-- an answer with refusal 17 in the place of a reading, where this is so; a refusal stays
+unfoldable pub unlessContradicted : (contradicted : Bool) → ReadAnswer → ReadAnswer
+unlessContradicted true (At r) = Refused 17
+unlessContradicted true (Refused refusal) = Refused refusal
+unlessContradicted false answer = answer
+
+-- the answer without P6: rows 9 to 12 are the last
+unfoldable pub answerBefore : (card received : List ℕ) → ReadAnswer
+answerBefore card received =
+    let C : Code = codeOf card in
+    let x : ℕ → ℕ = place received in
+    unlessRefused
+    (firstRefusal
+    (refusedAs (cardRefusal card)
+    ∷ refuses 6 (not (eqb (length received) (wordLength C)))
+    ∷ refuses 8 (spareSet C received)
+    ∷ rows9To12 (twoEnds C) (seen C x) (ruleNamed C x)))
+    Refused (At (readingOf C received))
+
+-- The words that were read and no longer are: those in which that separator differs, each refused by 17. Every other word, on every card,
+-- is answered as before, with the same values or the same refusal.
+unfoldable pub AsBeforeUnlessContradicted : (card received : List ℕ) → ReadAnswer → Type 0
+AsBeforeUnlessContradicted card received answer =
+    answer ≡ unlessContradicted (contradicted (seen (codeOf card) (place received))) (answerBefore card received)

@@ -1,0 +1,72 @@
+// What the three separators of a word name: a rule, and with it the separator that the rule holds against the parity of its codeword's
+// number. What they read comes from bits or from levels.
+ghost use mathlib.Core.Path.{_≡_};
+ghost use Prim.Native.Nat.{_≤_};
+ghost use Rattle.bits.specs.Places.{place};
+ghost use Rattle.model.specs.Decoded.{meaning};
+ghost use Rattle.model.specs.Reading.{seen, ruleOf, separatorOf, parityDiffers};
+ghost use Rattle.code_theory.specs.Promise.{Sound};
+ghost use Rattle.reader.specs.Naming.{Names, NamesOf};
+use model::DecodedCode;
+use position::layout;
+use position::places;
+
+// A rule by its number, or 0 for none, and what the separator reads that must be equal to the parity of p.
+pub struct NamedRule {
+    pub rule: u32,
+    pub separator: u32,
+}
+
+// The number of the rule that three separators name: 1 for b b c, 2 for b c c, 3 for b b b, and 0 for b c b.
+fn rule_of(s1: u32, s2: u32, s3: u32) -> u32
+    ensures { λ r. ⌜ (r ≡ ruleOf s1 s2 s3) × (r ≤ 3) ⌝ }
+{
+    if s1 == s2 {
+        if s2 == s3 {
+            return 3;
+        }
+        return 1;
+    }
+    if s2 == s3 {
+        return 2;
+    }
+    0
+}
+
+// Of what separators 1 and 3 read, that which a rule holds against p: separator 3 by rule 2, separator 1 by any other.
+fn separator_of(rule: u32, s1: u32, s3: u32) -> u32
+    ensures { λ r. ⌜ r ≡ separatorOf rule s1 s3 ⌝ }
+{
+    if rule == 2 {
+        return s3;
+    }
+    s1
+}
+
+// What three separators name, by what they read.
+pub fn named_by(s1: u32, s2: u32, s3: u32) -> NamedRule
+    ensures { λ r. ⌜ Names s1 s2 s3 r ⌝ }
+{
+    let rule = rule_of(s1, s2, s3);
+    let separator = separator_of(rule, s1, s3);
+    NamedRule { rule, separator }
+}
+
+// What the separators of a plain word name.
+pub fn named_rule(code: DecodedCode, x: [u8; 40]) -> NamedRule
+    requires { ⌜ Sound (meaning code) ⌝ }
+    ensures { λ r. ⌜ NamesOf (seen (meaning code) (place x)) r ⌝ }
+{
+    let at = layout::layout_of(code);
+    let s1 = places::separator_at(x, 0, code.distance);
+    let s2 = places::separator_at(x, at.separator2, code.distance);
+    let s3 = places::separator_at(x, at.separator3, code.distance);
+    named_by(s1, s2, s3)
+}
+
+// Whether what a separator reads differs from the parity of a codeword's number.
+pub fn contradicts(separator: u32, number: u32) -> bool
+    ensures { λ r. ⌜ r ≡ parityDiffers separator number ⌝ }
+{
+    separator != number % 2
+}
