@@ -53,9 +53,9 @@ extern "C" {
 
 /* The version of this header and its archive. */
 #define DUNNAVISH_VERSION_MAJOR 0
-#define DUNNAVISH_VERSION_MINOR 4
+#define DUNNAVISH_VERSION_MINOR 5
 #define DUNNAVISH_VERSION_PATCH 0
-#define DUNNAVISH_VERSION "0.4.0"
+#define DUNNAVISH_VERSION "0.5.0"
 
 /* The bytes of a card, and of the widest word. */
 #define DUNNAVISH_CARD_BYTES 512
@@ -90,6 +90,8 @@ enum dunnavish_status {
     DUNNAVISH_CARD_OFFSET = 14,     /* card: offset, bytes 100 to 103, outside -20,000 to 20,000 mm; tested between 4 and 5 */
     DUNNAVISH_LEVEL_COUNT = 15,     /* levels: not exactly the d of this card's words; in the place of 6 */
     DUNNAVISH_LEVEL_LIMITS = 16,    /* levels: not a number, infinite, or above 1,000,000 in magnitude; in the place of 8 */
+    DUNNAVISH_PARITY_DIFFERS = 17,  /* received word: separator 1, under rule 2 separator 3, differs from the parity of the number of
+                                       the codeword that was read; tested straight after 12 */
     DUNNAVISH_VALUE_COUNT = 100     /* `values`, `strength` or the card to be made has not the call's count; tested first */
 };
 
@@ -114,6 +116,7 @@ static inline const char *dunnavish_status_text(uint32_t status)
     case DUNNAVISH_CARD_OFFSET: return "the card's offset is outside -20,000 to 20,000 mm";
     case DUNNAVISH_LEVEL_COUNT: return "the levels are not exactly as many as the bits of this card's words";
     case DUNNAVISH_LEVEL_LIMITS: return "a level is not a number, infinite, or above 1,000,000 in magnitude";
+    case DUNNAVISH_PARITY_DIFFERS: return "a separator of the received word contradicts the parity of its codeword's number";
     case DUNNAVISH_VALUE_COUNT: return "the count of values, of a strength, or of a made card's bytes, is not the call's";
     default: return "a status that this version does not have";
     }
@@ -142,7 +145,7 @@ uint32_t dunnavish_write_word(const uint8_t *card, size_t card_bytes, uint32_t p
 #define DUNNAVISH_NOT_READ 4294967295u
 
 /*
- * Read a received word. Answers 0 to 6, 8 to 12, 14, or 100. On 0 the five values are those of the indices below. If five values
+ * Read a received word. Answers 0 to 6, 8 to 12, 14, 17, or 100. On 0 the five values are those of the indices below. If five values
  * are lent and each of the word's five chunks has at most t bits turned, the answer is 0 and the position is off by at most twice
  * the bits turned in all, and by at most the bits turned and the residual together.
  *
@@ -150,6 +153,10 @@ uint32_t dunnavish_write_word(const uint8_t *card, size_t card_bytes, uint32_t p
  * is read is the number of bits in which it, as received, differs from the codeword that it was read as: at most t, which is at
  * most 31. If each of the word's five chunks has at most t bits turned, it is the number of bits turned in the chunk. A chunk that
  * the rule does not name is not read, whatever it holds, and its value is DUNNAVISH_NOT_READ.
+ *
+ * Separator 1, under rule 2 separator 3, must be equal to the parity of the number of the codeword that was read, or the answer is
+ * DUNNAVISH_PARITY_DIFFERS. So a word pasted from two, with that separator from one and the codeword from another whose number has
+ * the other parity, is never answered 0.
  */
 enum dunnavish_read_value {
     DUNNAVISH_READ_POSITION = 0,    /* the position, from 0 to the last */
@@ -165,7 +172,7 @@ uint32_t dunnavish_read_word(const uint8_t *card, size_t card_bytes, const uint8
 /*
  * Read a received word whose bits came as levels, exactly d of them. A level below zero is a 1, one above zero a 0, and a zero of
  * either sign a bit that is lost. Any level, whatever its place, that is not a number, infinite or above 1,000,000 in magnitude is
- * answered DUNNAVISH_LEVEL_LIMITS; 1,000,000 itself is allowed. Answers 0 to 5, 9 to 12, 14 to 16, or 100.
+ * answered DUNNAVISH_LEVEL_LIMITS; 1,000,000 itself is allowed. Answers 0 to 5, 9 to 12, 14 to 17, or 100.
  *
  * A separator reads 1 if its levels, added in order from zero in single precision, each sum rounded to the nearest, ties to even,
  * sum below zero; so a sum of zero reads 0. A code chunk reads as the codeword for which 2 * wrong + lost is below D (there is at

@@ -1,5 +1,5 @@
-//! Document 01's rules, P2's offset, P3's counts of the code chunks, and P5's levels, in straightforward Rust, written apart from
-//! the library, with words as five 64-bit numbers and counts by `count_ones`: the baseline of the benchmark, and what the tests of
+//! Document 01's rules, P2's offset, P3's counts of the code chunks, P5's levels and P6's parity, in straightforward Rust, written
+//! apart from the library, with words as five 64-bit numbers and counts by `count_ones`: the baseline of the benchmark, and what the tests of
 //! the Rust crate hold the library against. `Kept` holds every codeword and start of a card that was decoded once.
 
 /// A word: place p is bit p % 64 of number p / 64.
@@ -374,33 +374,45 @@ fn chunk_2(order: &impl Order, received: &impl Received) -> Result<Found, u32> {
     received.find(order, 2 * code.distance + code.n).ok_or(10)
 }
 
-fn by_rule_1(order: &impl Order, received: &impl Received) -> Result<Read, u32> {
+/// The separator that a rule holds against its codeword has the parity of the codeword's number.
+fn parity(separator: bool, p: usize) -> Result<(), u32> {
+    if separator == (p % 2 == 1) {
+        Ok(())
+    } else {
+        Err(17)
+    }
+}
+
+fn by_rule_1(order: &impl Order, separator: bool, received: &impl Received) -> Result<Read, u32> {
     let Found { number: p, bits } = chunk_1(order, received)?;
     if p == 0 {
         return Err(12);
     }
+    parity(separator, p)?;
     let code = order.code();
     let low = order.start(p - 1) + code.distance + code.changed(p - 1);
     Ok(nearest_in_block(order, p - 1, low, order.start(p), received).read(1, Some(bits), None))
 }
 
-fn by_rule_2(order: &impl Order, received: &impl Received) -> Result<Read, u32> {
+fn by_rule_2(order: &impl Order, separator: bool, received: &impl Received) -> Result<Read, u32> {
     let code = order.code();
     let Found { number: p, bits } = chunk_2(order, received)?;
     if p == code.last_block() {
         return Err(12);
     }
+    parity(separator, p)?;
     let start = order.start(p);
     let high = start + 2 * code.distance + code.changed(p);
     Ok(nearest_in_block(order, p, start, high, received).read(2, None, Some(bits)))
 }
 
-fn by_rule_3(order: &impl Order, received: &impl Received) -> Result<Read, u32> {
+fn by_rule_3(order: &impl Order, separator: bool, received: &impl Received) -> Result<Read, u32> {
     let Found { number: p, bits } = chunk_1(order, received)?;
     let other = chunk_2(order, received)?;
     if p != other.number {
         return Err(11);
     }
+    parity(separator, p)?;
     let (start, distance) = (order.start(p), order.code().distance);
     let mut best = Near { residual: u32::MAX, position: 0 };
     if p > 0 {
@@ -439,11 +451,11 @@ pub fn read(order: &impl Order, bytes: &[u8]) -> Result<Read, u32> {
 /// By the rule that the separators name.
 fn by_separators(order: &impl Order, [s1, s2, s3]: [bool; 3], received: &impl Received) -> Result<Read, u32> {
     if s1 == s2 && s2 == s3 {
-        by_rule_3(order, received)
+        by_rule_3(order, s1, received)
     } else if s1 == s2 {
-        by_rule_1(order, received)
+        by_rule_1(order, s1, received)
     } else if s2 == s3 {
-        by_rule_2(order, received)
+        by_rule_2(order, s3, received)
     } else {
         Err(9)
     }

@@ -38,6 +38,9 @@
 //!
 //! assert_eq!(dunnavish::write_word(&card, 16, &mut word), Err(dunnavish::Refusal::OffTheTrack));
 //!
+//! // Both code chunks hold codeword 1, and the separators 0: pasted from two words.
+//! assert_eq!(dunnavish::read_word(&card, &[0x38, 0x0e]), Err(dunnavish::Refusal::ParityDiffers));
+//!
 //! // The word of position 7 from a receiver that gives levels: its seven ones are negative, the last level is faint, and code
 //! // chunk 2, places 9 to 11, has one bit lost.
 //! let mut levels = [1.0; 15];
@@ -100,7 +103,7 @@ macro_rules! refusals {
             /// Every refusal that has a number, in the order of their numbers.
             pub const ALL: &'static [Refusal] = &[$(Refusal::$name,)+];
 
-            /// Its number in `docs/FORMAT.md`, 1 to 16; none where the library and this crate are of different versions.
+            /// Its number in `docs/FORMAT.md`, 1 to 17; none where the library and this crate are of different versions.
             pub fn number(self) -> Option<u32> {
                 match self {
                     $(Refusal::$name => Some($number),)+
@@ -149,6 +152,7 @@ refusals! {
     CardOffset = 14: "the card's offset is outside -20,000 to 20,000 mm",
     LevelCount = 15: "the levels are not exactly as many as the bits of this card's words",
     LevelLimits = 16: "a level is not a number, infinite, or above 1,000,000 in magnitude",
+    ParityDiffers = 17: "a separator of the received word contradicts the parity of its codeword's number",
 }
 
 impl std::error::Error for Refusal {}
@@ -325,7 +329,10 @@ pub fn write_word(card: &[u8], position: u32, word: &mut [u8]) -> Result<(), Ref
 /// is off by at most twice the bits turned in all; and each chunk that was read differs from its codeword in as many bits as are
 /// turned in it.
 ///
-/// Refused: the card, [`Refusal::WordLength`], and [`Refusal::SpareBit`] to [`Refusal::NoBlock`].
+/// Of a word that is read, separator 1, by [`Rule::FirstDiffers`] separator 3, has the parity of the number of its codeword. So a
+/// word pasted from two, with that separator from one and the codeword from another whose number has the other parity, is never read.
+///
+/// Refused: the card, [`Refusal::WordLength`], [`Refusal::SpareBit`] to [`Refusal::NoBlock`], and [`Refusal::ParityDiffers`].
 pub fn read_word(card: &[u8], word: &[u8]) -> Result<Reading, Refusal> {
     let mut values = [0u32; 5];
     served(unsafe {
@@ -347,7 +354,7 @@ pub fn read_word(card: &[u8], word: &[u8]) -> Result<Reading, Refusal> {
 /// below D, the answer is a reading, and its position is off by at most 2 × wrong + lost, counted over the whole word.
 ///
 /// Refused, in this order: the card; [`Refusal::LevelCount`]; [`Refusal::LevelLimits`], for any of the levels (1,000,000 itself
-/// is allowed); and [`Refusal::Separators`] to [`Refusal::NoBlock`].
+/// is allowed); [`Refusal::Separators`] to [`Refusal::NoBlock`]; and [`Refusal::ParityDiffers`].
 pub fn read_levels(card: &[u8], levels: &[f32]) -> Result<(Reading, Strength), Refusal> {
     let (mut values, mut strength) = ([0u32; 5], [0f32; 2]);
     served(unsafe {
@@ -417,7 +424,7 @@ mod tests {
         for refusal in Refusal::ALL {
             assert_eq!(served(refusal.number().unwrap()), Err(*refusal));
         }
-        for status in [17, 99, 100, 101, u32::MAX] {
+        for status in [18, 99, 100, 101, u32::MAX] {
             assert_eq!(served(status), Err(Refusal::UnknownStatus(status)));
             assert_eq!(Refusal::UnknownStatus(status).number(), None);
         }

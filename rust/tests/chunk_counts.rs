@@ -70,9 +70,13 @@ fn a_chunk_past_the_radius_is_read_as_another_codeword() {
     assert_eq!(read_word(&card_b(), &[0x7f, 0x06]), Err(Refusal::NoBlock));
     // chunk 1 of 111 001 111 111 100 is one bit from 000: p is 0, and rule 1 has no block
     assert_eq!(read_word(&card_b(), &[0xe7, 0x1f]), Err(Refusal::NoBlock));
-    // chunks 110 and 011 between separators of zeros are each one bit from 111: p is 1, allowed are 12 to 15. The word
-    // 000 110 000 011 000 has ones at places 3, 4, 10 and 11; 12 has eight bits unlike
-    assert_eq!(read_word(&card_b(), &[0x18, 0x0c]), rule_3(12, 8, [1, 1]));
+    // chunks 110 and 011 of 000 110 000 011 000, between separators of zeros, are each one bit from 111: p is 1, whose parity the
+    // separators have not
+    assert_eq!(read_word(&card_b(), &[0x18, 0x0c]), Err(Refusal::ParityDiffers));
+    // n 5, rows 7 and 28: D is 3, t 1. Chunks 11010 of 000 11010 000 11010 000, w(0) with three bits turned in each, are one bit from
+    // c(2), 11011: p is 2, of the separators' parity, allowed are 27 to 33 around start 30, which is two bits off, and each step away
+    // one more
+    assert_eq!(read_word(&card_of(5, 2, 14, &[7, 28]), &[0x58, 0x58, 0x00]), rule_3(30, 2, [1, 1]));
 }
 
 #[test]

@@ -152,12 +152,12 @@ fn distances() {
 
 #[test]
 fn refusals_have_the_documents_numbers() {
-    assert_eq!(Refusal::ALL.len(), 16);
+    assert_eq!(Refusal::ALL.len(), 17);
     for (number, refusal) in (1..).zip(Refusal::ALL) {
         assert_eq!(refusal.number(), Some(number));
         assert_eq!(Refusal::from_number(number), Some(*refusal));
     }
     assert_eq!(Refusal::from_number(0), None);
-    assert_eq!(Refusal::from_number(17), None);
+    assert_eq!(Refusal::from_number(18), None);
     assert_eq!(Refusal::from_number(100), None);
 }

@@ -299,12 +299,13 @@ fn refusals_of_levels_come_in_order() {
     for count in [1, 14, 16, 321] {
         assert_eq!(read_levels(&card, &vec![f32::NAN; count]), Err(Refusal::LevelCount));
     }
-    // 16 before 9 to 12, whatever the place; where 9 is answered, chunk 1 is unreadable, and where 10 is, chunk 2 reads another p
+    // 16 before 9 to 12 and 17, whatever the place; where 9 is answered, chunk 1 is unreadable, and where 10 is, chunk 2 reads another p
     for (word, refusal) in [
         ("000 ?-? 111 000 000", Refusal::Separators),
         ("000 01? 000 111 000", Refusal::ChunkUnreadable),
         ("000 000 000 111 000", Refusal::ChunksDiffer),
         ("000 000 000 000 111", Refusal::NoBlock),
+        ("000 111 000 111 000", Refusal::ParityDiffers),
     ] {
         assert_eq!(read(&card, word), Err(refusal), "{word}");
         for place in 0..15 {

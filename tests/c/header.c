@@ -8,7 +8,7 @@
 
 #include "dunnavish.h"
 
-#define KNOWN 18
+#define KNOWN 19
 
 static int failed = 0;
 
@@ -23,7 +23,7 @@ static void expect(int holds, const char *what, unsigned long number)
 /* Every status has a text of its own, and every other number the same one, which is none of them. */
 static void status_texts(void)
 {
-    static const uint32_t known[KNOWN] = {0, 1, 2, 3, 4, 5, 6, 7, 8, 9, 10, 11, 12, 13, 14, 15, 16, 100};
+    static const uint32_t known[KNOWN] = {0, 1, 2, 3, 4, 5, 6, 7, 8, 9, 10, 11, 12, 13, 14, 15, 16, 17, 100};
     const char *unknown = dunnavish_status_text(UINT32_MAX);
     uint32_t status;
     int i, j;
@@ -35,7 +35,7 @@ static void status_texts(void)
         for (j = 0; j < i; j++)
             expect(strcmp(text, dunnavish_status_text(known[j])) != 0, "the text of another for status", known[i]);
     }
-    for (status = 17; status < 100000; status++)
+    for (status = 18; status < 100000; status++)
         if (status != 100)
             expect(strcmp(dunnavish_status_text(status), unknown) == 0, "a text for the unknown status", status);
 }
@@ -114,6 +114,26 @@ static void read_values(const uint8_t card[DUNNAVISH_CARD_BYTES])
     read_as(card, 0x7F, 0x02, 7, 2, DUNNAVISH_NOT_READ, 1);
     read_as(card, 0x08, 0x00, 0, 3, 1, 0);
     read_as(card, 0x00, 0x04, 0, 3, 0, 1);
+}
+
+/*
+ * Both code chunks of card B hold codeword 1, and the separators 0: 000 111 000 111 000 is refused, as bits and as levels. With the
+ * separators 110, and codeword 0 in chunk 1, there is no block before it, which is tested first.
+ */
+static void contradicted(const uint8_t card[DUNNAVISH_CARD_BYTES])
+{
+    static const uint8_t words[2][2] = {{0x38, 0x0E}, {0xC7, 0x01}};
+    static const float levels[15] = {1, 1, 1, -1, -1, -1, 1, 1, 1, -1, -1, -1, 1, 1, 1};
+    uint32_t values[DUNNAVISH_READ_VALUES];
+    float strength[DUNNAVISH_STRENGTH_VALUES];
+
+    expect(dunnavish_read_word(card, DUNNAVISH_CARD_BYTES, words[0], 2, values, DUNNAVISH_READ_VALUES) == DUNNAVISH_PARITY_DIFFERS,
+           "a word not refused by", DUNNAVISH_PARITY_DIFFERS);
+    expect(dunnavish_read_word(card, DUNNAVISH_CARD_BYTES, words[1], 2, values, DUNNAVISH_READ_VALUES) == DUNNAVISH_NO_BLOCK,
+           "a word not refused by", DUNNAVISH_NO_BLOCK);
+    expect(dunnavish_read_levels(card, DUNNAVISH_CARD_BYTES, levels, 15, values, DUNNAVISH_READ_VALUES, strength,
+                                 DUNNAVISH_STRENGTH_VALUES) == DUNNAVISH_PARITY_DIFFERS,
+           "levels not refused by", DUNNAVISH_PARITY_DIFFERS);
 }
 
 /*
@@ -225,6 +245,7 @@ int main(int argc, char **argv)
         return 1;
     bytes_of_words(card_b);
     read_values(card_b);
+    contradicted(card_b);
     levels_read(card_b);
     levels_statuses(card_b);
     made_card();

@@ -66,6 +66,8 @@ static const struct trial trials[] = {
     {READ, 512, 0, 0, 0, 0x0400, 0, {0, 1, 3, 0, 1}},
     {READ, 512, 0, 0, 0, 0x0408, 0, {0, 2, 3, 1, 1}},
     /* refused after the chunks that the rule names have been read, and before */
+    {READ, 512, 0, 0, 0, 0x0E38, 17, {0}},
+    {READ, 512, 0, 0, 0, 0x01C7, 12, {0}},
     {READ, 512, 0, 0, 0, 0x7000, 12, {0}},
     {READ, 512, 0, 0, 0, 0x0E00, 11, {0}},
     {READ, 512, 0, 0, 0, 0x01C0, 9, {0}},

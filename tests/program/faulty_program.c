@@ -183,8 +183,10 @@ static void word_line(const uint8_t *card, const uint8_t *word, size_t width)
     if (has("numbers of 16 bits"))
         number = (words + 1) % 65536;
     words++;
+    if ((refusal == 11 && has("refused 11 as 10")) || (refusal == 17 && has("refused 17 as 12")))
+        refusal = refusal == 11 ? 10 : 12;
     if (refusal != 0) {
-        line("%zu refused %u\n", number, has("refused 11 as 10") && refusal == 11 ? 10 : refusal);
+        line("%zu refused %u\n", number, refusal);
         words_read += has("refused words count as read") ? 1 : 0;
         return;
     }

@@ -131,7 +131,7 @@ static void document_cases(void)
 {
     static const struct fields card_a = {3, 2, 0, {3, 6}};
     static const uint8_t example[] = {0x7F, 0x00, 0x5F, 0x00, 0xC0, 0x01, 0x00, 0x80};
-    static const uint8_t refused_b[] = {0x00, 0x70, 0x00, 0x0E};
+    static const uint8_t refused_b[] = {0x00, 0x70, 0x00, 0x0E, 0x38, 0x0E, 0xC7, 0x01}; /* the last two of request P6 */
     static const uint8_t words_a[] = {0x2F, 0x00, 0xEF, 0x05, 0x04, 0x00}; /* of 5, of 9, and 00 100 00 000 00 */
 
     hold_document(&card_b, example, sizeof example,
@@ -145,7 +145,9 @@ static void document_cases(void)
                   "track 14 last 15 radius 1\n"
                   "1 refused 12\n"
                   "2 refused 11\n"
-                  "words 2 read 0\n");
+                  "3 refused 17\n"
+                  "4 refused 12\n"
+                  "words 4 read 0\n");
     hold_document(&card_a, words_a, sizeof words_a,
                   "track 0 last 30 radius 0\n"
                   "1 at 5 residual 0 rule 2 0\n"
@@ -416,21 +418,22 @@ static void random_cards(void)
 /* Every rule and every refusal of a received word was an answer. */
 static void all_were_met(void)
 {
+    static const unsigned refusals[] = {8, 9, 10, 11, 12, 17};
     unsigned i;
 
     printf("tests/program: the words' answers:");
     for (i = 1; i <= 3; i++)
         printf(" rule %u %lu,", i, rules_met[i]);
-    for (i = 8; i <= 12; i++)
-        printf(" refused %u %lu%s", i, refusals_met[i], i < 12 ? "," : "\n");
+    for (i = 0; i < 6; i++)
+        printf(" refused %u %lu%s", refusals[i], refusals_met[refusals[i]], i < 5 ? "," : "\n");
     for (i = 1; i <= 3; i++)
         if (rules_met[i] == 0) {
             printf("tests/program: no word was read by rule %u\n", i);
             exit(2);
         }
-    for (i = 8; i <= 12; i++)
-        if (refusals_met[i] == 0) {
-            printf("tests/program: no word was refused %u\n", i);
+    for (i = 0; i < 6; i++)
+        if (refusals_met[refusals[i]] == 0) {
+            printf("tests/program: no word was refused %u\n", refusals[i]);
             exit(2);
         }
 }

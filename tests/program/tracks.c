@@ -10,7 +10,7 @@
 
 #include "feed.h"
 
-unsigned long rules_met[4], refusals_met[13], counts_met[COUNT_KINDS];
+unsigned long rules_met[4], refusals_met[18], counts_met[COUNT_KINDS];
 
 uint64_t next_number(void)
 {
@@ -222,7 +222,7 @@ void answer_words(struct track *t)
         struct answer *a = &t->answers[i];
 
         a->refusal = second_read_word(t->bytes, CARD_BYTES, word_of(t, i), t->width, a->values, READ_VALUES);
-        if (a->refusal > 12 || (a->refusal == 0 && (a->values[RULE] < 1 || a->values[RULE] > 3)))
+        if ((a->refusal > 12 && a->refusal != 17) || (a->refusal == 0 && (a->values[RULE] < 1 || a->values[RULE] > 3)))
             give_up("the second reader's answer is none");
         if (a->refusal == 0 && !counts_as_named(a->values, radius))
             give_up("the second reader's counts are of other chunks");

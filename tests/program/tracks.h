@@ -47,7 +47,7 @@ struct track {
  * How often each rule and each refusal of a word was an answer, over all tracks that were answered; and of the counts of chunks
  * how often 0, t where that is not 0, one of two digits, and by rule 3 two that differ.
  */
-extern unsigned long rules_met[4], refusals_met[13];
+extern unsigned long rules_met[4], refusals_met[18];
 enum { NO_BITS, ALL_BITS, TWO_DIGITS, UNLIKE, COUNT_KINDS };
 extern unsigned long counts_met[COUNT_KINDS];
 
