@@ -2,8 +2,10 @@
 use crate::calls;
 use crate::levels;
 use crate::library;
+use crate::parity;
 use crate::tally::Tally;
 use crate::trials::counts::{self, Counted};
+use second_reader::separator_promise::separator_agrees;
 use second_reader::track::Track;
 use second_reader::walk::Walk;
 use second_reader::{reading, Reading, Refusal};
@@ -32,6 +34,9 @@ pub fn both_read(tally: &mut Tally, card: &[u8], walk: &Walk, bytes: &[u8]) -> [
     calls::read(tally, answer, second);
     needed(tally, walk.track, second);
     levels::as_plain(tally, card, &walk.track.card.code, bytes, answer);
+    if !matches!(second, Err(6 | 8)) {
+        parity::held(tally, walk.track, answer, || separator_agrees(walk.track, bytes));
+    }
     [answer, second]
 }
 

@@ -1,10 +1,12 @@
 //! Words of levels: by the library and by the second reader, against the plain words, and what is promised of levels 1, -1 and 0.
 use crate::calls;
 use crate::library;
+use crate::parity;
 use crate::tally::Tally;
 use crate::trials::{levels, magnitudes};
 use second_reader::code::Code;
 use second_reader::levels::read_levels_from;
+use second_reader::separator_promise::separator_agrees_in_levels;
 use second_reader::track::Track;
 use second_reader::walk::Walk;
 use second_reader::{word, Reading, Refusal, Strength};
@@ -34,6 +36,9 @@ pub fn at(tally: &mut Tally, card: &[u8], behind: &Walk, here: &Walk, id: u64) {
 pub fn both_read(tally: &mut Tally, card: &[u8], walk: &Walk, levels: &[f32]) -> Answers {
     let (library, second) = (library::read_levels(card, levels), read_levels_from(walk, levels));
     calls::read_levels(tally, library, second);
+    if !matches!(second, Err(15 | 16)) {
+        parity::held(tally, walk.track, library, || separator_agrees_in_levels(walk.track, levels));
+    }
     Answers { library, second }
 }
 

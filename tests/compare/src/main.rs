@@ -2,8 +2,8 @@
 //! damaged in many ways, in bits and in levels, and on the Reed-Muller codes and their chunks, and prints counts. A call is
 //! compared in `calls.rs`, a count is a line of `tally.rs`, and what is tried stands in `trials`.
 //!
-//! How the file `expected` was made: every count but the last thirteen follows from how the cards, words and chunks are made and
-//! from what the second reader answers, and none of them from the library. The last thirteen are of the library, and are 0 where it
+//! How the file `expected` was made: every count but the last fourteen follows from how the cards, words and chunks are made and
+//! from what the second reader answers, and none of them from the library. The last fourteen are of the library, and are 0 where it
 //! is right. So the file has the former as the program printed them with a library that refused every call, and 0 for each of the
 //! latter.
 mod calls;
@@ -11,6 +11,7 @@ mod codes;
 mod counts;
 mod levels;
 mod library;
+mod parity;
 mod positions;
 mod small_cards;
 mod tally;

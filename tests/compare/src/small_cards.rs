@@ -26,7 +26,7 @@ pub fn every_word(tally: &mut Tally, card: &[u8], track: &Track) {
     }
 }
 
-/// A level at and outside the limits in every place of a word: of one that is read, and of such as are refused by 9 to 12.
+/// A level at and outside the limits in every place of a word: of one that is read, and of such as are refused by 9 to 12 and 17.
 pub fn limits(tally: &mut Tally, card: &[u8], track: &Track) {
     let code = &track.card.code;
     let of = |separators, p, q| levels::of_bits(&code.word_of_chunks(separators, [code.codeword(p), code.codeword(q)]));
@@ -37,6 +37,7 @@ pub fn limits(tally: &mut Tally, card: &[u8], track: &Track) {
         vec![0.0; code.word_bits()],
         of([zero; 3], 0, 1),
         of([zero, zero, one], 0, 0),
+        of([zero; 3], 1, 1),
     ];
     for (word, place) in words.iter().flat_map(|word| (0..word.len()).map(move |place| (word, place))) {
         for level in magnitudes::outside().chain(magnitudes::within()) {

@@ -1,7 +1,7 @@
 //! The counts that the program prints.
 
 /// The printed lines in their order: a name each, under which something is counted.
-const LINES: [&str; 93] = [
+const LINES: [&str; 99] = [
     // What the second reader answered, call by call.
     "cards sound",
     "cards refused 1",
@@ -28,6 +28,7 @@ const LINES: [&str; 93] = [
     "words refused 10",
     "words refused 11",
     "words refused 12",
+    "words refused 17",
     "words read by rule 1",
     "words read by rule 2",
     "words read by rule 3",
@@ -56,6 +57,7 @@ const LINES: [&str; 93] = [
     "words of levels refused 10",
     "words of levels refused 11",
     "words of levels refused 12",
+    "words of levels refused 17",
     "words of levels read by rule 1",
     "words of levels read by rule 2",
     "words of levels read by rule 3",
@@ -77,12 +79,16 @@ const LINES: [&str; 93] = [
     "words with t + 1 bits turned in a chunk named, refused 10",
     "words with t + 1 bits turned in a chunk named, refused 11",
     "words with t + 1 bits turned in a chunk named, refused 12",
+    "words with t + 1 bits turned in a chunk named, refused 17",
     // Damage is 2 × wrong + lost.
     "words of levels damaged below D in every chunk",
     "most damage of one of them",
     "greatest error of one of them in steps",
     "errors of as many steps as the damage",
     "words of levels 1 and -1 held to the plain word",
+    // Request P6, of words in bits and in levels whose separators name a rule and whose chunks name a codeword.
+    "words whose separator has the codeword's parity",
+    "words whose separator has the other parity",
     "most bits turned in a chunk that is read",
     "chunks also read in a word",
     "answers compared",
@@ -99,6 +105,7 @@ const LINES: [&str; 93] = [
     "counts unlike the bits turned or refused",
     "errors above the damage or refused",
     "words of levels 1 and -1 unlike the plain word",
+    "words read or refused against the codeword's parity",
     "votes unlike a chunk's reading in a word",
 ];
 

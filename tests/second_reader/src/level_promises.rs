@@ -1,14 +1,15 @@
-//! What request P5 promises of levels 1, -1 and 0, tried on words of small cards.
+//! What requests P5 and P6 promise of levels 1, -1 and 0, tried on words of small cards.
 use crate::levels::read_levels_from;
 use crate::reading::{read_from, Reading};
-use crate::test_cards::{card_a, card_b, card_of_one};
+use crate::separator_promise::{damage, separator_agrees_in_levels};
+use crate::test_cards::{card_a, card_b, card_of_one, card_of_two_rows};
 use crate::track::Track;
 use crate::walk::Walk;
 use crate::word::{packed, Word};
 use crate::Refusal;
 
 /// The track of a small card.
-fn track_of(card: [u8; 512]) -> Track {
+pub fn track_of(card: [u8; 512]) -> Track {
     Track::of_card(&card).expect("the card is sound")
 }
 
@@ -18,7 +19,7 @@ fn position_answer(track: &Track, levels: &[f32]) -> Result<Reading, Refusal> {
 }
 
 /// The words of all positions, in order.
-fn words_of(track: &Track) -> Vec<Word> {
+pub fn words_of(track: &Track) -> Vec<Word> {
     let mut walk = Walk::new(track);
     let word_at = |position| {
         walk.go_to(position);
@@ -28,19 +29,15 @@ fn words_of(track: &Track) -> Vec<Word> {
 }
 
 /// The d levels that a number stands for, each a digit of it: 0 is the level 1, 1 is -1, and 2, in base 3, is 0.
-fn levels_of(number: u32, base: u32, d: usize) -> Vec<f32> {
+pub fn levels_of(number: u32, base: u32, d: usize) -> Vec<f32> {
     let digits = (0..d as u32).map(|place| number / base.pow(place) % base);
     digits.map(|digit| [1.0, -1.0, 0.0][digit as usize]).collect()
 }
 
-/// 2 × wrong + lost of levels in these places against a position's word. Each place has 0, 1 or 2.
-fn damage(word: &[bool], levels: &[f32]) -> usize {
-    let in_place = |(sent, level): (&bool, &f32)| match *level < 0.0 {
-        _ if *level == 0.0 => 1,
-        came if came == *sent => 0,
-        _ => 2,
-    };
-    word.iter().zip(levels).map(in_place).sum()
+/// The bytes of the plain word that levels of 1 and -1 stand for.
+pub fn plain(levels: &[f32]) -> Vec<u8> {
+    let bits: Word = levels.iter().map(|level| *level < 0.0).collect();
+    packed(&bits)
 }
 
 /// Whether levels come under the promise for a position, their damage being below D in every chunk. If so, asserts it: they are
@@ -61,17 +58,29 @@ fn positions_under(track: &Track, words: &[Word], levels: &[f32]) -> usize {
     (0..).zip(words).filter(|(position, word)| promise_holds(track, *position, word, levels)).count()
 }
 
-/// All levels of 1, -1 and 0 whose damage against a position's word is below D in every chunk, added chunk by chunk.
-fn damaged(track: &Track, word: &[bool]) -> Vec<Vec<f32>> {
+/// For each chunk, all its levels of 1 and -1, and of 0 in base 3, whose damage against a position's word is below D.
+fn borne(track: &Track, word: &[bool], base: u32) -> [Vec<Vec<f32>>; 5] {
     let code = &track.card.code;
-    let mut all: Vec<Vec<f32>> = vec![vec![]];
-    for places in code.chunks() {
+    code.chunks().map(|places| {
         let size = places.len();
-        let chunks = (0..3u32.pow(size as u32)).map(|number| levels_of(number, 3, size));
-        let borne: Vec<Vec<f32>> = chunks.filter(|chunk| damage(&word[places.clone()], chunk) < code.distance).collect();
+        let chunks = (0..base.pow(size as u32)).map(|number| levels_of(number, base, size));
+        chunks.filter(|chunk| damage(&word[places.clone()], chunk) < code.distance).collect()
+    })
+}
+
+/// All such levels of a whole word, added chunk by chunk.
+pub fn damaged(track: &Track, word: &[bool], base: u32) -> Vec<Vec<f32>> {
+    let mut all: Vec<Vec<f32>> = vec![vec![]];
+    for borne in borne(track, word, base) {
         all = all.iter().flat_map(|before| borne.iter().map(move |chunk| [&before[..], chunk].concat())).collect();
     }
     all
+}
+
+/// The next number of a linear congruential generator.
+fn draw(state: &mut u64) -> u64 {
+    *state = state.wrapping_mul(6_364_136_223_846_793_005).wrapping_add(1_442_695_040_888_963_407);
+    *state >> 33
 }
 
 /// Every word of bits, as levels of 1 and -1, is read or refused as the plain word is.
@@ -81,8 +90,7 @@ fn levels_of_one_read_as_the_plain_word() {
         let d = track.card.code.word_bits();
         for number in 0..1 << d {
             let levels = levels_of(number, 2, d);
-            let bits: Word = levels.iter().map(|level| *level < 0.0).collect();
-            assert_eq!(position_answer(&track, &levels), read_from(&Walk::new(&track), &packed(&bits)), "{levels:?}");
+            assert_eq!(position_answer(&track, &levels), read_from(&Walk::new(&track), &plain(&levels)), "{levels:?}");
         }
     }
 }
@@ -104,24 +112,49 @@ fn every_bearable_word_of_card_a() {
     let words = words_of(&track);
     assert_eq!(words.len(), 31);
     for (position, word) in (0..).zip(&words) {
-        let all = damaged(&track, word);
+        let all = damaged(&track, word, 3);
         assert_eq!(all.len(), 432, "position {position}");
         assert!(all.iter().all(|levels| promise_holds(&track, position, word, levels)), "position {position}");
     }
 }
 
-/// 20,000 of the 3^15 words of card B, D 3, drawn by a linear congruential generator. A chunk bears one turned bit or up to two
-/// lost ones, 3 + 1 + 3 + 3 = 10 of its 27 ways, so that about 20,000 × 16 × 10^5 / 27^5, or 2,230, positions come under the
-/// promise.
+/// 20,000 of the 3^15 words of card B, D 3, drawn. A chunk bears one turned bit or up to two lost ones, 3 + 1 + 3 + 3 = 10 of its
+/// 27 ways, so that about 20,000 × 16 × 10^5 / 27^5, or 2,230, positions come under the promise. Whether or not a word does, if it
+/// is read, its separators bear out the codeword, as request P6 promises; 17 is answered only where they don't.
 #[test]
 fn many_words_of_card_b() {
     let track = track_of(card_b());
     let words = words_of(&track);
     let (mut state, mut positions) = (5u64, 0);
     for _ in 0..20_000 {
-        state = state.wrapping_mul(6_364_136_223_846_793_005).wrapping_add(1_442_695_040_888_963_407);
-        let number = (state >> 33) % 14_348_907;
-        positions += positions_under(&track, &words, &levels_of(number as u32, 3, 15));
+        let levels = levels_of((draw(&mut state) % 14_348_907) as u32, 3, 15);
+        positions += positions_under(&track, &words, &levels);
+        let agrees = separator_agrees_in_levels(&track, &levels);
+        match position_answer(&track, &levels) {
+            Ok(reading) => assert_eq!(agrees, Some(true), "{levels:?} read as {reading:?}"),
+            Err(17) => assert_eq!(agrees, Some(false), "{levels:?}"),
+            Err(_) => (),
+        }
     }
     assert!((2_000..2_500).contains(&positions), "{positions} positions");
+}
+
+/// 100 words for each of the 46 positions of the card of two rows, D 3, drawn chunk by chunk from those that come under the
+/// promise: in a separator 10 ways, in a code chunk one turned bit or up to two lost ones, 5 + 1 + 5 + 10 = 21.
+#[test]
+fn many_bearable_words_of_two_rows() {
+    let track = track_of(card_of_two_rows());
+    let words = words_of(&track);
+    assert_eq!(words.len(), 46);
+    let mut state = 6;
+    for (position, word) in (0..).zip(&words) {
+        let borne = borne(&track, word, 3);
+        let ways: Vec<usize> = borne.iter().map(Vec::len).collect();
+        assert_eq!(ways, [10, 21, 10, 21, 10], "position {position}");
+        for _ in 0..100 {
+            let drawn = borne.iter().flat_map(|chunks| &chunks[draw(&mut state) as usize % chunks.len()]);
+            let levels: Vec<f32> = drawn.copied().collect();
+            assert!(promise_holds(&track, position, word, &levels), "position {position}");
+        }
+    }
 }

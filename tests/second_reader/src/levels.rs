@@ -96,7 +96,7 @@ fn sum_in_order(levels: impl Iterator<Item = f32>) -> f32 {
     sum
 }
 
-/// Expected values are worked out by hand from document 01 and request P5. In a word's chunks place 0 stands leftmost.
+/// Expected values are worked out by hand from document 01 and requests P5 and P6. In a word's chunks place 0 stands leftmost.
 ///
 /// On card B the word of m is m ones and then zeros; rule 1 with p 1 allows 0 + 3 + 3 = 6 to 15, rule 2 with p 0 allows 0 to
 /// 2 × 3 + 3 = 9, rule 3 allows 0 to 3 with p 0 and 12 to 15 with p 1.
@@ -104,7 +104,7 @@ fn sum_in_order(levels: impl Iterator<Item = f32>) -> f32 {
 mod tests {
     use super::{read_levels_from, strength, Reading, Strength};
     use crate::read_levels;
-    use crate::test_cards::{card, card_a, card_b, card_of_five};
+    use crate::test_cards::{card, card_a, card_b, card_of_five, card_of_two_rows};
     use crate::track::Track;
     use crate::walk::Walk;
 
@@ -250,6 +250,76 @@ mod tests {
         reads(card_b(), "000 000 000 000 -?-", [0, 0, 3], [Some(0), Some(0)]);
         // 0 1 1, so rule 2, and chunk 2 reads the last p.
         refused(card_b(), "-?- 111 111 111 111", 12);
+    }
+
+    /// Request P6: the words of src/reading.rs that it refuses, and those where 9 to 12 come first, as levels of 1 and -1.
+    #[test]
+    fn plain_words_in_contradiction_are_refused() {
+        // Rule 3.
+        refused(card_b(), "000 111 000 111 000", 17);
+        refused(card_b(), "100 110 001 101 010", 17);
+        refused(card_b(), "111 000 111 000 111", 17);
+        refused(card_a(), "11 101 11 101 11", 17);
+        refused(card_a(), "10 110 01 110 10", 17);
+        // Rule 1.
+        refused(card_b(), "000 111 000 000 111", 17);
+        refused(card_a(), "00 011 00 101 11", 17);
+        refused(card_a(), "11 101 11 110 00", 17);
+        refused(card_of_two_rows(), "110 11010 011 00000 000", 17);
+        // Rule 2.
+        refused(card_b(), "000 000 111 000 111", 17);
+        refused(card_a(), "00 110 11 101 11", 17);
+        refused(card_a(), "11 101 00 110 00", 17);
+        // 9 to 12.
+        refused(card_b(), "000 111 111 111 000", 9);
+        refused(card_a(), "11 000 11 100 11", 10);
+        refused(card_b(), "111 000 111 111 111", 11);
+        refused(card_a(), "00 110 00 011 00", 11);
+        refused(card_b(), "111 000 111 000 000", 12);
+        refused(card_b(), "111 000 000 111 000", 12);
+        refused(card_a(), "11 000 00 011 00", 12);
+    }
+
+    /// Request P6 with lost bits.
+    #[test]
+    fn words_with_lost_bits_in_contradiction_are_refused() {
+        // Rule 3: the separators sum to 2, 3 and 2, and read 0; both chunks read 1, with one bit lost and with two.
+        refused(card_b(), "0?0 1-1 000 1?? -00", 17);
+        // Separators that are lost whole read 0.
+        refused(card_b(), "??? 111 --- 111 ?-?", 17);
+        // With no bit of separator 1 lost, it would be separators 1 0 0: rule 2 with p 1, the last.
+        refused(card_b(), "111 111 --- 111 ?-?", 12);
+        // Rule 1: separators 0 0 1, and chunk 1 reads 1.
+        refused(card_b(), "000 1?? 0-0 000 111", 17);
+        // Rule 2: separators 0 1 1, separator 3 summing to -2, and chunk 2 reads 0.
+        refused(card_b(), "?00 000 111 0?- 11?", 17);
+        // Rule 1: separators 1 1 0, separator 3 summing to 1. ?01 reads as 101, p 2: one lost, which is below D, 2.
+        refused(card_a(), "11 ?01 11 000 0?", 17);
+        // Rule 2: separators 0 1 1, separator 3 summing to -1. 1?1 reads as 101, p 2.
+        refused(card_a(), "00 000 11 1?1 1-", 17);
+        // With separator 3 lost whole, 0 1 0.
+        refused(card_a(), "00 000 11 1?1 ?-", 9);
+    }
+
+    /// Request P6: what is held against the parity of p is the separator's sum, not most of its bits.
+    #[test]
+    fn a_contradiction_goes_by_the_sum() {
+        // As levels of 1 and -1, separators 1 1 1 with p 1. The words of 12 to 15 have 4, 3, 2 and 3 places unlike.
+        let mut word = levels("110 111 110 111 110");
+        levels_read(card_b(), &word, [14, 2, 3], [Some(0), Some(0)]);
+        // -1 - 1 + 5 is above zero: separators 1 1 0, rule 1. From 6 to 8, m has 14 - m places unlike, from 9 to 14 it has
+        // 2 + 14 - m; 15 has 3.
+        word[14] = 5.0;
+        levels_read(card_b(), &word, [14, 2, 1], [Some(0), None]);
+        // 1 0 0: rule 2 with p 1, the last.
+        word[8] = 5.0;
+        assert_eq!(read_levels(&card_b(), &word), Err(12));
+        // 0 0 0: rule 3, but p is 1.
+        word[2] = 5.0;
+        assert_eq!(read_levels(&card_b(), &word), Err(17));
+        // The other way round: 1 + 1 - 5 is below zero, so separators 1 1 1, but p is 0.
+        let word: Vec<f32> = word.iter().map(|level| -level).collect();
+        assert_eq!(read_levels(&card_b(), &word), Err(17));
     }
 
     /// A separator goes by its sum, not by how many of its bits are 1, and each one's sum starts from zero.
@@ -400,23 +470,30 @@ mod tests {
         // 15 before 16.
         assert_eq!(read_levels(&card_b(), &nans[..14]), Err(15));
         assert_eq!(read_levels(&card_b(), &[f32::INFINITY; 16]), Err(15));
-        // 16 before 9, 10, 11 and 12: these words would be refused so, but for their last level or their first.
-        let words = ["000 000 111 000 000", "111 111 100 01? 000", "000 ??1 000 000 000", "111 111 100 ??1 000"];
-        for (word, number) in words.into_iter().zip(9..) {
+        // 16 before 9, 10, 11, 12 and 17: these words would be refused so, but for their last level or their first.
+        let words = [
+            ("000 000 111 000 000", 9),
+            ("111 111 100 01? 000", 10),
+            ("000 ??1 000 000 000", 11),
+            ("111 111 100 ??1 000", 12),
+            ("000 1?1 000 111 000", 17),
+        ];
+        for (word, number) in words {
             refused(card_b(), word, number);
             assert_eq!(read_levels(&card_b(), &levels_with(word, 14, &[f32::INFINITY])), Err(16));
             assert_eq!(read_levels(&card_b(), &levels_with(word, 0, &[f32::NAN])), Err(16));
         }
     }
 
-    /// The search may set out from any position: a word of each rule, and one that is refused.
+    /// The search may set out from any position: a word of each rule, and two that are refused.
     #[test]
     fn the_walk_may_stand_anywhere() {
         let track = Track::of_card(&card_b()).expect("card B is sound");
         let mut walk = Walk::new(&track);
         for position in 0..=15 {
             walk.go_to(position);
-            for word in ["111 1?1 111 101 000", "111 ?10 100 0?0 000", "000 010 000 0?? -00", "000 01? 000 000 000"] {
+            let read = ["111 1?1 111 101 000", "111 ?10 100 0?0 000", "000 010 000 0?? -00"];
+            for word in read.into_iter().chain(["000 01? 000 000 000", "000 111 000 1?1 000"]) {
                 let levels = levels(word);
                 assert_eq!(read_levels_from(&walk, &levels), read_levels(&card_b(), &levels), "{word} from {position}");
             }

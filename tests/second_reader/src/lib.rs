@@ -1,5 +1,5 @@
 //! A second reader of robust Gray position words: cards, words, positions and readings, written from the words of document 01 and
-//! of requests P1 to P5 by plain search, to be compared with the library.
+//! of requests P1 to P6 by plain search, to be compared with the library.
 //!
 //! Words are single bits, made by walking from position 0 and turning one bit a step; block starts add up the places in which one
 //! whole word and the next differ; the least distance is found by summing every set of rows, a chunk's codeword by trying all, the
@@ -8,7 +8,8 @@
 //! codewords, not by votes. A word of levels is read by the same search, over the bits that aren't lost.
 //!
 //! The calls below are the library's eight. [`track::Track`] and [`walk::Walk`] are for a caller with many words of one card,
-//! [`reed_muller::ReedMuller`] for one with many chunks of one code.
+//! [`reed_muller::ReedMuller`] for one with many chunks of one code. [`separator_promise`] is for holding any reader's answers to
+//! request P6.
 #![deny(unsafe_code)]
 #![deny(unsafe_op_in_unsafe_fn)]
 
@@ -22,6 +23,7 @@ pub mod levels;
 pub mod reading;
 pub mod reed_muller;
 mod rules;
+pub mod separator_promise;
 #[cfg(test)]
 mod test_cards;
 pub mod track;
@@ -37,7 +39,7 @@ pub use track::Facts;
 use track::Track;
 use walk::Walk;
 
-/// Why a call is turned down: the number in document 01's table, or a request's: P1's 13, P2's 14, P5's 15 and 16.
+/// Why a call is turned down: the number in document 01's table, or a request's: P1's 13, P2's 14, P5's 15 and 16, P6's 17.
 pub type Refusal = u32;
 
 /// Checks a card.

@@ -50,12 +50,12 @@ impl Received for [bool] {
     }
 }
 
-/// Expected values are worked out by hand from document 01 and request P3. In a word's chunks place 0 stands leftmost.
+/// Expected values are worked out by hand from document 01 and requests P3 and P6. In a word's chunks place 0 stands leftmost.
 #[cfg(test)]
 mod tests {
     use super::Reading;
     use crate::read_word;
-    use crate::test_cards::{card_a, card_b, card_of_five};
+    use crate::test_cards::{card_a, card_b, card_of_five, card_of_two_rows};
 
     /// Asserts what a word reads as: position, residual and rule, then the bits of both chunks.
     fn reads(card: [u8; 512], word: &[u8], [position, residual, rule]: [u32; 3], bits: [Option<u32>; 2]) {
@@ -124,5 +124,68 @@ mod tests {
         // 11 110 11 100 00: separators 1 1 0, so rule 1. Places 0 to 3, 5, 6 and 7 are taken from w(1), so this is the word of 7;
         // p 1 allows 0 + 2 + 2 = 4 to 10.
         reads(card_a(), &[0xEF, 0x00], [7, 0, 1], [Some(0), None]);
+    }
+
+    /// Asserts that a word is refused.
+    fn refused(card: [u8; 512], word: &[u8], number: u32) {
+        assert_eq!(read_word(&card, word), Err(number), "word {word:02X?}");
+    }
+
+    /// Request P6 by rule 3: separator 1 isn't the parity of the p that both chunks read.
+    #[test]
+    fn rule_3_finds_separator_1_in_contradiction() {
+        // 000 111 000 111 000: p 1, separator 1 is 0. Among 12 to 15, the word of 12 would be nearest, with 6 bits unlike.
+        refused(card_b(), &[0x38, 0x0E], 17);
+        // 100 110 001 101 010: the same with a place turned in every chunk.
+        refused(card_b(), &[0x19, 0x2B], 17);
+        // 111 000 111 000 111: p 0, separator 1 is 1.
+        refused(card_b(), &[0xC7, 0x71], 17);
+        // 11 101 11 101 11: p 2, separator 1 is 1.
+        refused(card_a(), &[0xF7, 0x0E], 17);
+        // 10 110 01 110 10: p 1. All three separators tie and read 0.
+        refused(card_a(), &[0xCD, 0x05], 17);
+    }
+
+    /// By rule 1: separator 1 isn't the parity of the p that chunk 1 reads.
+    #[test]
+    fn rule_1_finds_separator_1_in_contradiction() {
+        // 000 111 000 000 111: separators 0 0 1, p 1.
+        refused(card_b(), &[0x38, 0x70], 17);
+        // 00 011 00 101 11: separators 0 0 1, p 3. Chunk 2, which isn't named, is c(2).
+        refused(card_a(), &[0x98, 0x0E], 17);
+        // 11 101 11 110 00: separators 1 1 0, p 2. Chunk 2 is c(1).
+        refused(card_a(), &[0xF7, 0x01], 17);
+        // 110 11010 011 00000 000: separators 1 1 0. 11010 is one bit from 11011, c(2), so p 2.
+        refused(card_of_two_rows(), &[0x5B, 0x06, 0x00], 17);
+    }
+
+    /// By rule 2: separator 3 isn't the parity of the p that chunk 2 reads.
+    #[test]
+    fn rule_2_finds_separator_3_in_contradiction() {
+        // 000 000 111 000 111: separators 0 1 1, p 0.
+        refused(card_b(), &[0xC0, 0x71], 17);
+        // 00 110 11 101 11: separators 0 1 1, p 2. Separator 1 is its parity, but by rule 2 that isn't asked.
+        refused(card_a(), &[0xEC, 0x0E], 17);
+        // 11 101 00 110 00: separators 1 0 0, p 1. Here too separator 1 is its parity.
+        refused(card_a(), &[0x97, 0x01], 17);
+    }
+
+    /// 9 to 12 come before 17: in each of these words the codewords contradict the separators besides.
+    #[test]
+    fn a_contradiction_is_seen_last() {
+        // 000 111 111 111 000: separators 0 1 0. Separators 1 and 3 are 0, both chunks read 1.
+        refused(card_b(), &[0xF8, 0x0F], 9);
+        // 11 000 11 100 11: rule 3. Chunk 1 reads 0, but separator 1 is 1; 100 is no codeword.
+        refused(card_a(), &[0xE3, 0x0C], 10);
+        // 111 000 111 111 111: rule 3. Chunk 1 reads 0, but separator 1 is 1; chunk 2 reads 1.
+        refused(card_b(), &[0xC7, 0x7F], 11);
+        // 00 110 00 011 00: rule 3. The chunks read 1 and 3, but separator 1 is 0.
+        refused(card_a(), &[0x0C, 0x03], 11);
+        // 111 000 111 000 000: rule 1 with p 0, but separator 1 is 1.
+        refused(card_b(), &[0xC7, 0x01], 12);
+        // 111 000 000 111 000: rule 2 with p 1, the last, but separator 3 is 0.
+        refused(card_b(), &[0x07, 0x0E], 12);
+        // 11 000 00 011 00: rule 2 with p 3, the last, but separator 3 is 0.
+        refused(card_a(), &[0x03, 0x03], 12);
     }
 }

@@ -1,4 +1,5 @@
-//! The reading rules: the rule that a received word's separators name, the positions that it allows, and the nearest of these.
+//! The reading rules: the rule that a received word's separators name, whether they bear out the codeword, the positions that it
+//! allows, and the nearest of these.
 //!
 //! A plain word and a word of levels share them. How a separator and a code chunk read and which places are unlike, each kind of
 //! received bits says for itself.
@@ -22,9 +23,11 @@ pub trait Received {
     fn unlike(&self, word: &[bool]) -> usize;
 }
 
-/// What the reading rules leave: the rule, the positions that it allows, and the bits of the chunks that it names.
+/// What the reading rules leave: the rule, the number p that its chunks read, the positions that it allows, and the bits of the
+/// chunks that it names.
 struct Allowed {
     rule: u32,
+    p: usize,
     positions: RangeInclusive<u32>,
     chunk1_bits: Option<u32>,
     chunk2_bits: Option<u32>,
@@ -35,12 +38,14 @@ pub fn read<Bit>(walk: &Walk, received: &[Bit]) -> Result<Reading, Refusal>
 where
     [Bit]: Received,
 {
-    let Allowed { rule, positions, chunk1_bits, chunk2_bits } = allowed(walk.track, received)?;
+    let Allowed { rule, positions, chunk1_bits, chunk2_bits, .. } = allowed(walk.track, received)?;
     let (residual, position) = nearest(walk.clone(), positions, received);
     Ok(Reading { position, residual, rule, chunk1_bits, chunk2_bits })
 }
 
-/// The allowed positions of a received word, by the rule that its separators name, and the bits of the chunks that it names.
+/// The allowed positions of a received word, by the rule that its separators name, and the bits of the chunks that it names. The
+/// refusals are 9 to 12, then request P6's 17: w(p) has the parity of p in its separators, so separator 1 by rules 1 and 3, and
+/// separator 3 by rule 2, must be that parity.
 fn allowed<Bit>(track: &Track, received: &[Bit]) -> Result<Allowed, Refusal>
 where
     [Bit]: Received,
@@ -48,11 +53,16 @@ where
     let code = &track.card.code;
     let [separator_1, chunk_1, separator_2, chunk_2, separator_3] = code.chunks().map(|places| &received[places]);
     let read = |chunk: &[Bit]| chunk.code_chunk(code).ok_or(10u32);
-    match [separator_1, separator_2, separator_3].map(Received::separator) {
-        [a, b, c] if a == b && b == c => rule_3(track, read(chunk_1)?, read(chunk_2)?),
-        [a, b, _] if a == b => rule_1(track, read(chunk_1)?),
-        [_, b, c] if b == c => rule_2(track, read(chunk_2)?),
-        _ => Err(9),
+    let (separator, allowed) = match [separator_1, separator_2, separator_3].map(Received::separator) {
+        [a, b, c] if a == b && b == c => (a, rule_3(track, read(chunk_1)?, read(chunk_2)?)?),
+        [a, b, _] if a == b => (a, rule_1(track, read(chunk_1)?)?),
+        [_, b, c] if b == c => (c, rule_2(track, read(chunk_2)?)?),
+        _ => return Err(9),
+    };
+    if separator == (allowed.p % 2 == 1) {
+        Ok(allowed)
+    } else {
+        Err(17)
     }
 }
 
@@ -64,7 +74,7 @@ fn rule_1(track: &Track, (p, bits): (usize, usize)) -> Result<Allowed, Refusal> 
     let code = &track.card.code;
     let before = code.distance + code.step_weight(p - 1);
     let positions = track.starts[p - 1] + before as u32..=track.starts[p];
-    Ok(Allowed { rule: 1, positions, chunk1_bits: Some(bits as u32), chunk2_bits: None })
+    Ok(Allowed { rule: 1, p, positions, chunk1_bits: Some(bits as u32), chunk2_bits: None })
 }
 
 /// Rule 2, b c c: chunk 2 reads p, with so many bits unlike c(p); allowed are r(p) to r(p) + 2D + A(p).
@@ -75,7 +85,7 @@ fn rule_2(track: &Track, (p, bits): (usize, usize)) -> Result<Allowed, Refusal> 
     }
     let after = 2 * code.distance + code.step_weight(p);
     let positions = track.starts[p]..=track.starts[p] + after as u32;
-    Ok(Allowed { rule: 2, positions, chunk1_bits: None, chunk2_bits: Some(bits as u32) })
+    Ok(Allowed { rule: 2, p, positions, chunk1_bits: None, chunk2_bits: Some(bits as u32) })
 }
 
 /// Rule 3, b b b: both chunks read the same p, each with its own bits unlike c(p); allowed are r(p) - D to r(p) + D, cut to 0 and
@@ -86,7 +96,7 @@ fn rule_3(track: &Track, (p, bits_1): (usize, usize), (other, bits_2): (usize, u
     }
     let (start, distance) = (track.starts[p], track.card.code.distance as u32);
     let positions = start.saturating_sub(distance)..=track.last().min(start + distance);
-    Ok(Allowed { rule: 3, positions, chunk1_bits: Some(bits_1 as u32), chunk2_bits: Some(bits_2 as u32) })
+    Ok(Allowed { rule: 3, p, positions, chunk1_bits: Some(bits_1 as u32), chunk2_bits: Some(bits_2 as u32) })
 }
 
 /// The residual and the position of the nearest of these positions, the smallest on a tie: each is tried with its full word.

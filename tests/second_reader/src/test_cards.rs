@@ -24,6 +24,12 @@ pub fn card_b() -> [u8; 512] {
     card(3, 14, &[7], 145)
 }
 
+/// Rows 7 and 28, track 0: check 1 × 5 + 2 × 2 + 12 × 7 + 20 × 28 = 653. c(0) to c(3) are 00000, 11100, 11011 and 00111, so D is 3,
+/// t 1, places 0-2, 3-7, 8-10, 11-15, 16-18. The starts are 0, 15, 30 and 45, as each block has 3 × 3 + 2 × 3 steps.
+pub fn card_of_two_rows() -> [u8; 512] {
+    card(5, 0, &[7, 28], 653)
+}
+
 /// Row 31, track 0: check 1 × 5 + 2 × 1 + 12 × 31 = 379. D 5, t 2, places 0-4, 5-9, 10-14, 15-19, 20-24. The last position is
 /// 3 × 5 + 2 × 5 = 25. c(0) is 00000 and c(1) 11111, so here too the word of position m has m ones and then zeros.
 pub fn card_of_five() -> [u8; 512] {

@@ -5,7 +5,7 @@ use second_reader::walk::Walk;
 use second_reader::word::{packed, Word};
 
 /// How many words are read at a position, beside those with a spare bit set.
-const COUNT: u64 = 27;
+const COUNT: u64 = 29;
 
 /// A word that is received, and how many bits of each chunk are turned if no chunk has more of them than the radius.
 pub struct Received {
@@ -15,7 +15,7 @@ pub struct Received {
 
 /// The words of the position at which `here` stands, of card `id`. The walk `behind` stands further back. The last two have a spare bit
 /// set, if there is one, and count as damaged beyond the radius: the position's own word, and one that is refused without it about
-/// every second time, so that 8 is seen to come before 9 to 12.
+/// every second time, so that 8 is seen to come before 9 to 12 and 17.
 pub fn at<'a>(behind: &'a Walk, here: &'a Walk, id: u64) -> impl Iterator<Item = Received> + 'a {
     let seed = random(id, here.position.into());
     let words = (0..COUNT).map(move |q| {
@@ -46,6 +46,8 @@ fn word_number(q: u64, behind: &Walk, here: &Walk, seed: u64) -> Word {
         17 => one(any, code.chunks()[any].len(), Places::First),
         18..=21 => moved(q, behind, here),
         22..=26 => made_up(q, here, seed),
+        27 => pasted(here, code.chunks()[1 + any % 4].start, seed),
+        28 => pasted(here, seed as usize % code.word_bits(), seed),
         _ => unreachable!("there are {COUNT} words"),
     }
 }
@@ -94,6 +96,14 @@ pub fn made_up(q: u64, here: &Walk, seed: u64) -> Word {
         25 => of(0, code.codewords() - 1),
         _ => damaged(code, &of(any(1), any(1)), 0..5, code.radius(), Places::Scattered, seed),
     }
+}
+
+/// Words 27 and 28, pasted from two telegrams: the position's word up to where a chunk begins, or up to any place, and from there on
+/// that of some codeword.
+fn pasted(here: &Walk, place: usize, seed: u64) -> Word {
+    let code = &here.track.card.code;
+    let other = code.whole_word((random(seed, 1) % code.codewords() as u64) as usize);
+    [&here.word[..place], &other[place..]].concat()
 }
 
 /// A word with its first spare bit set.
