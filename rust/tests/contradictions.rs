@@ -76,7 +76,7 @@ fn counts(card: &[u8], bits: usize) -> [usize; 6] {
     counts
 }
 
-/// As many words are refused by 17 as are read: the other parity in every separator makes one of the other.
+/// Every word of cards A and B, counted by hand. On both, as many are refused by 17 as are read.
 #[test]
 fn every_word() {
     // Card B: separators and chunks read 0 or 1, each in four of eight ways, so each of 32 patterns stands for 4^5 words. 9: 0 1 0
