@@ -154,9 +154,9 @@ uint32_t dunnavish_write_word(const uint8_t *card, size_t card_bytes, uint32_t p
  * most 31. If each of the word's five chunks has at most t bits turned, it is the number of bits turned in the chunk. A chunk that
  * the rule does not name is not read, whatever it holds, and its value is DUNNAVISH_NOT_READ.
  *
- * Separator 1, under rule 2 separator 3, must be equal to the parity of the number of the codeword that was read, or the answer is
- * DUNNAVISH_PARITY_DIFFERS. So a word pasted from two, with that separator from one and the codeword from another whose number has
- * the other parity, is never answered 0.
+ * Separator 1, under rule 2 separator 3, must be equal to the parity of the number of the codeword that was read; if it is not, and
+ * nothing above it in the list of statuses holds, the answer is DUNNAVISH_PARITY_DIFFERS. So a word pasted from two telegrams, with
+ * that separator from one and the codeword from another whose number has the other parity, is never answered 0.
  */
 enum dunnavish_read_value {
     DUNNAVISH_READ_POSITION = 0,    /* the position, from 0 to the last */
@@ -178,7 +178,8 @@ uint32_t dunnavish_read_word(const uint8_t *card, size_t card_bytes, const uint8
  * sum below zero; so a sum of zero reads 0. A code chunk reads as the codeword for which 2 * wrong + lost is below D (there is at
  * most one): wrong counts the bits that differ from it, lost those that are lost. On 0 the five values are those of
  * dunnavish_read_word, at the same indices, with one difference: only bits that are not lost count, in the residual, by which the
- * nearest position is found, and in the bits of the chunks. The two floats are the receiver's strength, at the indices below.
+ * nearest position is found, and in the bits of the chunks. The two floats are the receiver's strength, at the indices below. What is
+ * said there of the separators and the codeword's number holds here too, a separator being what its levels sum to.
  *
  * Where five values and two floats are lent: if there are d levels, each 1 or -1, status and values are those that
  * dunnavish_read_word answers for these bits. If there are d levels, each 1, -1 or 0, and, against the word of a position, each of

@@ -1,6 +1,6 @@
 //! Document 01's rules, P2's offset, P3's counts of the code chunks, P5's levels and P6's parity, in straightforward Rust, written
-//! apart from the library, with words as five 64-bit numbers and counts by `count_ones`: the baseline of the benchmark, and what the tests of
-//! the Rust crate hold the library against. `Kept` holds every codeword and start of a card that was decoded once.
+//! apart from the library, with words as five 64-bit numbers and counts by `count_ones`: the baseline of the benchmark, and what the
+//! tests of the Rust crate hold the library against. `Kept` holds every codeword and start of a card that was decoded once.
 
 /// A word: place p is bit p % 64 of number p / 64.
 pub type Word = [u64; 5];
@@ -374,7 +374,7 @@ fn chunk_2(order: &impl Order, received: &impl Received) -> Result<Found, u32> {
     received.find(order, 2 * code.distance + code.n).ok_or(10)
 }
 
-/// The separator that a rule holds against its codeword has the parity of the codeword's number.
+/// The rule's separator, separator 1 by rules 1 and 3 and separator 3 by rule 2, must have the parity of the codeword's number.
 fn parity(separator: bool, p: usize) -> Result<(), u32> {
     if separator == (p % 2 == 1) {
         Ok(())

@@ -38,7 +38,7 @@
 //!
 //! assert_eq!(dunnavish::write_word(&card, 16, &mut word), Err(dunnavish::Refusal::OffTheTrack));
 //!
-//! // Both code chunks hold codeword 1, and the separators 0: pasted from two words.
+//! // Both code chunks hold codeword 1, and the separators 0: pasted from two telegrams.
 //! assert_eq!(dunnavish::read_word(&card, &[0x38, 0x0e]), Err(dunnavish::Refusal::ParityDiffers));
 //!
 //! // The word of position 7 from a receiver that gives levels: its seven ones are negative, the last level is faint, and code
@@ -330,7 +330,8 @@ pub fn write_word(card: &[u8], position: u32, word: &mut [u8]) -> Result<(), Ref
 /// turned in it.
 ///
 /// Of a word that is read, separator 1, by [`Rule::FirstDiffers`] separator 3, has the parity of the number of its codeword. So a
-/// word pasted from two, with that separator from one and the codeword from another whose number has the other parity, is never read.
+/// word pasted from two telegrams, with that separator from one and the codeword from another whose number has the other parity, is
+/// never read.
 ///
 /// Refused: the card, [`Refusal::WordLength`], [`Refusal::SpareBit`] to [`Refusal::NoBlock`], and [`Refusal::ParityDiffers`].
 pub fn read_word(card: &[u8], word: &[u8]) -> Result<Reading, Refusal> {
@@ -351,7 +352,8 @@ pub fn read_word(card: &[u8], word: &[u8]) -> Result<Reading, Refusal> {
 ///
 /// If there are as many levels as a word has bits, each 1 or -1, the reading, or the refusal, is that of [`read_word`] for these
 /// bits. If there are as many, each 1, -1 or 0, and, against the word of a position, each of the five chunks has 2 × wrong + lost
-/// below D, the answer is a reading, and its position is off by at most 2 × wrong + lost, counted over the whole word.
+/// below D, the answer is a reading, and its position is off by at most 2 × wrong + lost, counted over the whole word. What
+/// [`read_word`] says of the separators and the codeword's number holds here too, a separator being what its levels sum to.
 ///
 /// Refused, in this order: the card; [`Refusal::LevelCount`]; [`Refusal::LevelLimits`], for any of the levels (1,000,000 itself
 /// is allowed); [`Refusal::Separators`] to [`Refusal::NoBlock`]; and [`Refusal::ParityDiffers`].

@@ -131,7 +131,7 @@ fn pasted(card: &[u8], summary: &CardSummary, rule: usize, [i, j]: [u32; 2], ran
     word
 }
 
-/// Words pasted from two: read if the separator has the codeword's parity, and refused otherwise, by 12 where there is no block.
+/// Words pasted from two: read if the separator has the parity of j, and refused otherwise, by 12 where there is no block.
 #[test]
 fn words_pasted_from_two() {
     let mut random = Random(17);

@@ -100,8 +100,10 @@ pub fn write_word(card: &[u8], position: u32, word: &mut [u8]) -> WriteAnswer
 // twice as many steps off as bits are turned, and at most as many as bits are turned and the residual together; and a chunk that is
 // read needed as many bits as are turned in it. Of any word that is read, it is the nearest of the positions that the rule allows, and
 // how many bits a chunk needed is the count of places in which that chunk of the received word and the codeword that it reads as
-// differ, at most t; and that separator has the parity of the codeword's number. So a word that has the separator from one telegram and
-// the codeword from another, whose parities differ, is never read. Without 17 such words were read; every other is answered as it was.
+// differ, at most t; and separator 1, by rule 2 separator 3, has the parity of the codeword's number (`agrees`). So a word that has this
+// separator from one telegram and the code chunk from another, whose parities differ, is never read (`pasted`). A word that no refusal
+// before it turns down, and in which this separator differs, was read without 17 and is refused by it; every other word is answered as it
+// was (`before`).
 pub fn read_word(card: &[u8], word: &[u8]) -> ReadAnswer
     ensures answer { λ r. ⌜ r ≡ readAnswer (now (card .entry)) (now (word .entry)) ⌝ }
     ensures status { λ r. ⌜ readStatus r ≡ readRefusal (now (card .entry)) (now (word .entry)) ⌝ }
@@ -130,7 +132,7 @@ pub fn read_word(card: &[u8], word: &[u8]) -> ReadAnswer
 // clauses name), and how many bits it needed is the count of its wrong places. Of d levels of 1 and -1 the answer is that of the plain
 // reading of the word of these bits. Of d levels of 1, -1 and 0 that have, against the word of any position on the track, 2 × wrong + lost
 // below D in every chunk, the answer is a position, and it is off by at most 2 × wrong + lost, counted over the whole word. What 17 changes
-// is as in a plain word (`agrees`, `pasted`, `before`), the separator read by the sum of its levels.
+// is as in a plain word (`agrees`, `pasted`, `before`), a separator being what its levels sum to.
 pub fn read_levels(card: &[u8], levels: &[f32]) -> LevelsAnswer
     ensures answer { λ r. ⌜ r ≡ levelsAnswer (now (card .entry)) (now (levels .entry)) ⌝ }
     ensures status { λ r. ⌜ levelsStatus r ≡ levelsRefusal (now (card .entry)) (now (levels .entry)) ⌝ }

@@ -32,7 +32,7 @@ pub fn refused(refusal: u32) -> LevelsAnswer
     }
 }
 
-// What the separators of d levels name: the rule, and with it the separator that is held against the codeword.
+// What the separators of d levels name: a rule, and with it what the rule's separator reads.
 fn named_rule(code: DecodedCode, levels: &[f32]) -> NamedRule
     requires { ⌜ Sound (meaning code) × (length (now levels) ≡ wordBits (meaning code)) ⌝ }
     ensures { λ r. ⌜ NamesOf (seenTold (meaning code) (toldAt (now (levels .entry)))) r ⌝ }

@@ -2,17 +2,18 @@
 -- levels. Assumes nothing.
 use mathlib.Core.Path.{_≡_, refl}
 use mathlib.Core.List.{List}
-use Prim.Native.Nat.{ℕ}
+use mathlib.Core.Logic.{⊎-elim}
+use Prim.Native.Nat.{ℕ, _%_}
 use lib.Ieee.{Float}
 use Rattle.model.specs.Card.{codeOf, cardRefusal}
-use Rattle.model.specs.Reading.{ruleSeen, rows9To12, rowsSeen, nearest}
+use Rattle.model.specs.Reading.{ruleSeen, separatorBy, rows9To12, rowsSeen, nearest}
 use Rattle.model.specs.Levels.{toldAt}
 use Rattle.model.specs.Answers.{rowsOfLevels, levelsRefusal, levelsAnswered, levelsAnswer}
 use Rattle.code_theory.proofs.Refusals.{numbered}
 use Rattle.code_theory.proofs.SoundCard.{sound-card}
 use Rattle.position_theory.specs.Contradictions.{contradicted}
 use Rattle.position_theory.proofs.RuleReads.{reads-in-code}
-use Rattle.position_theory.proofs.Contradictions.{parity-agrees, pasted-refused, seventeen-past-card}
+use Rattle.position_theory.proofs.Contradictions.{parity-agrees, separator-from, pasted-refused, seventeen-past-card}
 use Rattle.position_theory.proofs.Demands.{card-promise}
 use Rattle.level_theory.specs.LevelContradictions.{seenOf, LevelsReadOnlyIfParityAgrees, PastedLevelsNeverRead}
 use Rattle.level_theory.specs.LevelContradictions.{levelsAnswerBefore, LevelsAsBeforeUnlessContradicted}
@@ -33,10 +34,15 @@ module _ (card : List ℕ) (levels : List Float) where
   unfolding PastedLevelsNeverRead toldAt
   pasted-levels-never-read i j pasted r answered =
       let C = codeOf card in
+      let s = seenOf card levels in
       let (sound, none, _) = levels-show card levels r answered in
-      let sees = told-sees C (sound-card card sound) (toldAt levels) (λ p b. unit-told (pasted .units p b)) in
-      pasted-refused C (card-promise card sound) sees i j (pasted .in-code) (pasted .in-code′) (pasted .differ) (pasted .separator)
-      (pasted .chunk) none
+      let promise = card-promise card sound in
+      let reads : separatorBy s (ruleSeen s) ≡ i % 2 =
+      ⊎-elim (λ read. read)
+      (λ (units, below).
+      separator-from C promise (told-sees C (sound-card card sound) (toldAt levels) (λ p b. unit-told (units p b))) i (pasted .in-code) below)
+      (pasted .separator) in
+      pasted-refused C promise (told-sees-chunks C (toldAt levels)) i j (pasted .in-code′) (pasted .differ) reads (pasted .chunk) none
 
   pub levels-as-before-unless-contradicted : LevelsAsBeforeUnlessContradicted card levels (levelsAnswer card levels .answer)
   unfolding LevelsAsBeforeUnlessContradicted levelsAnswerBefore levelsAnswer levelsAnswered levelsRefusal rowsOfLevels rowsSeen rows9To12 numbered

@@ -1,8 +1,10 @@
 -- Document 02, P6, of words of levels: what is promised of every word that is read, that a word pasted from two telegrams is never read, and
--- which words are answered otherwise than without P6. The definitions are those of plain words, of what levels tell. Assumes nothing.
+-- which words are answered otherwise than without P6. The definitions are those of plain words, applied to what the levels tell.
+-- Assumes nothing.
 use mathlib.Core.Path.{_≡_}
 use mathlib.Core.Bool.{not}
 use mathlib.Core.List.{List, _∷_}
+use mathlib.Core.Logic.{_⊎_}
 use Prim.Native.Nat.{ℕ, _%_, _≤_}
 use lib.Dec.{eqb}
 use lib.Ieee.{Float}
@@ -11,14 +13,14 @@ use Rattle.model.specs.Refusals.{refuses, refusedAs, firstRefusal, unlessRefuse
 use Rattle.model.specs.Card.{Code, codeOf, cardRefusal}
 use Rattle.model.specs.Order.{lastCodeword}
 use Rattle.model.specs.Words.{wordBits, word}
-use Rattle.model.specs.Reading.{Seen, ruleSeen, twoEnds, rows9To12}
+use Rattle.model.specs.Reading.{Seen, ruleSeen, separatorBy, twoEnds, rows9To12}
 use Rattle.model.specs.Levels.{anyOutside, toldAt, seenTold}
 use Rattle.model.specs.Answers.{readingTold}
 use Rattle.model.specs.declared.Reading.{Reading}
 use Rattle.model.specs.declared.ReadAnswer.{ReadAnswer}
 use Rattle.model.specs.declared.ReadAnswer.the-variants.{At, Refused}
 use Rattle.position_theory.specs.Damage.{ChunkBelowD}
-use Rattle.position_theory.specs.Contradictions.{AgreesIfRead, separatorHeld, chunkHeld, contradicted, unlessContradicted}
+use Rattle.position_theory.specs.Contradictions.{AgreesIfRead, separatorChunk, codeChunk, contradicted, unlessContradicted}
 use Rattle.level_theory.specs.UnitLevels.{UnitLevels}
 use Rattle.level_theory.specs.LevelPromises.{heardOf, bitsOf}
 
@@ -26,20 +28,28 @@ use Rattle.level_theory.specs.LevelPromises.{heardOf, bitsOf}
 abbrev pub seenOf : (card : List ℕ) (levels : List Float) → Seen
 seenOf card levels = seenTold (codeOf card) (toldAt levels)
 
--- Of every word of levels that is read, on every card: the code chunks that its rule names read as one codeword c(p), and the separator
--- that the rule holds against p, by the sum of its levels, reads as the parity of p
+-- Of every word of levels that is read, on every card: the code chunks that its rule names read as one codeword c(p), and the rule's
+-- separator, by the sum of its levels, reads as the parity of p
 unfoldable pub LevelsReadOnlyIfParityAgrees : (card : List ℕ) (levels : List Float) → ReadAnswer → Type 0
 LevelsReadOnlyIfParityAgrees card levels answer = AgreesIfRead (codeOf card) (seenOf card levels) answer
 
--- Levels of 1, -1 and 0 are pasted from two telegrams, w(i) and w(j), whose parities differ: by the rule that the separators name, the word
--- has its separator from the first and its code chunk from the second, each with 2 × wrong + lost below D
+-- the rule's separator is from w(i): whatever the levels are, it reads as the parity of i, or they are 1, -1 and 0, and it has
+-- 2 × wrong + lost below D
+abbrev pub SeparatorFrom : (card : List ℕ) (levels : List Float) (i : ℕ) → Type 0
+SeparatorFrom card levels i =
+    let C : Code = codeOf card in
+    let rule : ℕ = ruleSeen (seenOf card levels) in
+    (separatorBy (seenOf card levels) rule ≡ i % 2)
+    ⊎ (UnitLevels levels (wordBits C) × ChunkBelowD C (heardOf levels) (word C i) (bitsOf levels) (separatorChunk rule))
+
+-- Levels are pasted from two telegrams, w(i) and w(j), whose parities differ: by the rule that the separators name, the word has the rule's
+-- separator from the first and the code chunk from the second, with 2 × wrong + lost below D
 pub record PastedLevels (card : List ℕ) (levels : List Float) (i j : ℕ) : Type 0 where
-  pub units : UnitLevels levels (wordBits (codeOf card))
   pub in-code : i ≤ lastCodeword (codeOf card)
   pub in-code′ : j ≤ lastCodeword (codeOf card)
   pub differ : i % 2 ≡ j % 2 → ⊥
-  pub separator : ChunkBelowD (codeOf card) (heardOf levels) (word (codeOf card) i) (bitsOf levels) (separatorHeld (ruleSeen (seenOf card levels)))
-  pub chunk : ChunkBelowD (codeOf card) (heardOf levels) (word (codeOf card) j) (bitsOf levels) (chunkHeld (ruleSeen (seenOf card levels)))
+  pub separator : SeparatorFrom card levels i
+  pub chunk : ChunkBelowD (codeOf card) (heardOf levels) (word (codeOf card) j) (bitsOf levels) (codeChunk (ruleSeen (seenOf card levels)))
 
 -- such a word is never read
 unfoldable pub PastedLevelsNeverRead : (card : List ℕ) (levels : List Float) → ReadAnswer → Type 0
@@ -59,7 +69,7 @@ levelsAnswerBefore card levels =
     Refused (At (readingTold C (toldAt levels)))
 
 -- The words that were read and no longer are: those in which that separator differs, each refused by 17. Every other word, on every card,
--- is answered as before, with the same values or the same refusal.
+-- is answered as before, with the same values or the same refusal. (The strength goes with the answer: that of the word, or two zeros.)
 unfoldable pub LevelsAsBeforeUnlessContradicted : (card : List ℕ) (levels : List Float) → ReadAnswer → Type 0
 LevelsAsBeforeUnlessContradicted card levels answer =
     answer ≡ unlessContradicted (contradicted (seenOf card levels)) (levelsAnswerBefore card levels)

@@ -347,18 +347,21 @@ starredCases =
     ∷ case (read cardB (0xc7 ∷ 0x71 ∷ [])) (17 ∷ [])
     ∷ case (read cardB (0x38 ∷ 0x70 ∷ [])) (17 ∷ [])
     ∷ case (read cardB (0xc0 ∷ 0x71 ∷ [])) (17 ∷ [])
-    -- 12 before 17, by rules 1 and 2; 11 before 17; and on card A, where no codeword is 100, 10 before 17
+    -- 12 before 17, by rules 1 and 2; 11 and 9 before 17; and on card A, where no codeword is 100, 10 before 17
     ∷ case (read cardB (0xc7 ∷ 0x01 ∷ [])) (12 ∷ [])
     ∷ case (read cardB (0x07 ∷ 0x0e ∷ [])) (12 ∷ [])
     ∷ case (read cardB (0xc7 ∷ 0x7f ∷ [])) (11 ∷ [])
+    ∷ case (read cardB (0xf8 ∷ 0x0f ∷ [])) (9 ∷ [])
     ∷ case (read cardA (0b01100111 ∷ 0b1100 ∷ [])) (10 ∷ [])
-    -- card A: 11 101 11 000 00, by rule 1 with p 2, whose parity separator 3 has, and block p - 1; 11 000 00 110 00, by rule 2 with p 1,
-    -- whose parity separator 1 has; 10 110 00 110 00, by rule 3 with p 1, where separator 1 ties and reads 0
+    -- card A: 11 101 11 000 00, by rule 1 with p 2: separator 3 has the parity of p, and separator 1 that of p - 1; 11 000 00 110 00, by
+    -- rule 2 with p 1, whose parity separator 1 has; 10 110 00 110 00, by rule 3 with p 1, where separator 1 ties and reads 0
     ∷ case (read cardA (0b01110111 ∷ 0b0000 ∷ [])) (17 ∷ [])
     ∷ case (read cardA (0b10000011 ∷ 0b0001 ∷ [])) (17 ∷ [])
     ∷ case (read cardA (0b10001101 ∷ 0b0001 ∷ [])) (17 ∷ [])
-    -- the first word and the fifth as levels, the first also with two bits of separator 1 lost
+    -- the words of rule 3, 1 and 2 and the one of 12 before 17 as levels, the first also with two bits of separator 1 lost
     ∷ case (levels cardB (zeroBits 3 ++ oneBits 3 ++ zeroBits 3 ++ oneBits 3 ++ zeroBits 3)) (17 ∷ [])
+    ∷ case (levels cardB (zeroBits 3 ++ oneBits 3 ++ zeroBits 6 ++ oneBits 3)) (17 ∷ [])
+    ∷ case (levels cardB (zeroBits 6 ++ oneBits 3 ++ zeroBits 3 ++ oneBits 3)) (17 ∷ [])
     ∷ case (levels cardB (oneBits 3 ++ zeroBits 3 ++ oneBits 3 ++ zeroBits 6)) (12 ∷ [])
     ∷ case (levels cardB (lostBits 2 ++ zeroBits 1 ++ oneBits 3 ++ zeroBits 3 ++ oneBits 3 ++ zeroBits 3)) (17 ∷ [])
     -- a separator is what its levels sum to: -1, -1 and 3 read 0, against both chunks; 1, 1 and -3 read 1, as both chunks ask

@@ -95,8 +95,8 @@ namesSecond rule = eqb rule 2 || eqb rule 3
 unfoldable pub numberBy : Seen → (rule : ℕ) → ℕ
 numberBy s rule = cond (eqb rule 2) (numberRead (s .read₂)) (numberRead (s .read₁))
 
--- document 02, P6: which separator must be equal to the parity of p, by what the separators read: separator 1 by rules 1 and 3,
--- separator 3 by rule 2
+-- document 02, P6: the rule's separator is the one that must be equal to the parity of p, separator 1 by rules 1 and 3, separator 3 by
+-- rule 2; what it reads, by what separators 1 and 3 read
 unfoldable pub separatorOf : (rule s₁ s₃ : ℕ) → ℕ
 separatorOf rule s₁ s₃ = cond (eqb rule 2) s₃ s₁
 
@@ -147,7 +147,7 @@ rows9To12 R s rule =
     ∷ refuses 12 (R .noBlock rule (numberBy s rule))
     ∷ []
 
--- and straight after 12, by document 02's P6, 17: the separator that must be equal to the parity of p differs from it
+-- and straight after 12, by document 02's P6, 17: what the rule's separator reads differs from the parity of p
 unfoldable pub rowsSeen : Rules → Seen → (rule : ℕ) → List Row
 rowsSeen R s rule = rows9To12 R s rule ++ (refuses 17 (parityDiffers (separatorBy s rule) (numberBy s rule)) ∷ [])
 

@@ -1,6 +1,6 @@
--- P6. A word that is read has, in the separator that its rule holds against p, the parity of p: row 17 does not hold. A chunk of a word w(i)
--- tells i, so a separator of w(i) and a code chunk of w(j) of another parity contradict each other, and the word is refused. And row 17
--- is the last: without it a word is answered alike, or it is read. Assumes nothing.
+-- P6. A word that is read has the parity of p in its rule's separator: row 17 does not hold. A chunk of a word w(i) tells i, so a separator
+-- of w(i) and a code chunk of w(j) of another parity contradict each other, and the word is refused. And row 17 is the last: without it a
+-- word is answered alike, or it is read. Assumes nothing.
 use mathlib.Core.Path.{_≡_, refl, sym, ap, _∙_}
 use mathlib.Core.Bool.{Bool, true, false, cond}
 use mathlib.Core.List.{List, [], _∷_, _++_}
@@ -15,19 +15,22 @@ use Rattle.model.specs.Refusals.{Row, refuses, refusedAs, firstRefusal, unlessR
 use Rattle.model.specs.Card.{Code, codeOf, cardRefusal}
 use Rattle.model.specs.Order.{lastCodeword}
 use Rattle.model.specs.Words.{word}
-use Rattle.model.specs.Reading.{Seen, seen, ruleSeen, ruleNamed, numberBy, separatorOf, separatorBy, rows9To12, rowsSeen, rowsOf, nearest}
+use Rattle.model.specs.Reading.{numberRead, Seen, seen, ruleSeen, ruleNamed, numberBy, separatorOf, separatorBy}
+use Rattle.model.specs.Reading.{rows9To12, rowsSeen, rowsOf, nearest}
 use Rattle.model.specs.Answers.{rowsOfWord, readRefusal, readAnswer}
 use Rattle.model.specs.declared.Reading.{Reading}
 use Rattle.model.specs.declared.ReadAnswer.the-variants.{At, Refused}
 use Rattle.code_theory.specs.Promise.{ChunkPromise}
 use Rattle.code_theory.proofs.Refusals.{numbered, rows-after, refused-if-some, refused-by-card, past-card}
 use Rattle.position_theory.specs.Damage.{ChunkBelowD}
+use Rattle.position_theory.specs.SeenChunks.{SeesChunks}
 use Rattle.position_theory.specs.Nearest.{refusalOf}
-use Rattle.position_theory.specs.Contradictions.{ParityAgrees, ReadOnlyIfParityAgrees, separatorHeld, chunkHeld, PastedNeverRead}
+use Rattle.position_theory.specs.Contradictions.{ParityAgrees, ReadOnlyIfParityAgrees, separatorChunk, codeChunk, PastedNeverRead}
 use Rattle.position_theory.specs.Contradictions.{contradicted, unlessContradicted, answerBefore, AsBeforeUnlessContradicted}
 use Rattle.position_theory.proofs.Separators.{of-every-rule}
-use Rattle.position_theory.proofs.Telling.{Tells, Sees, word-tells}
-use Rattle.position_theory.proofs.RuleReads.{BothRead, InCode, WordReads, number-of, reads-in-code, word-reads}
+use Rattle.position_theory.proofs.Words.{word-chunk}
+use Rattle.position_theory.proofs.Telling.{Tells, Sees, first-tells, second-tells, word-tells}
+use Rattle.position_theory.proofs.RuleReads.{BothRead, InCode, number-of, reads-in-code, word-reads}
 use Rattle.position_theory.proofs.PlainSeen.{plain-sees-chunks, plain-sees, within-radius-below}
 use Rattle.position_theory.proofs.ReadWords.{read-shows}
 use Rattle.position_theory.proofs.Demands.{card-promise}
@@ -39,6 +42,7 @@ parity-agrees C s kinds none =
     let reads = word-reads C s kinds none in
     record {
       by-rule = refl;
+      some-rule = reads .some-rule;
       p = numberBy s (ruleSeen s);
       in-code = reads .kind;
       first = reads .first;
@@ -46,31 +50,33 @@ parity-agrees C s kinds none =
       parity = reads .parity;
     }
 
--- a separator from w(i) and a code chunk from w(j), of another parity
-module _ (C : Code) (promise : ChunkPromise C) {heard : ℕ → Bool} {x : ℕ → ℕ} {s : Seen} (sees : Sees C heard x s)
-    (i j : ℕ) (in-code : i ≤ lastCodeword C) (in-code′ : j ≤ lastCodeword C) (differ : i % 2 ≡ j % 2 → ⊥) where
-  tells-i : (c : ℕ) → c < 5 → ChunkBelowD C heard (word C i) x c → Tells s c i
-  tells-i c five = word-tells C promise sees c i five in-code
+-- a separator from w(i), with 2 × wrong + lost below D, reads as the parity of i
+pub separator-from : (C : Code) → ChunkPromise C → {heard : ℕ → Bool} {x : ℕ → ℕ} {s : Seen} → Sees C heard x s → (i : ℕ) → i ≤ lastCodeword C
+    → ChunkBelowD C heard (word C i) x (separatorChunk (ruleSeen s)) → separatorBy s (ruleSeen s) ≡ i % 2
+unfolding Tells separatorOf
+separator-from C promise {heard} {x} {s} sees i in-code =
+    let tells : (c : ℕ) → c < 5 → ChunkBelowD C heard (word C i) x c → Tells s c i = λ c five. word-tells C promise sees c i five in-code in
+    of-every-rule (λ rule. ChunkBelowD C heard (word C i) x (separatorChunk rule) → separatorBy s rule ≡ i % 2)
+    (tells 0 (omega arith)) (tells 0 (omega arith)) (tells 4 (omega arith)) (tells 0 (omega arith)) (s .s₁) (s .s₂) (s .s₃)
 
-  tells-j : (c : ℕ) → c < 5 → ChunkBelowD C heard (word C j) x c → Tells s c j
-  tells-j c five = word-tells C promise sees c j five in-code′
+module _ (C : Code) (promise : ChunkPromise C) {heard : ℕ → Bool} {x : ℕ → ℕ} {s : Seen} (sees : SeesChunks C heard x s) where
+  -- a code chunk from w(j), likewise, reads as codeword j
+  chunk-from : (j : ℕ) → j ≤ lastCodeword C → ChunkBelowD C heard (word C j) x (codeChunk (ruleSeen s)) → numberBy s (ruleSeen s) ≡ j
+  unfolding numberBy
+  chunk-from j in-code =
+      let first : ChunkBelowD C heard (word C j) x 1 → numberRead (s .read₁) ≡ j =
+      λ below. number-of (s .read₁) (first-tells C promise sees (word C j) j in-code (word-chunk C j 1 (omega arith)) below) in
+      let second : ChunkBelowD C heard (word C j) x 3 → numberRead (s .read₂) ≡ j =
+      λ below. number-of (s .read₂) (second-tells C promise sees (word C j) j in-code (word-chunk C j 3 (omega arith)) below) in
+      of-every-rule (λ rule. ChunkBelowD C heard (word C j) x (codeChunk rule) → numberBy s rule ≡ j)
+      first first second first (s .s₁) (s .s₂) (s .s₃)
 
-  -- a rule whose separator reads the parity of i, and whose number is j, reads no word
-  refutes : (rule : ℕ) → separatorBy s rule ≡ i % 2 → numberBy s rule ≡ j → WordReads C s rule → ⊥
-  refutes rule separator number reads = differ (sym separator ∙ reads .parity ∙ ap (λ (p : ℕ). p % 2) number)
-
-  pub pasted-refused : ChunkBelowD C heard (word C i) x (separatorHeld (ruleSeen s))
-      → ChunkBelowD C heard (word C j) x (chunkHeld (ruleSeen s)) → refusalOf C s ≡ 0 → ⊥
-  unfolding Tells numberBy separatorOf
-  pasted-refused from-i from-j none =
-      of-every-rule
-      (λ rule. WordReads C s rule → ChunkBelowD C heard (word C i) x (separatorHeld rule)
-      → ChunkBelowD C heard (word C j) x (chunkHeld rule) → ⊥)
-      (λ reads a b. reads .some-rule refl)
-      (λ reads a b. refutes 1 (tells-i 0 (omega arith) a) (number-of (s .read₁) (tells-j 1 (omega arith) b)) reads)
-      (λ reads a b. refutes 2 (tells-i 4 (omega arith) a) (number-of (s .read₂) (tells-j 3 (omega arith) b)) reads)
-      (λ reads a b. refutes 3 (tells-i 0 (omega arith) a) (number-of (s .read₁) (tells-j 1 (omega arith) b)) reads)
-      (s .s₁) (s .s₂) (s .s₃) (word-reads C s (reads-in-code C promise (sees .chunks)) none) from-i from-j
+  -- so a word whose rule's separator has another parity than j is refused
+  pub pasted-refused : (i j : ℕ) → j ≤ lastCodeword C → (i % 2 ≡ j % 2 → ⊥) → separatorBy s (ruleSeen s) ≡ i % 2
+      → ChunkBelowD C heard (word C j) x (codeChunk (ruleSeen s)) → refusalOf C s ≡ 0 → ⊥
+  pasted-refused i j in-code differ reads-i below none =
+      let reads = word-reads C s (reads-in-code C promise sees) none in
+      differ (sym reads-i ∙ reads .parity ∙ ap (λ (p : ℕ). p % 2) (chunk-from j in-code below))
 
 -- ---- row 17 is the last
 
@@ -126,11 +132,13 @@ pub pasted-never-read : (card received : List ℕ) → PastedNeverRead card rece
 unfolding PastedNeverRead ruleNamed
 pasted-never-read card received i j pasted r answered =
     let C = codeOf card in
+    let x = place received in
     let (sound, none, _) = read-shows card received r answered in
     let promise = card-promise card sound in
-    pasted-refused C promise (plain-sees C promise (place-bit received)) i j (pasted .in-code) (pasted .in-code′) (pasted .differ)
-    (within-radius-below C promise (word C i) (place received) _ (pasted .separator))
-    (within-radius-below C promise (word C j) (place received) _ (pasted .chunk)) none
+    let separator = within-radius-below C promise (word C i) x _ (pasted .separator) in
+    let chunk = within-radius-below C promise (word C j) x _ (pasted .chunk) in
+    pasted-refused C promise (plain-sees-chunks C promise x) i j (pasted .in-code′) (pasted .differ)
+    (separator-from C promise (plain-sees C promise (place-bit received)) i (pasted .in-code) separator) chunk none
 
 pub as-before-unless-contradicted : (card received : List ℕ) → AsBeforeUnlessContradicted card received (readAnswer card received)
 unfolding AsBeforeUnlessContradicted answerBefore readAnswer readRefusal rowsOfWord rowsOf rowsSeen rows9To12 numbered ruleNamed

@@ -1,5 +1,5 @@
 -- Where no row of the table holds of what is seen of a word, its separators name a rule, the rule's block exists, each code chunk that
--- the rule names reads as one number, the one that the rule goes by, and the separator that the rule holds against it reads its parity.
+-- the rule names reads as one number, the one that the rule goes by, and the rule's separator reads as the parity of that number.
 -- Assumes nothing.
 use mathlib.Core.Path.{_≡_, refl, sym, ap, _∙_}
 use mathlib.Core.Bool.{Bool, true, false, not, true≢false, false≢true}

@@ -62,17 +62,27 @@ unfolding withinLosses chunkWrong
 code-reads C promise heard j u y h hu d =
     (_, promise .chunks heard .reads y j h (lt-ltb _ _ (rw (heard-ext-left heard (C .n) y hu) at d)))
 
+-- so does what is seen of either code chunk of a word u that holds c(j) there
+module _ (C : Code) (promise : ChunkPromise C) {heard : ℕ → Bool} {x : ℕ → ℕ} {s : Seen} (sees : SeesChunks C heard x s) where
+  pub first-tells : (u : ℕ → ℕ) (j : ℕ) → j ≤ lastCodeword C
+      → ((p : ℕ) → p < chunkSize (C .D) (C .n) 1 → chunkOf C 1 u p ≡ content C j 1 p) → ChunkBelowD C heard u x 1 → ReadsAs (s .read₁) j
+  unfolding chunkSize placesBefore content wrongIn lostIn
+  first-tells u j h same d = rw (sees .first) (code-reads C promise _ j _ _ h same d)
+
+  pub second-tells : (u : ℕ → ℕ) (j : ℕ) → j ≤ lastCodeword C
+      → ((p : ℕ) → p < chunkSize (C .D) (C .n) 3 → chunkOf C 3 u p ≡ content C j 3 p) → ChunkBelowD C heard u x 3 → ReadsAs (s .read₂) j
+  unfolding chunkSize placesBefore content wrongIn lostIn
+  second-tells u j h same d = rw (sees .second) (code-reads C promise _ j _ _ h same d)
+
 module _ (C : Code) (promise : ChunkPromise C) {heard : ℕ → Bool} {x : ℕ → ℕ} {s : Seen} (sees : Sees C heard x s) where
   -- chunk c of a word u that holds there what w(j) holds, with 2 × wrong + lost below D
   chunk-tells : (u : ℕ → ℕ) (c j : ℕ) → c < 5 → j ≤ lastCodeword C
       → ((p : ℕ) → p < chunkSize (C .D) (C .n) c → chunkOf C c u p ≡ content C j c p) → ChunkBelowD C heard u x c → Tells s c j
   unfolding Tells chunkSize placesBefore content wrongIn lostIn
   chunk-tells u zero j b h same d = sees .separator₁ .tells (j % 2) (fromPlace 0 u) (omega arith) same d
-  chunk-tells u (suc zero) j b h same d =
-      rw (sees .chunks .first) (code-reads C promise _ j _ _ h same d)
+  chunk-tells u (suc zero) j b h same d = first-tells C promise (sees .chunks) u j h same d
   chunk-tells u (suc (suc zero)) j b h same d = sees .separator₂ .tells (j % 2) _ (omega arith) same d
-  chunk-tells u (suc (suc (suc zero))) j b h same d =
-      rw (sees .chunks .second) (code-reads C promise _ j _ _ h same d)
+  chunk-tells u (suc (suc (suc zero))) j b h same d = second-tells C promise (sees .chunks) u j h same d
   chunk-tells u (suc (suc (suc (suc zero)))) j b h same d = sees .separator₃ .tells (j % 2) _ (omega arith) same d
   chunk-tells u (suc (suc (suc (suc (suc c))))) j b h same d = absurd (omega arith)
 

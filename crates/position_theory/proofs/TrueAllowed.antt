@@ -23,7 +23,7 @@ pub record Allows (R : Rules) (s : Seen) (position : ℕ) : Type 0 where
   pub from-low : rangeSeen R s (ruleSeen s) .low ≤ position
   pub to-high : position ≤ rangeSeen R s (ruleSeen s) .high
 
--- by each rule, where its chunks read p, its block exists, and the separator that it holds against p has p's parity
+-- by each rule, where its chunks read p, its block exists, and its separator has the parity of p
 module _ (R : Rules) (s : Seen) (p position : ℕ) where
   -- the range of the rule holds the position
   abbrev Within : (rule : ℕ) → Type 0

@@ -53,7 +53,7 @@ pub differing-words : (C : Code) (p q : ℕ)
 unfolding wordBytes
 differing-words C p q = packed-distance (wordBits C) (word-at-bit C p) (word-at-bit C q)
 
--- the reading of what is seen of a word: refusals 9 to 12, or the nearest allowed position
+-- the reading of what is seen of a word: refusals 9 to 12 and 17, or the nearest allowed position
 unfoldable pub readingOfSeen : Code → Seen → (residual : ℕ → ℕ) → ReadAnswer
 readingOfSeen C s residual = unlessRefused (refusalOf C s) Refused (At (nearest residual s (ruleSeen s) (allowedBy C s)))
 

@@ -22,17 +22,18 @@ use Rattle.position_theory.specs.SeenChunks.{NamedReads}
 
 -- ---- words that are read
 
--- The rule is the one that the separators name; the code chunks that it names read as one codeword c(p); and the separator that the rule
--- holds against p, separator 1 by rules 1 and 3 and separator 3 by rule 2, reads as the parity of p.
+-- The rule is the one that the separators name; the code chunks that it names read as one codeword c(p); and the rule's separator,
+-- separator 1 by rules 1 and 3 and separator 3 by rule 2, reads as the parity of p.
 pub record ParityAgrees (C : Code) (s : Seen) (rule : ℕ) : Type 0 where
   pub by-rule : rule ≡ ruleSeen s
+  pub some-rule : rule ≡ 0 → ⊥
   pub p : ℕ
   pub in-code : p ≤ lastCodeword C
   pub first : NamedReads (namesFirst rule) (s .read₁) p
   pub second : NamedReads (namesSecond rule) (s .read₂) p
   pub parity : separatorBy s rule ≡ p % 2
 
--- so it is of whatever is seen of a word that is read, and of every plain word that is, on every card
+-- this holds of every word that is read: said of whatever is seen of a word, then of plain words, on every card
 abbrev pub AgreesIfRead : Code → Seen → ReadAnswer → Type 0
 AgreesIfRead C s answer = (r : Reading) → answer ≡ At r → ParityAgrees C s (r .rule)
 
@@ -41,22 +42,22 @@ ReadOnlyIfParityAgrees card received answer = AgreesIfRead (codeOf card) (seen (
 
 -- ---- words pasted from two telegrams
 
--- of the five chunks, 0 to 4: the separator that a rule holds against p, and the code chunk that p is read from (by rule 3 the first of
--- the two)
-abbrev pub separatorHeld : (rule : ℕ) → ℕ
-separatorHeld rule = cond (eqb rule 2) 4 0
+-- of the five chunks, 0 to 4: the rule's separator, and the code chunk that p is read from (by rule 3 the first of the two)
+abbrev pub separatorChunk : (rule : ℕ) → ℕ
+separatorChunk rule = cond (eqb rule 2) 4 0
 
-abbrev pub chunkHeld : (rule : ℕ) → ℕ
-chunkHeld rule = cond (eqb rule 2) 3 1
+abbrev pub codeChunk : (rule : ℕ) → ℕ
+codeChunk rule = cond (eqb rule 2) 3 1
 
--- A word x is pasted from two telegrams, w(i) and w(j), whose parities differ: by the rule that its separators name, it has its separator
--- from the first and its code chunk from the second, at most t bits turned in either, and whatever else elsewhere
+-- A word x is pasted from two telegrams, w(i) and w(j), whose parities differ: by the rule that its separators name, it has the rule's
+-- separator from the first and the code chunk from the second, at most t bits turned in either, and whatever else elsewhere. (A telegram
+-- of any position has, in a chunk that is not being changed there, what some w(i) has.)
 pub record Pasted (C : Code) (x : ℕ → ℕ) (i j : ℕ) : Type 0 where
   pub in-code : i ≤ lastCodeword C
   pub in-code′ : j ≤ lastCodeword C
   pub differ : i % 2 ≡ j % 2 → ⊥
-  pub separator : turnedIn C (separatorHeld (ruleNamed C x)) (word C i) x ≤ radius C
-  pub chunk : turnedIn C (chunkHeld (ruleNamed C x)) (word C j) x ≤ radius C
+  pub separator : turnedIn C (separatorChunk (ruleNamed C x)) (word C i) x ≤ radius C
+  pub chunk : turnedIn C (codeChunk (ruleNamed C x)) (word C j) x ≤ radius C
 
 -- such a word is never read
 unfoldable pub PastedNeverRead : (card received : List ℕ) → ReadAnswer → Type 0
@@ -65,7 +66,7 @@ PastedNeverRead card received answer =
 
 -- ---- what is answered otherwise than without P6
 
--- whether the separator that the named rule holds against p differs from the parity of p
+-- whether the separator of the rule that is named differs from the parity of p
 abbrev pub contradicted : Seen → Bool
 contradicted s = parityDiffers (separatorBy s (ruleSeen s)) (numberBy s (ruleSeen s))
 

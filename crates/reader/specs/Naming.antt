@@ -4,11 +4,11 @@ use Prim.Native.Nat.{ℕ, _≤_}
 use Rattle.model.specs.Reading.{Seen, ruleOf, separatorOf}
 use Rattle.reader.specs.declared.naming.NamedRule.{NamedRule}
 
--- the rule that they name, and what the separator reads that this rule holds against the parity of p
+-- the rule that they name, 0 for none, and what the rule's separator reads
 pub record Names (s₁ s₂ s₃ : ℕ) (named : NamedRule) : Type 0 where
   pub rule : named .rule ≡ ruleOf s₁ s₂ s₃
   pub separator : named .separator ≡ separatorOf (named .rule) s₁ s₃
-  pub one-of-three : named .rule ≤ 3
+  pub at-most-three : named .rule ≤ 3
 
 -- of what is seen of a word
 abbrev pub NamesOf : Seen → NamedRule → Type 0

@@ -39,8 +39,8 @@ unfoldable pub answerBy : Code → Seen → (residual : ℕ → ℕ) (rule : ℕ
 answerBy C s residual rule =
     unlessRefused (firstRefusal (rowsSeen (twoEnds C) s rule)) Refused (At (nearest residual s rule (rangeSeen (twoEnds C) s rule)))
 
--- an answer by the rule with this number, whatever else is seen of the word: the rule goes by the code chunks, and by what the one
--- separator reads that it holds against the parity of p
+-- an answer by the rule with this number, whatever else is seen of the word: the rule goes by the code chunks, and by what the rule's
+-- separator reads
 abbrev pub AnswersRule : Code → (x h : List ℕ) (rule separator : ℕ) → ReadAnswer → Type 0
 AnswersRule C x h rule separator answer =
     (s : Seen) → SeesIn C x h s → separatorBy s rule ≡ separator → answer ≡ answerBy C s (residualIn C x h) rule

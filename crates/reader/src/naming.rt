@@ -1,5 +1,5 @@
-// What the three separators of a word name: a rule, and with it the separator that the rule holds against the parity of its codeword's
-// number. What they read comes from bits or from levels.
+// What the three separators of a word name: a rule, and with it the rule's separator, the one that must be equal to the parity of the
+// codeword's number p. What they read comes from bits or from levels.
 ghost use mathlib.Core.Path.{_≡_};
 ghost use Prim.Native.Nat.{_≤_};
 ghost use Rattle.bits.specs.Places.{place};
@@ -11,7 +11,7 @@ use model::DecodedCode;
 use position::layout;
 use position::places;
 
-// A rule by its number, or 0 for none, and what the separator reads that must be equal to the parity of p.
+// A rule by its number, or 0 for none, and what the rule's separator reads.
 pub struct NamedRule {
     pub rule: u32,
     pub separator: u32,
@@ -33,7 +33,7 @@ fn rule_of(s1: u32, s2: u32, s3: u32) -> u32
     0
 }
 
-// Of what separators 1 and 3 read, that which a rule holds against p: separator 3 by rule 2, separator 1 by any other.
+// What the rule's separator reads: separator 3 by rule 2, separator 1 by any other.
 fn separator_of(rule: u32, s1: u32, s3: u32) -> u32
     ensures { λ r. ⌜ r ≡ separatorOf rule s1 s3 ⌝ }
 {

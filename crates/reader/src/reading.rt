@@ -50,8 +50,8 @@ fn found(s: Scan, rule: u32, chunk1: ChunkBits, chunk2: ChunkBits) -> ReadAnswer
     })
 }
 
-// The refusal of a codeword that a rule has read, by what is tested of it: 12 where the track ends before the rule's block, 17 where the
-// separator differs from the parity of the codeword's number, and 0 where neither is so.
+// The refusal of a codeword that a rule has read, by what is tested of it: 12 where the codeword stands at the end of the track
+// and the rule's block does not exist, 17 where the rule's separator differs from the parity of its number, and 0 where neither is so.
 fn refusal_of(ends: bool, differs: bool) -> u32
     ensures { λ r. ⌜ r ≡ firstRefusal (refuses 12 ends ∷ refuses 17 differs ∷ []) ⌝ }
 {

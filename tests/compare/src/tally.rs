@@ -86,9 +86,9 @@ const LINES: [&str; 99] = [
     "greatest error of one of them in steps",
     "errors of as many steps as the damage",
     "words of levels 1 and -1 held to the plain word",
-    // Request P6, of words in bits and in levels whose separators name a rule and whose chunks name a codeword.
-    "words whose separator has the codeword's parity",
-    "words whose separator has the other parity",
+    // Words in bits and in levels whose separators name a rule and whose chunks a codeword, number p.
+    "words whose separator has the parity of p",
+    "words whose separator has not the parity of p",
     "most bits turned in a chunk that is read",
     "chunks also read in a word",
     "answers compared",
@@ -105,7 +105,7 @@ const LINES: [&str; 99] = [
     "counts unlike the bits turned or refused",
     "errors above the damage or refused",
     "words of levels 1 and -1 unlike the plain word",
-    "words read or refused against the codeword's parity",
+    "words read or refused against the parity of p",
     "votes unlike a chunk's reading in a word",
 ];
 

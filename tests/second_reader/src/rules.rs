@@ -1,5 +1,5 @@
-//! The reading rules: the rule that a received word's separators name, whether they bear out the codeword, the positions that it
-//! allows, and the nearest of these.
+//! The reading rules: the rule that a received word's separators name, the positions that it allows, whether the separators bear out
+//! the codeword, and the nearest of these positions.
 //!
 //! A plain word and a word of levels share them. How a separator and a code chunk read and which places are unlike, each kind of
 //! received bits says for itself.

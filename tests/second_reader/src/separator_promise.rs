@@ -94,8 +94,8 @@ mod tests {
 
     /// On the card with D 1 each bit is a chunk. Separators 0 1 0 and 1 0 1, with any chunks, leave 2 × 4 words to 9. By rule 3,
     /// of the 2 × 4 words four have unlike chunks, 11, and two have p unlike the separators, 17. By rule 1 p is 0 in 2 × 2 words,
-    /// 12; p is 1 in two words with separator 1 1, read, and in two with 0, 17. By rule 2 p is 1 in 2 × 2 words, 12; p is 0 in
-    /// two with separator 3 0, read, and in two with 1, 17.
+    /// 12; p is 1 in two words with 1 in separator 1, read, and in two with 0, 17. By rule 2 p is 1 in 2 × 2 words, 12; p is 0 in
+    /// two with 0 in separator 3, read, and in two with 1, 17.
     #[test]
     fn every_plain_word_of_the_least_card() {
         assert_eq!(plain_counts(card_of_one()), [2 + 2 + 2, 8, 0, 4, 4 + 4, 2 + 2 + 2]);

@@ -19,7 +19,7 @@ by-rule-requires c κs =
       sound,
       nothing-past (meaning (first .args .code)) (first .args .levels .now) whole _ (held .heard-word .ensures),
       low,
-      names .one-of-three,
+      names .at-most-three,
     )
 
 returns : tie.Need-returns

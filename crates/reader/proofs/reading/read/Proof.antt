@@ -1,6 +1,6 @@
 -- `reader::reading::read` meets its contract: refusals 6, 8 and 9, and then what the named rule answers, for the array that holds
 -- the word. Assumes nothing.
-use mathlib.Core.Path.{_≡_, _∙_, sym, ap, fun-ext}
+use mathlib.Core.Path.{_≡_, _∙_, sym, fun-ext}
 use mathlib.Core.Bool.{not}
 use mathlib.Core.List.{List}
 use Prim.Native.Nat.{ℕ, _-_, _*_}
@@ -87,7 +87,7 @@ by-rule-requires c κs =
       first counted .pre,
       nothing-spare (C counted) (received counted) (array .result) (array .ensures) _ (whole counted) none,
       omega (arith, c .before .if3 .left),
-      counted .before .named-rule .ensures .one-of-three,
+      counted .before .named-rule .ensures .at-most-three,
     )
 
 returns-4 : tie.Need-returns-4
