@@ -101,9 +101,9 @@ pub fn write_word(card: &[u8], position: u32, word: &mut [u8]) -> WriteAnswer
 // read needed as many bits as are turned in it. Of any word that is read, it is the nearest of the positions that the rule allows, and
 // how many bits a chunk needed is the count of places in which that chunk of the received word and the codeword that it reads as
 // differ, at most t; and separator 1, by rule 2 separator 3, has the parity of the codeword's number (`agrees`). So a word that has this
-// separator from one telegram and the code chunk from another, whose parities differ, is never read (`pasted`). A word that no refusal
-// before it turns down, and in which this separator differs, was read without 17 and is refused by it; every other word is answered as it
-// was (`before`).
+// separator from one telegram and a code chunk that the rule names from another, whose parities differ, is never read (`pasted`). A word
+// that no refusal before it turns down, and in which this separator differs, was read without 17 and is refused by it; every other word
+// is answered as it was (`before`).
 pub fn read_word(card: &[u8], word: &[u8]) -> ReadAnswer
     ensures answer { λ r. ⌜ r ≡ readAnswer (now (card .entry)) (now (word .entry)) ⌝ }
     ensures status { λ r. ⌜ readStatus r ≡ readRefusal (now (card .entry)) (now (word .entry)) ⌝ }

@@ -50,7 +50,7 @@ module _ (card : List ℕ) (levels : List Float) (lent : List ℕ) (lentStrength
       let plain : LeavesAsPlain card levels lent lentStrength wrongCount lent = λ a b. absurd (never a b) in
       let bounded : ServedWithinTwiceWrongAndLost card levels lent lentStrength wrongCount lent = λ a b. absurd (never a b) in
       let agrees : LevelsServedOnlyIfParityAgrees card levels wrongCount lent = λ zero. absurd (no-read zero) in
-      (status, (refl, (refl, (λ _. refl, (λ _. refl, (plain, (bounded, (agrees, λ i j from. no-read))))))))
+      (status, (refl, (refl, (λ _. refl, (λ _. refl, (plain, (bounded, (agrees, λ i j c from. no-read))))))))
 
   pub wrong-count-of-numbers : (length lent ≡ readCount → ⊥) → LevelsMeet wrongCount lent lentStrength
   unfolding statusFor
@@ -94,7 +94,7 @@ module _ (card : List ℕ) (levels : List Float) (lent : List ℕ) (lentStrength
                             (bounded position sound on-track whole units below) .0,
                         (
                           agreement-crosses lent (r .answer) status left leaves _ _ agrees,
-                          λ i j from. never-crosses lent (r .answer) status left leaves (pasted i j from),
+                          λ i j c from. never-crosses lent (r .answer) status left leaves (pasted i j c from),
                         ),
                       ),
                     ),

@@ -81,7 +81,7 @@ module _ (card received lent : List ℕ) where
       let bits : LeavesBitsOfChunks card received wrongCount lent = λ zero. absurd (no-read zero) in
       let turned : LeavesBitsTurned card received wrongCount lent = λ position sound on-track within zero. absurd (no-read zero) in
       let agrees : ServedOnlyIfParityAgrees card received wrongCount lent = λ zero. absurd (no-read zero) in
-      (status, (left, (unchanged, (bounded, (sharper, (bits, (turned, (agrees, λ i j from. no-read))))))))
+      (status, (left, (unchanged, (bounded, (sharper, (bits, (turned, (agrees, λ i j c from. no-read))))))))
 
   pub demands-cross : (answer : ReadAnswer) → answer ≡ readAnswer card received
       → readValues answer ≡ ifServed (readStatus answer) (readFigures card received)
@@ -117,7 +117,7 @@ module _ (card received lent : List ℕ) where
                         let (r, at, left-are) = crosses zero in rw left-are (needed position sound on-track within r at),
                     (
                       agreement-crosses lent answer status left leaves _ _ agrees,
-                      λ i j from. never-crosses lent answer status left leaves (pasted i j from),
+                      λ i j c from. never-crosses lent answer status left leaves (pasted i j c from),
                     ),
                   ),
                 ),

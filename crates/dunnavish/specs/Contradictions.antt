@@ -22,11 +22,11 @@ unfoldable pub ServedOnlyIfParityAgrees : (card received : List ℕ) (status : �
 ServedOnlyIfParityAgrees card received status left = AgreesIfServed (codeOf card) (seen (codeOf card) (place received)) status left
 
 unfoldable pub PastedNeverServed : (card received : List ℕ) (status : ℕ) → Type 0
-PastedNeverServed card received status = (i j : ℕ) → Pasted (codeOf card) (place received) i j → status ≡ 0 → ⊥
+PastedNeverServed card received status = (i j c : ℕ) → Pasted (codeOf card) (place received) i j c → status ≡ 0 → ⊥
 
 -- of a word of levels, on every card
 unfoldable pub LevelsServedOnlyIfParityAgrees : (card : List ℕ) (levels : List Float) (status : ℕ) (left : List ℕ) → Type 0
 LevelsServedOnlyIfParityAgrees card levels status left = AgreesIfServed (codeOf card) (seenOf card levels) status left
 
 unfoldable pub PastedLevelsNeverServed : (card : List ℕ) (levels : List Float) (status : ℕ) → Type 0
-PastedLevelsNeverServed card levels status = (i j : ℕ) → PastedLevels card levels i j → status ≡ 0 → ⊥
+PastedLevelsNeverServed card levels status = (i j c : ℕ) → PastedLevels card levels i j c → status ≡ 0 → ⊥

@@ -32,7 +32,7 @@ module _ (card : List ℕ) (levels : List Float) where
 
   pub pasted-levels-never-read : PastedLevelsNeverRead card levels (levelsAnswer card levels .answer)
   unfolding PastedLevelsNeverRead toldAt
-  pasted-levels-never-read i j pasted r answered =
+  pasted-levels-never-read i j c pasted r answered =
       let C = codeOf card in
       let s = seenOf card levels in
       let (sound, none, _) = levels-show card levels r answered in
@@ -42,7 +42,8 @@ module _ (card : List ℕ) (levels : List Float) where
       (λ (units, below).
       separator-from C promise (told-sees C (sound-card card sound) (toldAt levels) (λ p b. unit-told (units p b))) i (pasted .in-code) below)
       (pasted .separator) in
-      pasted-refused C promise (told-sees-chunks C (toldAt levels)) i j (pasted .in-code′) (pasted .differ) reads (pasted .chunk) none
+      pasted-refused C promise (told-sees-chunks C (toldAt levels)) i j c (pasted .in-code′) (pasted .differ) reads (pasted .named)
+      (pasted .chunk) none
 
   pub levels-as-before-unless-contradicted : LevelsAsBeforeUnlessContradicted card levels (levelsAnswer card levels .answer)
   unfolding LevelsAsBeforeUnlessContradicted levelsAnswerBefore levelsAnswer levelsAnswered levelsRefusal rowsOfLevels rowsSeen rows9To12 numbered

@@ -20,7 +20,7 @@ use Rattle.model.specs.declared.Reading.{Reading}
 use Rattle.model.specs.declared.ReadAnswer.{ReadAnswer}
 use Rattle.model.specs.declared.ReadAnswer.the-variants.{At, Refused}
 use Rattle.position_theory.specs.Damage.{ChunkBelowD}
-use Rattle.position_theory.specs.Contradictions.{AgreesIfRead, separatorChunk, codeChunk, contradicted, unlessContradicted}
+use Rattle.position_theory.specs.Contradictions.{AgreesIfRead, separatorChunk, NamedChunk, contradicted, unlessContradicted}
 use Rattle.level_theory.specs.UnitLevels.{UnitLevels}
 use Rattle.level_theory.specs.LevelPromises.{heardOf, bitsOf}
 
@@ -43,17 +43,18 @@ SeparatorFrom card levels i =
     ⊎ (UnitLevels levels (wordBits C) × ChunkBelowD C (heardOf levels) (word C i) (bitsOf levels) (separatorChunk rule))
 
 -- Levels are pasted from two telegrams, w(i) and w(j), whose parities differ: by the rule that the separators name, the word has the rule's
--- separator from the first and the code chunk from the second, with 2 × wrong + lost below D
-pub record PastedLevels (card : List ℕ) (levels : List Float) (i j : ℕ) : Type 0 where
+-- separator from the first and a code chunk c that the rule names from the second, with 2 × wrong + lost below D
+pub record PastedLevels (card : List ℕ) (levels : List Float) (i j c : ℕ) : Type 0 where
   pub in-code : i ≤ lastCodeword (codeOf card)
   pub in-code′ : j ≤ lastCodeword (codeOf card)
   pub differ : i % 2 ≡ j % 2 → ⊥
+  pub named : NamedChunk (ruleSeen (seenOf card levels)) c
   pub separator : SeparatorFrom card levels i
-  pub chunk : ChunkBelowD (codeOf card) (heardOf levels) (word (codeOf card) j) (bitsOf levels) (codeChunk (ruleSeen (seenOf card levels)))
+  pub chunk : ChunkBelowD (codeOf card) (heardOf levels) (word (codeOf card) j) (bitsOf levels) c
 
 -- such a word is never read
 unfoldable pub PastedLevelsNeverRead : (card : List ℕ) (levels : List Float) → ReadAnswer → Type 0
-PastedLevelsNeverRead card levels answer = (i j : ℕ) → PastedLevels card levels i j → (r : Reading) → answer ≡ At r → ⊥
+PastedLevelsNeverRead card levels answer = (i j c : ℕ) → PastedLevels card levels i j c → (r : Reading) → answer ≡ At r → ⊥
 
 -- the answer without P6: rows 9 to 12 are the last
 unfoldable pub levelsAnswerBefore : (card : List ℕ) (levels : List Float) → ReadAnswer

@@ -15,7 +15,7 @@ use Rattle.model.specs.Refusals.{Row, refuses, refusedAs, firstRefusal, unlessR
 use Rattle.model.specs.Card.{Code, codeOf, cardRefusal}
 use Rattle.model.specs.Order.{lastCodeword}
 use Rattle.model.specs.Words.{word}
-use Rattle.model.specs.Reading.{numberRead, Seen, seen, ruleSeen, ruleNamed, numberBy, separatorOf, separatorBy}
+use Rattle.model.specs.Reading.{Seen, seen, ruleSeen, ruleNamed, numberBy, separatorOf, separatorBy}
 use Rattle.model.specs.Reading.{rows9To12, rowsSeen, rowsOf, nearest}
 use Rattle.model.specs.Answers.{rowsOfWord, readRefusal, readAnswer}
 use Rattle.model.specs.declared.Reading.{Reading}
@@ -25,12 +25,12 @@ use Rattle.code_theory.proofs.Refusals.{numbered, rows-after, refused-if-some, 
 use Rattle.position_theory.specs.Damage.{ChunkBelowD}
 use Rattle.position_theory.specs.SeenChunks.{SeesChunks}
 use Rattle.position_theory.specs.Nearest.{refusalOf}
-use Rattle.position_theory.specs.Contradictions.{ParityAgrees, ReadOnlyIfParityAgrees, separatorChunk, codeChunk, PastedNeverRead}
+use Rattle.position_theory.specs.Contradictions.{ParityAgrees, ReadOnlyIfParityAgrees, separatorChunk, NamedChunk, PastedNeverRead}
 use Rattle.position_theory.specs.Contradictions.{contradicted, unlessContradicted, answerBefore, AsBeforeUnlessContradicted}
 use Rattle.position_theory.proofs.Separators.{of-every-rule}
 use Rattle.position_theory.proofs.Words.{word-chunk}
 use Rattle.position_theory.proofs.Telling.{Tells, Sees, first-tells, second-tells, word-tells}
-use Rattle.position_theory.proofs.RuleReads.{BothRead, InCode, number-of, reads-in-code, word-reads}
+use Rattle.position_theory.proofs.RuleReads.{BothRead, InCode, WordReads, number-of, reads-in-code, word-reads}
 use Rattle.position_theory.proofs.PlainSeen.{plain-sees-chunks, plain-sees, within-radius-below}
 use Rattle.position_theory.proofs.ReadWords.{read-shows}
 use Rattle.position_theory.proofs.Demands.{card-promise}
@@ -60,23 +60,25 @@ separator-from C promise {heard} {x} {s} sees i in-code =
     (tells 0 (omega arith)) (tells 0 (omega arith)) (tells 4 (omega arith)) (tells 0 (omega arith)) (s .s₁) (s .s₂) (s .s₃)
 
 module _ (C : Code) (promise : ChunkPromise C) {heard : ℕ → Bool} {x : ℕ → ℕ} {s : Seen} (sees : SeesChunks C heard x s) where
-  -- a code chunk from w(j), likewise, reads as codeword j
-  chunk-from : (j : ℕ) → j ≤ lastCodeword C → ChunkBelowD C heard (word C j) x (codeChunk (ruleSeen s)) → numberBy s (ruleSeen s) ≡ j
-  unfolding numberBy
-  chunk-from j in-code =
-      let first : ChunkBelowD C heard (word C j) x 1 → numberRead (s .read₁) ≡ j =
-      λ below. number-of (s .read₁) (first-tells C promise sees (word C j) j in-code (word-chunk C j 1 (omega arith)) below) in
-      let second : ChunkBelowD C heard (word C j) x 3 → numberRead (s .read₂) ≡ j =
-      λ below. number-of (s .read₂) (second-tells C promise sees (word C j) j in-code (word-chunk C j 3 (omega arith)) below) in
-      of-every-rule (λ rule. ChunkBelowD C heard (word C j) x (codeChunk rule) → numberBy s rule ≡ j)
-      first first second first (s .s₁) (s .s₂) (s .s₃)
+  -- a code chunk from w(j), likewise, reads as codeword j; so where the rule names it and no row holds, j is the number that is read
+  chunk-from : (j c : ℕ) → j ≤ lastCodeword C → NamedChunk (ruleSeen s) c → ChunkBelowD C heard (word C j) x c
+      → WordReads C s (ruleSeen s) → numberBy s (ruleSeen s) ≡ j
+  chunk-from j c in-code named below reads =
+      ⊎-elim
+      (λ (is, first).
+      let tells = first-tells C promise sees (word C j) j in-code (word-chunk C j 1 (omega arith)) (rw is at below) in
+      sym (number-of (s .read₁) (reads .first first)) ∙ number-of (s .read₁) tells)
+      (λ (is, second).
+      let tells = second-tells C promise sees (word C j) j in-code (word-chunk C j 3 (omega arith)) (rw is at below) in
+      sym (number-of (s .read₂) (reads .second second)) ∙ number-of (s .read₂) tells)
+      named
 
   -- so a word whose rule's separator has another parity than j is refused
-  pub pasted-refused : (i j : ℕ) → j ≤ lastCodeword C → (i % 2 ≡ j % 2 → ⊥) → separatorBy s (ruleSeen s) ≡ i % 2
-      → ChunkBelowD C heard (word C j) x (codeChunk (ruleSeen s)) → refusalOf C s ≡ 0 → ⊥
-  pasted-refused i j in-code differ reads-i below none =
+  pub pasted-refused : (i j c : ℕ) → j ≤ lastCodeword C → (i % 2 ≡ j % 2 → ⊥) → separatorBy s (ruleSeen s) ≡ i % 2
+      → NamedChunk (ruleSeen s) c → ChunkBelowD C heard (word C j) x c → refusalOf C s ≡ 0 → ⊥
+  pasted-refused i j c in-code differ reads-i named below none =
       let reads = word-reads C s (reads-in-code C promise sees) none in
-      differ (sym reads-i ∙ reads .parity ∙ ap (λ (p : ℕ). p % 2) (chunk-from j in-code below))
+      differ (sym reads-i ∙ reads .parity ∙ ap (λ (p : ℕ). p % 2) (chunk-from j c in-code named below reads))
 
 -- ---- row 17 is the last
 
@@ -130,15 +132,15 @@ read-only-if-parity-agrees card received r answered =
 
 pub pasted-never-read : (card received : List ℕ) → PastedNeverRead card received (readAnswer card received)
 unfolding PastedNeverRead ruleNamed
-pasted-never-read card received i j pasted r answered =
+pasted-never-read card received i j c pasted r answered =
     let C = codeOf card in
     let x = place received in
     let (sound, none, _) = read-shows card received r answered in
     let promise = card-promise card sound in
     let separator = within-radius-below C promise (word C i) x _ (pasted .separator) in
     let chunk = within-radius-below C promise (word C j) x _ (pasted .chunk) in
-    pasted-refused C promise (plain-sees-chunks C promise x) i j (pasted .in-code′) (pasted .differ)
-    (separator-from C promise (plain-sees C promise (place-bit received)) i (pasted .in-code) separator) chunk none
+    pasted-refused C promise (plain-sees-chunks C promise x) i j c (pasted .in-code′) (pasted .differ)
+    (separator-from C promise (plain-sees C promise (place-bit received)) i (pasted .in-code) separator) (pasted .named) chunk none
 
 pub as-before-unless-contradicted : (card received : List ℕ) → AsBeforeUnlessContradicted card received (readAnswer card received)
 unfolding AsBeforeUnlessContradicted answerBefore readAnswer readRefusal rowsOfWord rowsOf rowsSeen rows9To12 numbered ruleNamed

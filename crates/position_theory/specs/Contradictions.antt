@@ -3,6 +3,7 @@
 use mathlib.Core.Path.{_≡_}
 use mathlib.Core.Bool.{Bool, true, false, cond, not}
 use mathlib.Core.List.{List, _∷_}
+use mathlib.Core.Logic.{_⊎_}
 use Prim.Native.Nat.{ℕ, _%_, _≤_}
 use lib.Dec.{eqb}
 use lib.ListN.{length}
@@ -42,27 +43,28 @@ ReadOnlyIfParityAgrees card received answer = AgreesIfRead (codeOf card) (seen (
 
 -- ---- words pasted from two telegrams
 
--- of the five chunks, 0 to 4: the rule's separator, and the code chunk that p is read from (by rule 3 the first of the two)
+-- of the five chunks, 0 to 4: the rule's separator; and that a chunk is a code chunk that the rule names, by rule 3 either of the two
 abbrev pub separatorChunk : (rule : ℕ) → ℕ
 separatorChunk rule = cond (eqb rule 2) 4 0
 
-abbrev pub codeChunk : (rule : ℕ) → ℕ
-codeChunk rule = cond (eqb rule 2) 3 1
+abbrev pub NamedChunk : (rule c : ℕ) → Type 0
+NamedChunk rule c = ((c ≡ 1) × (namesFirst rule ≡ true)) ⊎ ((c ≡ 3) × (namesSecond rule ≡ true))
 
 -- A word x is pasted from two telegrams, w(i) and w(j), whose parities differ: by the rule that its separators name, it has the rule's
--- separator from the first and the code chunk from the second, at most t bits turned in either, and whatever else elsewhere. (A telegram
--- of any position has, in a chunk that is not being changed there, what some w(i) has.)
-pub record Pasted (C : Code) (x : ℕ → ℕ) (i j : ℕ) : Type 0 where
+-- separator from the first and a code chunk c that the rule names from the second, at most t bits turned in either, and whatever else
+-- elsewhere. (A telegram of any position has, in a chunk that is not being changed there, what some w(i) has.)
+pub record Pasted (C : Code) (x : ℕ → ℕ) (i j c : ℕ) : Type 0 where
   pub in-code : i ≤ lastCodeword C
   pub in-code′ : j ≤ lastCodeword C
   pub differ : i % 2 ≡ j % 2 → ⊥
+  pub named : NamedChunk (ruleNamed C x) c
   pub separator : turnedIn C (separatorChunk (ruleNamed C x)) (word C i) x ≤ radius C
-  pub chunk : turnedIn C (codeChunk (ruleNamed C x)) (word C j) x ≤ radius C
+  pub chunk : turnedIn C c (word C j) x ≤ radius C
 
 -- such a word is never read
 unfoldable pub PastedNeverRead : (card received : List ℕ) → ReadAnswer → Type 0
 PastedNeverRead card received answer =
-    (i j : ℕ) → Pasted (codeOf card) (place received) i j → (r : Reading) → answer ≡ At r → ⊥
+    (i j c : ℕ) → Pasted (codeOf card) (place received) i j c → (r : Reading) → answer ≡ At r → ⊥
 
 -- ---- what is answered otherwise than without P6
 
