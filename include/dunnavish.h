@@ -154,9 +154,9 @@ uint32_t dunnavish_write_word(const uint8_t *card, size_t card_bytes, uint32_t p
  * most 31. If each of the word's five chunks has at most t bits turned, it is the number of bits turned in the chunk. A chunk that
  * the rule does not name is not read, whatever it holds, and its value is DUNNAVISH_NOT_READ.
  *
- * Separator 1, under rule 2 separator 3, must be equal to the parity of the number of the codeword that was read; if it is not, and
- * nothing above it in the list of statuses holds, the answer is DUNNAVISH_PARITY_DIFFERS. So a word pasted from two telegrams, with
- * that separator from one and the codeword from another whose number has the other parity, is never answered 0.
+ * Separator 1, under rule 2 separator 3, must be equal to the parity of the number of the codeword that was read; if it is not, the
+ * answer is DUNNAVISH_PARITY_DIFFERS, where nothing that is tested before it holds. So a word pasted from two telegrams, with that
+ * separator from one and the codeword from another whose number has the other parity, is never answered 0.
  */
 enum dunnavish_read_value {
     DUNNAVISH_READ_POSITION = 0,    /* the position, from 0 to the last */

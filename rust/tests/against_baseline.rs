@@ -1,4 +1,4 @@
-//! The library against the straightforward implementation of document 01, P2, P3 and P5 that the benchmark compares it with,
+//! The library against the straightforward implementation of document 01, P2, P3, P5 and P6 that the benchmark compares it with,
 //! written apart from it, on cards of every shape, with offsets, and words of every kind, in bits and in levels.
 #[path = "../../bench/src/baseline.rs"]
 mod baseline;

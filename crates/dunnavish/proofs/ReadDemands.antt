@@ -1,6 +1,6 @@
--- Demand 3 and the bits of the chunks, of the library's reading call, hold of the status and the numbers that the call for C leaves: an
--- answer that is near a position crosses with status 0, and the numbers left are its values. Where the count of the lent numbers is
--- wrong, nothing is claimed. Assumes nothing.
+-- Demand 3, the bits of the chunks and what P6 promises, of the library's reading call, hold of the status and the numbers that the call
+-- for C leaves: an answer that is near a position crosses with status 0, and the numbers left are its values. Where the count of the lent
+-- numbers is wrong, nothing is claimed. Assumes nothing.
 use mathlib.Core.Path.{_≡_, refl, _∙_}
 use mathlib.Core.Bool.{Bool, true, false}
 use mathlib.Core.List.{List}

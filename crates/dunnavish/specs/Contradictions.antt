@@ -1,6 +1,5 @@
--- Document 02, P6, of the reading calls for C, over the status and the numbers left: a word whose status is 0 has the parity of its
--- codeword's number in the separator of its rule, which is the third number left; and of a word pasted from two telegrams the status is
--- never 0.
+-- Document 02, P6, of the reading calls for C, over the status and the numbers left, the third of which is the rule: a word whose status is
+-- 0 has the parity of its codeword's number in the rule's separator; and of a word pasted from two telegrams the status is never 0.
 -- Assumes nothing.
 use mathlib.Core.Path.{_≡_}
 use mathlib.Core.List.{List}

@@ -139,8 +139,8 @@ pub extern "C" fn dunnavish_read_word(card: &[u8], word: &[u8], values: &mut [u3
 // sum of the magnitudes and the greatest, into two floats. Where five numbers and two floats are lent: of d levels of 1 and -1 the status
 // and the five numbers are those of the plain read of the word of these bits; and of d levels of 1, -1 and 0 that have, against the word of
 // any position on the track, 2 × wrong + lost below D in every chunk, the status is 0, and the position put into the first number is off
-// by at most 2 × wrong + lost, counted over the whole word. Of separators and the codeword's number the same is
-// said as of a plain word, a separator being what its levels sum to.
+// by at most 2 × wrong + lost, counted over the whole word. Of separators and the codeword's number the same is said as of a plain word,
+// a separator being what its levels sum to.
 #[no_mangle]
 pub extern "C" fn dunnavish_read_levels(
     card: &[u8],

@@ -14,8 +14,8 @@ pub struct Received {
 }
 
 /// The words of the position at which `here` stands, of card `id`. The walk `behind` stands further back. The last two have a spare bit
-/// set, if there is one, and count as damaged beyond the radius: the position's own word, and one that is refused without it about
-/// every second time, so that 8 is seen to come before 9 to 12 and 17.
+/// set, if there is one, and count as damaged beyond the radius: the position's own word, and one that is refused without it more often
+/// than not, so that 8 is seen to come before 9 to 12 and 17.
 pub fn at<'a>(behind: &'a Walk, here: &'a Walk, id: u64) -> impl Iterator<Item = Received> + 'a {
     let seed = random(id, here.position.into());
     let words = (0..COUNT).map(move |q| {
