@@ -12,7 +12,7 @@ use Rattle.model.specs.Card.{highFirst, trackOf, rowOf, twosComplement, 
 use Rattle.model.specs.Card.{withinLimits, rowTooWide, unusedRowSet, unusedByteSet, misplaced, offsetOutside, dependent, cardRefusal}
 use Rattle.model.specs.CardBytes.{bytesOf, rowBytes, sealed, cardOf}
 use Rattle.model.specs.Order.{gray, lastCodeword, codeword, changedRow, changedWeight, start, lastPosition, sumAfterRow, sumBeforeRow}
-use Rattle.model.specs.Words.{fiveChunks, word, blockOf, wordAt, wordBytes, millimetresOf}
+use Rattle.model.specs.Words.{chunkSize, placesBefore, fiveChunks, word, blockOf, wordAt, wordBytes, millimetresOf, divided}
 use Rattle.model.specs.Reading.{majority, chunkDistance, withinRadius, readFirst, chunkReading, unreadable, numberRead, seen}
 use Rattle.model.specs.Reading.{ruleOf, numberBy, separatorOf, parityDiffers, twoEnds, rows9To12, rowsSeen, ruleNamed, rowsOf}
 use Rattle.model.specs.Reading.{allowed, residual, nearestIn, bitsNeeded, nearest}
@@ -28,7 +28,7 @@ use Rattle.model.specs.ReedMuller.{votedDistance, votedWithin}
 use Rattle.model.specs.Statuses.{cardStatus, cardValues, writeStatus, writeValues, bitsValue, readStatus, readValues}
 use Rattle.model.specs.Statuses.{ifServed, strengthValues}
 use Rattle.model.specs.Statuses.{millimetresStatus, millimetresValues, voteStatus, voteValues}
-use Rattle.model.specs.Cases.{Case, cardA, cardB, cardBFrom100, numbersOf, codewordPlaces, answerTo, starredCases}
+use Rattle.model.specs.Cases.{Case, cardA, cardB, cardBFrom100, cardOfUnlikeBlocks, numbersOf, codewordPlaces, answerTo, starredCases}
 
 pub starred-cases : map (λ (c : Case). answerTo (c .question)) starredCases ≡ map (λ (c : Case). c .answer) starredCases
 unfolding sumBelow sumOver distance distanceHeard lostBelow joinAt
@@ -39,7 +39,7 @@ unfolding sumBelow sumOver distance distanceHeard lostBelow joinAt
     highFirst trackOf rowOf twosComplement offsetOf storedCheck computedCheck sumOfRows leastWeight codeOf
     firstRefusal unlessRefused withinLimits rowTooWide unusedRowSet unusedByteSet misplaced offsetOutside dependent cardRefusal
     gray lastCodeword codeword changedRow changedWeight start lastPosition sumAfterRow sumBeforeRow
-    fiveChunks word blockOf wordAt wordBytes millimetresOf
+    chunkSize placesBefore fiveChunks word blockOf wordAt wordBytes millimetresOf divided
     majority chunkDistance withinRadius readFirst chunkReading unreadable numberRead seen
     magnitude infinite outside anyOutside told toldAt isHeard bitTold plusLevel sumOfLevels
     separatorReading chunkWrong withinLosses heardReading seenTold residualHeard withLevel strengthOf
@@ -50,5 +50,5 @@ unfolding sumBelow sumOver distance distanceHeard lostBelow joinAt
     product those setsOf setsUpTo countOfSets productRow productOf reedMullerCard orderWithinLimits
     classSum classes votesForOne coefficient round afterRounds voted votedRows votedNumber votedDistance votedWithin
     cardStatus cardValues writeStatus writeValues bitsValue readStatus readValues millimetresStatus millimetresValues voteStatus voteValues
-    bytesOf rowBytes sealed cardOf cardA cardB cardBFrom100 numbersOf codewordPlaces answerTo starredCases
+    bytesOf rowBytes sealed cardOf cardA cardB cardBFrom100 cardOfUnlikeBlocks numbersOf codewordPlaces answerTo starredCases
 starred-cases = refl

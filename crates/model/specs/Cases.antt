@@ -1,5 +1,5 @@
 -- Document 01, "Two cards to try": every case marked *, and with them the cards' figures and the refused cards and words that it
--- names; and the borders of document 02's P1 to P6. One table of questions and answers, whose numbers are signed, since a distance
+-- names; and the borders of document 02's P1 to P7. One table of questions and answers, whose numbers are signed, since a distance
 -- may be below zero. That the definitions answer so is one theorem, `starred-cases`. Assumes nothing.
 use mathlib.Core.List.{List, [], _∷_, _++_, map}
 use Prim.Native.Nat.{ℕ, zero, suc, _-_}
@@ -11,7 +11,8 @@ use Rattle.bits.specs.Places.{bit, place, listOf, differingBits}
 use Rattle.model.specs.Card.{Code, rowOf, offsetOf, storedCheck, codeOf}
 use Rattle.model.specs.CardBytes.{cardEnding, cardOf}
 use Rattle.model.specs.Order.{codeword, lastPosition, start, rowShare, sumAfterRow, sumBeforeRow}
-use Rattle.model.specs.Words.{separator₁, separator₂, separator₃, wordBytes, millimetresOf}
+use Rattle.model.specs.Words.{separator₁, separator₂, separator₃, wordBytes, millimetresOf, divided}
+use Rattle.model.specs.ReedMuller.{those}
 use Rattle.model.specs.Answers.{cardAnswer, writeAnswer, lentAfterWrite, readAnswer, levelsAnswer, millimetresAnswer, makeAnswer, voteAnswer}
 use Rattle.model.specs.Statuses.{cardStatus, cardValues, writeStatus, writeValues, readStatus, readValues}
 use Rattle.model.specs.Statuses.{levelsStatus, levelsValues, strengthValues}
@@ -59,6 +60,10 @@ tooLow = 0xff ∷ 0xff ∷ 0xb1 ∷ 0xdf ∷ []
 abbrev tooHigh : List ℕ
 tooHigh = 0x00 ∷ 0x00 ∷ 0x4e ∷ 0x21 ∷ []
 
+-- two rows, of weights 2 and 1, and D 1: A is 2 in blocks 0 and 2, and 1 in block 1; blocks start at 0, 7 and 12, and the last is 19
+unfoldable pub cardOfUnlikeBlocks : List ℕ
+cardOfUnlikeBlocks = cardWith 2 2 0 (0b11 ∷ 0b01 ∷ [])
+
 -- what may be asked of a card, or of a code by its order and number of variables
 pub data Question : Type 0 where
   -- the check that it carries
@@ -93,6 +98,8 @@ pub data Question : Type 0 where
   made : (track r m rows : ℕ) → Question
   -- the answer to a vote on a chunk
   vote : (r m chunk : ℕ) → Question
+  -- the positions, up to the last, at which a chunk of the position's word is divided
+  whereDivided : (card : List ℕ) (chunk : ℕ) → Question
 
 -- an answer written out: its status, then its values
 unfoldable pub numbersOf : {A : Type 0} (status : A → ℕ) (values : A → List ℕ) (answer : A) → List ℕ
@@ -135,6 +142,8 @@ answerTo (made track r m rows) =
     let card : MadeCard = makeAnswer track r m in
     naturals (card .refusal ∷ (numbersOf cardStatus cardValues (cardAnswer (card .bytes)) ++ listOf rows (rowOf (card .bytes))))
 answerTo (vote r m chunk) = naturals (numbersOf voteStatus voteValues (voteAnswer r m chunk))
+answerTo (whereDivided card chunk) =
+    let C : Code = codeOf card in naturals (those (λ position. divided C position chunk) (suc (lastPosition C)))
 
 -- levels as bit patterns: so many of 1, of -1 and of zero, which are told as bits 0 and 1 and as lost bits; and zero of the other sign
 abbrev pub zeroBits : ℕ → List ℕ
@@ -368,4 +377,38 @@ starredCases =
     ∷ case (levels cardB (oneBits 2 ++ (three ∷ []) ++ oneBits 3 ++ oneBits 2 ++ (three ∷ []) ++ oneBits 3 ++ oneBits 2 ++ (three ∷ [])))
     (17 ∷ [])
     ∷ case (levels cardB (zeroBits 2 ++ (minusThree ∷ []) ++ oneBits 12)) (0 ∷ 15 ∷ 2 ∷ 3 ∷ 0 ∷ 0 ∷ 0x41880000 ∷ 0x40400000 ∷ [])
+    -- document 02, P7: on card B, of 3 places that differ in a chunk one or two are taken at two positions each; none is divided at 0, 3,
+    -- 6, 9, 12 and 15
+    ∷ case (whereDivided cardB 0) (1 ∷ 2 ∷ [])
+    ∷ case (whereDivided cardB 1) (4 ∷ 5 ∷ [])
+    ∷ case (whereDivided cardB 2) (7 ∷ 8 ∷ [])
+    ∷ case (whereDivided cardB 3) (10 ∷ 11 ∷ [])
+    ∷ case (whereDivided cardB 4) (13 ∷ 14 ∷ [])
+    -- card A, each block alike: two places differ in a chunk, so it is divided at one position of a block, and none at its start
+    ∷ case (whereDivided cardA 0) (1 ∷ 11 ∷ 21 ∷ [])
+    ∷ case (whereDivided cardA 1) (3 ∷ 13 ∷ 23 ∷ [])
+    ∷ case (whereDivided cardA 2) (5 ∷ 15 ∷ 25 ∷ [])
+    ∷ case (whereDivided cardA 3) (7 ∷ 17 ∷ 27 ∷ [])
+    ∷ case (whereDivided cardA 4) (9 ∷ 19 ∷ 29 ∷ [])
+    -- with D 1 a separator is never divided, and with A 1, in block 1, neither is a code chunk
+    ∷ case (whereDivided cardOfUnlikeBlocks 0) []
+    ∷ case (whereDivided cardOfUnlikeBlocks 1) (2 ∷ 14 ∷ [])
+    ∷ case (whereDivided cardOfUnlikeBlocks 2) []
+    ∷ case (whereDivided cardOfUnlikeBlocks 3) (5 ∷ 17 ∷ [])
+    ∷ case (whereDivided cardOfUnlikeBlocks 4) []
+    -- card B's 8, with both ones of separator 2, which is divided there, turned: it reads 6, off by the bits turned and the residual, 2 + 0
+    ∷ case (read cardB (0x3f ∷ 0x00 ∷ [])) (0 ∷ 6 ∷ 0 ∷ 2 ∷ 4294967295 ∷ 0 ∷ [])
+    -- 7 with all of separator 2 turned reads 9, by rule 1; 5 with all of chunk 1 turned reads 3; and with one bit turned in each other
+    -- chunk besides, 7 in all, it reads 3 too
+    ∷ case (bitsUnlike cardB 7 (0xbf ∷ 0x01 ∷ [])) (3 ∷ [])
+    ∷ case (read cardB (0xbf ∷ 0x01 ∷ [])) (0 ∷ 9 ∷ 1 ∷ 1 ∷ 0 ∷ 4294967295 ∷ [])
+    ∷ case (bitsUnlike cardB 5 (0x27 ∷ 0x00 ∷ [])) (3 ∷ [])
+    ∷ case (read cardB (0x27 ∷ 0x00 ∷ [])) (0 ∷ 3 ∷ 1 ∷ 2 ∷ 4294967295 ∷ 0 ∷ [])
+    ∷ case (bitsUnlike cardB 5 (0x66 ∷ 0x12 ∷ [])) (7 ∷ [])
+    ∷ case (read cardB (0x66 ∷ 0x12 ∷ [])) (0 ∷ 3 ∷ 5 ∷ 2 ∷ 4294967295 ∷ 1 ∷ [])
+    -- what is not divided has its limit: 5 with two bits turned in separator 3 is refusal 9; and where none is divided, 15 with two turned
+    -- in separator 1, and 0 with two in separator 3, are refusal 12
+    ∷ case (read cardB (0x1f ∷ 0x30 ∷ [])) (9 ∷ [])
+    ∷ case (read cardB (0xfc ∷ 0x7f ∷ [])) (12 ∷ [])
+    ∷ case (read cardB (0x00 ∷ 0x60 ∷ [])) (12 ∷ [])
     ∷ []

@@ -1,13 +1,14 @@
--- Document 01, "Order and words", second half: the chunks of a word, the word of a position, its bytes, and millimetres.
--- Assumes nothing.
+-- Document 01, "Order and words", second half: the chunks of a word, the word of a position, its bytes, and millimetres; and which
+-- chunks of a position's word document 02's P7 calls divided. Assumes nothing.
+use mathlib.Core.Bool.{Bool, not, _&&_}
 use mathlib.Core.List.{List}
 use Prim.Native.Nat.{ℕ, zero, suc, _+_, _-_, _*_, _%_}
-use lib.Dec.{leb}
+use lib.Dec.{leb, eqb}
 use lib.IntN.{ℤ, pos, _+ℤ_}
 use Rattle.bits.specs.Sums.{joinAt, fromPlace}
 use Rattle.bits.specs.Walk.{walk}
 use Rattle.bits.specs.Places.{bit, pack}
-use Rattle.bits.specs.Searches.{greatest}
+use Rattle.bits.specs.Searches.{anyBelow, greatest}
 use Rattle.model.specs.Card.{Code}
 use Rattle.model.specs.Order.{codeword, lastCodeword, start}
 
@@ -73,3 +74,22 @@ wordBytes C position = pack (wordBits C) (wordAt C position)
 -- distance from the buffer face, a signed number: offset + 50 mm × position (document 02, P2)
 unfoldable pub millimetresOf : (offset : ℤ) (position : ℕ) → ℤ
 millimetresOf offset position = offset +ℤ pos (50 * position)
+
+-- ---- document 02, P7: which chunks of a position's word are divided
+
+-- whether w(i) and w(i+1) differ in place p of a word; and whether in the word of a position of block i that place is taken from w(i+1):
+-- of a place in which the two differ, whether it has there the bit of w(i+1)
+abbrev pub differAt : Code → (i p : ℕ) → Bool
+differAt C i p = not (eqb (word C i p) (word C (i + 1) p))
+
+abbrev pub takenAt : Code → (position p : ℕ) → Bool
+takenAt C position p = eqb (wordAt C position p) (word C (blockOf C position + 1) p)
+
+-- chunk c, 0 to 4, of the word of a position of block i is divided: some, but not all, of the places in which w(i) and w(i+1) differ
+-- there are taken from w(i+1), so that one of these places is taken from it and one is not
+unfoldable pub divided : Code → (position c : ℕ) → Bool
+divided C position c =
+    let size : ℕ = chunkSize (C .D) (C .n) c in
+    let differ : ℕ → Bool = chunkOf C c (differAt C (blockOf C position)) in
+    let taken : ℕ → Bool = chunkOf C c (takenAt C position) in
+    anyBelow (λ p. differ p && taken p) size && anyBelow (λ p. differ p && not (taken p)) size
