@@ -6,6 +6,7 @@ use Prim.Native.Nat.{ℕ, zero, suc, _+_, _≤_, _<_}
 use native.Mathlib.Nat.{le-dest}
 use native.Mathlib.Omega.{arith}
 use Rattle.bits.specs.Sums.{sumBelow, distance, unlike, fromPlace}
+use Rattle.bits.proofs.Numbers.{lt-or-le}
 use Rattle.bits.proofs.Sums.{sum-ext, sum-add, sum-split, sum-zero, sum-longer, sum-of-bits}
 
 -- the distance is fixed by the bits below d
@@ -65,3 +66,14 @@ distance-through {u} {c} {v} d h =
 pub distance-le : (d : ℕ) (u v : ℕ → ℕ) → distance d u v ≤ d
 unfolding distance
 distance-le d u v = sum-of-bits (λ p. unlike (u p) (v p)) d (λ p. omega arith)
+
+-- of the places in which two words differ, counted from 0, place number r
+pub differing-place : (u v : ℕ → ℕ) (d r : ℕ) → r < distance d u v
+    → (p : ℕ) × (p < d) × (unlike (u p) (v p) ≡ 1) × (distance p u v ≡ r)
+unfolding distance sumBelow
+differing-place u v zero r h = absurd (omega arith)
+differing-place u v (suc d) r h =
+    ⊎-elim
+    (λ (l : r < distance d u v). let (p, below, differ, number) = differing-place u v d r l in (p, omega arith, differ, number))
+    (λ (l : distance d u v ≤ r). (d, omega arith, omega arith, omega arith))
+    (lt-or-le r (distance d u v))

@@ -32,7 +32,7 @@ use Rattle.position_theory.proofs.Words.{five-wrong, five-lost}
 use Rattle.position_theory.proofs.WordBytes.{readingOfSeen, reading, read-if-whole, place-of-word}
 use Rattle.position_theory.proofs.RuleReads.{reads-in-code}
 use Rattle.position_theory.proofs.Nearest.{reading-is-nearest}
-use Rattle.position_theory.proofs.BoundedError.{error-of-seen, near-loosen}
+use Rattle.position_theory.proofs.BoundedError.{all-below, error-of-seen, near-loosen}
 use Rattle.position_theory.proofs.ChunkBits.{wrong-of-chunks}
 use Rattle.position_theory.proofs.ReadWords.{read-if-served}
 use Rattle.position_theory.proofs.Demands.{card-promise, read-sound}
@@ -157,7 +157,9 @@ module _ (card : List ℕ) (levels : List Float) where
       let word = toldAt levels in
       let u = place (wordBytes C position) in
       let sees = told-sees C (sound-card card sound) word (λ p b. unit-told (units p b)) in
-      let (near, least) = error-of-seen C (card-promise card sound) sees position u h (place-of-word C position) below in
+      let (near, least) =
+      error-of-seen C (card-promise card sound) sees position u h (place-of-word C position)
+      (all-below C (heardOf levels) position u (bitsOf levels) below) in
       let wrong : residualHeard C (heardOf levels) (bitsOf levels) position ≡ wrongInAll C (heardOf levels) u (bitsOf levels) =
       sym (heard-ext-left (heardOf levels) (wordBits C) (bitsOf levels) (place-of-word C position)) ∙ five-wrong C (heardOf levels) u (bitsOf levels) in
       rw (levels-sound card levels sound, read-if-inside C levels whole (units-inside units))

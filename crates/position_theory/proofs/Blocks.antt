@@ -110,7 +110,7 @@ module _ (C : Code) (promise : ChunkPromise C) where
       (eq-or-lt-of-le h)
 
   -- the positions of block i
-  block-inside : (i m : ℕ) → i < lastCodeword C → m < blockLength C i → blockOf C (start C i + m) ≡ i
+  pub block-inside : (i m : ℕ) → i < lastCodeword C → m < blockLength C i → blockOf C (start C i + m) ≡ i
   block-inside i m inside h =
       block-is C i _ (omega arith) (omega arith) (λ j l b. omega (arith, starts-rise i j l b))
 

@@ -1,8 +1,9 @@
--- How far an answer is off, for a code that keeps the chunk promise: a word with 2 × wrong + lost below D in each chunk allows the true
--- position, so the answer is off by at most the wrong bits, the residual and the lost bits together, and the residual is at most the wrong
--- bits. Demand 3 is the case of a plain word, in which nothing is lost. Assumes nothing.
+-- How far an answer is off, for a code that keeps the chunk promise: a word with 2 × wrong + lost below D in each chunk that is not divided
+-- allows the true position, so the answer is off by at most the wrong bits, the residual and the lost bits together, and the residual is at
+-- most the wrong bits. P7 is the case of a plain word, in which nothing is lost, and demand 3 that of one within the radius in every chunk.
+-- Assumes nothing.
 use mathlib.Core.Path.{_≡_, refl, sym, ap, _∙_}
-use mathlib.Core.Bool.{Bool}
+use mathlib.Core.Bool.{Bool, false}
 use mathlib.Core.List.{List}
 use Prim.Native.Nat.{ℕ, _+_, _≤_, _<_}
 use native.Mathlib.Omega.{arith}
@@ -12,9 +13,9 @@ use Rattle.bits.specs.Places.{place}
 use Rattle.bits.proofs.Distance.{distance-ext-left}
 use Rattle.bits.proofs.Heard.{heard-ext-left, none-lost}
 use Rattle.bits.proofs.Places.{place-bit}
-use Rattle.model.specs.Card.{Code, radius}
-use Rattle.model.specs.Order.{lastCodeword, changedWeight, blockLength, start, lastPosition}
-use Rattle.model.specs.Words.{wordBits, chunkOf, word, wordAt, wordBytes}
+use Rattle.model.specs.Card.{Code}
+use Rattle.model.specs.Order.{lastCodeword, blockLength, start, lastPosition}
+use Rattle.model.specs.Words.{wordBits, chunkOf, word, wordAt, wordBytes, divided}
 use Rattle.model.specs.Reading.{Seen, seen, twoEnds, residual}
 use Rattle.model.specs.Levels.{residualHeard}
 use Rattle.model.specs.Answers.{readWord}
@@ -23,10 +24,11 @@ use Rattle.model.specs.declared.ReadAnswer.the-variants.{At, Refused}
 use Rattle.code_theory.specs.Promise.{ChunkPromise}
 use Rattle.position_theory.specs.Damage.{turnedIn, wrongIn, ChunkBelowD, ChunksBelowD, ChunksWithin}
 use Rattle.position_theory.specs.Damage.{WithinRadius, turned, Near, residualOf}
+use Rattle.position_theory.specs.DividedChunks.{UndividedWithinRadius}
 use Rattle.position_theory.proofs.Words.{chunk-fits, five-distance}
-use Rattle.position_theory.proofs.Between.{WholeAt}
-use Rattle.position_theory.proofs.WordBytes.{place-of-word, readingOfSeen, reading, read-if-whole}
+use Rattle.position_theory.proofs.WordBytes.{place-of-word, readingOfSeen, read-if-whole}
 use Rattle.position_theory.proofs.Blocks.{next-codeword, on-the-way, word-in-block}
+use Rattle.position_theory.proofs.WhereDivided.{undivided-if-whole}
 use Rattle.position_theory.proofs.TrueAllowed.{Allows, true-allowed}
 use Rattle.position_theory.proofs.Telling.{Sees, whole-tell}
 use Rattle.position_theory.proofs.PlainSeen.{plain-sees, within-radius-below, plain-residual}
@@ -34,6 +36,20 @@ use Rattle.position_theory.proofs.Ranges.{counted-residuals}
 use Rattle.position_theory.proofs.RuleReads.{reads-in-code}
 use Rattle.position_theory.proofs.TrueCases.{true-case}
 use Rattle.position_theory.proofs.Nearest.{answer-near}
+
+-- each chunk of the position's word that is not divided has 2 × wrong + lost below D; which is so where each of the five has
+abbrev pub UndividedBelowD : Code → (heard : ℕ → Bool) (position : ℕ) (u x : ℕ → ℕ) → Type 0
+UndividedBelowD C heard position u x = (c : ℕ) → c < 5 → divided C position c ≡ false → ChunkBelowD C heard u x c
+
+pub all-below : (C : Code) (heard : ℕ → Bool) (position : ℕ) (u x : ℕ → ℕ) → ChunksBelowD C heard u x → UndividedBelowD C heard position u x
+unfolding ChunksBelowD
+all-below C heard position u x below c b _ = below c b
+
+-- likewise a word within the radius in every chunk is within it in those that are not divided
+pub all-within : (C : Code) (position : ℕ) (received : List ℕ) → WithinRadius C position received → UndividedWithinRadius C position received
+unfolding ChunksWithin
+all-within C position received d =
+    record { right-length = d .right-length; spare-zero = d .spare-zero; chunks = λ c b _. omega (arith, d .chunks c (omega arith)) }
 
 module _ (C : Code) where
   -- the bits turned, or wrong, in a chunk go by the word's places alone
@@ -56,31 +72,32 @@ module _ (C : Code) where
       ∙ distance-ext-left (wordBits C) (place received) (place-of-word C position)
 
 module _ (C : Code) (promise : ChunkPromise C) {heard : ℕ → Bool} {x : ℕ → ℕ} {s : Seen} (sees : Sees C heard x s) where
-  -- a word with 2 × wrong + lost below D in every whole chunk allows the true position; of a divided chunk nothing is asked
+  -- a word with 2 × wrong + lost below D in every chunk that is not divided, so in every whole one, allows the true position; of a divided
+  -- chunk nothing is asked
   steps-allowed : (i m : ℕ) (u : ℕ → ℕ) → i < lastCodeword C → m ≤ blockLength C i
       → ((p : ℕ) → p < wordBits C → u p ≡ wordAt C (start C i + m) p)
-      → ((c : ℕ) → c < 5 → WholeAt C (changedWeight C i) m c → ChunkBelowD C heard u x c) → Allows (twoEnds C) s (start C i + m)
+      → UndividedBelowD C heard (start C i + m) u x → Allows (twoEnds C) s (start C i + m)
   steps-allowed i m u inside room same within =
       let next = next-codeword C promise i inside in
       let walked : (p : ℕ) → p < wordBits C → u p ≡ walk (word C i) (word C (i + 1)) m p =
       λ p b. same p b ∙ word-in-block C promise i m inside room p b in
-      let told = whole-tell C promise sees next m (λ c b whole. rw (wrong-in-ext C heard x walked c b) at (within c b whole)) in
+      let told =
+      whole-tell C promise sees next m
+      (λ c b whole. rw (wrong-in-ext C heard x walked c b) at (within c b (undivided-if-whole C promise i m c inside room b whole))) in
       true-allowed C promise s i m inside room (true-case (next .parities) told)
 
-  -- so one with 2 × wrong + lost below D in every chunk does
-  pub position-allowed : (position : ℕ) (u : ℕ → ℕ) → position ≤ lastPosition C → ((p : ℕ) → p < wordBits C → u p ≡ wordAt C position p)
-      → ChunksBelowD C heard u x → Allows (twoEnds C) s position
-  unfolding ChunksBelowD
+  position-allowed : (position : ℕ) (u : ℕ → ℕ) → position ≤ lastPosition C → ((p : ℕ) → p < wordBits C → u p ≡ wordAt C position p)
+      → UndividedBelowD C heard position u x → Allows (twoEnds C) s position
   position-allowed position u h same within =
       let way = on-the-way C promise position h in
       let there =
       steps-allowed (way .block) (way .steps) u (way .inside) (way .room)
-      (λ p b. same p b ∙ ap (λ q. wordAt C q p) (sym (way .is))) (λ c b _. within c b) in
+      (λ p b. same p b ∙ ap (λ q. wordAt C q p) (sym (way .is))) (λ c b undivided. within c b (rw (way .is) at undivided)) in
       rw (way .is) at there
 
   -- and the answer is as near to that position as the residuals and the lost bits say
   pub error-of-seen : (position : ℕ) (u : ℕ → ℕ) → position ≤ lastPosition C → ((p : ℕ) → p < wordBits C → u p ≡ wordAt C position p)
-      → ChunksBelowD C heard u x
+      → UndividedBelowD C heard position u x
       → let answer = readingOfSeen C s (residualHeard C heard x) in
       Near answer position (residualHeard C heard x position + residualOf answer + lostBelow heard (wordBits C))
       × (residualOf answer ≤ residualHeard C heard x position)
@@ -95,26 +112,28 @@ unfolding Near
 near-loosen (At r) position e e′ h near = (omega arith, omega arith)
 near-loosen (Refused refusal) position e e′ h near = near
 
--- a plain word within the radius in every chunk
+-- a plain word within the radius in every chunk that is not divided
 module _ (C : Code) (promise : ChunkPromise C) where
-  pub plain-allowed : (position : ℕ) (u x : ℕ → ℕ) → position ≤ lastPosition C → ((p : ℕ) → x p < 2)
-      → ((p : ℕ) → p < wordBits C → u p ≡ wordAt C position p) → ChunksWithin C (radius C) u x → Allows (twoEnds C) (seen C x) position
-  unfolding ChunksWithin ChunksBelowD
-  plain-allowed position u x h hx same within =
-      position-allowed C promise (plain-sees C promise hx) position u h same (λ c b. within-radius-below C promise u x c (within c b))
+  plain-below : (position : ℕ) (received : List ℕ) → UndividedWithinRadius C position received
+      → UndividedBelowD C everywhere position (place (wordBytes C position)) (place received)
+  plain-below position received d c b undivided =
+      within-radius-below C promise (place (wordBytes C position)) (place received) c (d .chunks c (omega arith) undivided)
 
-  -- demand 3 and the sharper bound
-  pub error-bounded : (position : ℕ) (received : List ℕ) → position ≤ lastPosition C → WithinRadius C position received
+  pub plain-allowed : (position : ℕ) (received : List ℕ) → position ≤ lastPosition C → UndividedWithinRadius C position received
+      → Allows (twoEnds C) (seen C (place received)) position
+  plain-allowed position received h d =
+      position-allowed C promise (plain-sees C promise (place-bit received)) position (place (wordBytes C position)) h
+      (place-of-word C position) (plain-below position received d)
+
+  -- the first distance of P7, and what the second follows from
+  pub error-bounded : (position : ℕ) (received : List ℕ) → position ≤ lastPosition C → UndividedWithinRadius C position received
       → Near (readWord C received) position (turned C position received + residualOf (readWord C received))
       × (residualOf (readWord C received) ≤ turned C position received)
-  unfolding ChunksWithin ChunksBelowD
   error-bounded position received h d =
       let x = place received in
-      let u = place (wordBytes C position) in
       let none = none-lost everywhere (wordBits C) (λ p b. refl) in
       let (near, least) =
-      error-of-seen C promise (plain-sees C promise (place-bit received)) position u h (place-of-word C position)
-      (λ c b. within-radius-below C promise u x c (d .chunks c b)) in
-      let answer = reading C x in
+      error-of-seen C promise (plain-sees C promise (place-bit received)) position (place (wordBytes C position)) h
+      (place-of-word C position) (plain-below position received d) in
       rw (read-if-whole C received (d .right-length) (d .spare-zero), turned-is-residual C position received, plain-residual C x)
       (near-loosen (readingOfSeen C (seen C x) (residualHeard C everywhere x)) position _ _ (omega (arith, none)) near, least)

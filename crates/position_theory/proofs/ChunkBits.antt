@@ -11,7 +11,6 @@ use borrow.Author.Tests.{ltb-true}
 use Rattle.bits.specs.Sums.{distance, everywhere}
 use Rattle.bits.specs.Places.{bit, place}
 use Rattle.bits.proofs.Distance.{distance-ext-left}
-use Rattle.bits.proofs.Places.{place-bit}
 use Rattle.model.specs.Card.{Code, codeOf}
 use Rattle.model.specs.Order.{codeword}
 use Rattle.model.specs.Words.{chunkSize, placesBefore, chunk₁, chunk₂, wordAt, wordBytes}
@@ -35,7 +34,7 @@ use Rattle.position_theory.proofs.RuleReads.{reads-in-code, word-reads}
 use Rattle.position_theory.proofs.PlainSeen.{plain-sees-chunks}
 use Rattle.position_theory.proofs.WordBytes.{place-of-word, readingOfSeen, reading, read-if-whole}
 use Rattle.position_theory.proofs.NamedChunks.{InRange, named-hold}
-use Rattle.position_theory.proofs.BoundedError.{turned-in-ext, plain-allowed}
+use Rattle.position_theory.proofs.BoundedError.{all-within, turned-in-ext, plain-allowed}
 use Rattle.position_theory.proofs.Demands.{card-promise, read-sound}
 use Rattle.position_theory.proofs.ReadWords.{read-if-served, read-shows}
 
@@ -125,8 +124,7 @@ needed-as-turned card received position sound h d r answered =
     let C = codeOf card in
     let promise = card-promise card sound in
     let x = place received in
-    let allows =
-    plain-allowed C promise position (place (wordBytes C position)) x h (place-bit received) (place-of-word C position) (d .chunks) in
+    let allows = plain-allowed C promise position received h (all-within C position received d) in
     let read : reading C x ≡ At r =
     sym (read-sound card received sound ∙ read-if-whole C received (d .right-length) (d .spare-zero)) ∙ answered in
     let (none, is) = read-if-served _ _ _ read in

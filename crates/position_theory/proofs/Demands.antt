@@ -1,30 +1,33 @@
--- Demands 2 and 3 of cards and words as bytes: every sound card's code keeps the chunk promise, and the theorems follow.
--- Assumes nothing.
+-- Demands 2 and 3 and document 02's P7 of cards and words as bytes: every sound card's code keeps the chunk promise, and the theorems
+-- follow, demand 3 from that of P7. Assumes nothing.
 use mathlib.Core.Path.{_≡_, _∙_, sym}
+use mathlib.Core.Bool.{false}
 use mathlib.Core.List.{List}
 use mathlib.Core.Logic.{⊎-elim}
-use Prim.Native.Nat.{ℕ, _+_, _≤_}
+use Prim.Native.Nat.{ℕ, _+_, _≤_, _<_}
 use native.Mathlib.Omega.{arith}
 use Rattle.bits.specs.Places.{place, differingBits}
 use Rattle.bits.proofs.Distance.{distance-comm}
 use Rattle.model.specs.Card.{Code, cardRefusal, codeOf, SoundCard}
 use Rattle.model.specs.Order.{lastPosition}
-use Rattle.model.specs.Words.{wordBits, wordAt, wordBytes}
+use Rattle.model.specs.Words.{wordBits, wordAt, wordBytes, divided}
 use Rattle.model.specs.Reading.{seen, residual}
 use Rattle.model.specs.Answers.{readWord, readRefusal, readAnswer}
 use Rattle.code_theory.specs.Promise.{ChunkPromise}
 use Rattle.code_theory.proofs.Refusals.{past-card}
 use Rattle.code_theory.proofs.SoundCard.{sound-card}
 use Rattle.code_theory.proofs.Promise.{promise}
-use Rattle.position_theory.specs.Damage.{turned, residualOf}
+use Rattle.position_theory.specs.Damage.{ChunksWithin, WithinRadius}
 use Rattle.position_theory.specs.Nearest.{IsReading}
 use Rattle.position_theory.specs.Demands.{NeighboursDifferInOneBit, NoOtherPositionsWord, NearestOfAllowed}
 use Rattle.position_theory.specs.Demands.{OffByAtMostTwiceTurned, OffByAtMostTurnedAndResidual}
+use Rattle.position_theory.specs.DividedChunks.{UndividedWithinRadius, ReadWithDividedAtWill, BarHoldsPosition, AtMostOneDivided}
 use Rattle.position_theory.proofs.WordBytes.{differing-words, residual-counts, reading, read-if-whole}
 use Rattle.position_theory.proofs.RuleReads.{reads-in-code}
 use Rattle.position_theory.proofs.PlainSeen.{plain-sees-chunks}
 use Rattle.position_theory.proofs.Nearest.{reading-is-nearest}
-use Rattle.position_theory.proofs.BoundedError.{error-bounded, near-loosen}
+use Rattle.position_theory.proofs.WhereDivided.{divided-one-by-one}
+use Rattle.position_theory.proofs.BoundedError.{all-within, error-bounded, near-loosen}
 use Rattle.position_theory.proofs.DistinctWords.{neighbours-differ, words-distinct}
 
 pub card-promise : (card : List ℕ) → SoundCard card → ChunkPromise (codeOf card)
@@ -70,17 +73,45 @@ nearest-of-allowed card received sound h spare = (
   residual-counts (codeOf card) received spare,
 )
 
--- the sharper bound, and demand 3 as its corollary, since the answer's residual is at most the bits turned
+-- P7, where the divided chunk is turned at will: the word is read, off by at most the bits turned and the residual together; and since the
+-- residual is at most the bits turned, by at most twice these
+pub read-with-divided-at-will : (card received : List ℕ) → ReadWithDividedAtWill card received (readAnswer card received)
+unfolding ReadWithDividedAtWill
+read-with-divided-at-will card received position sound h within =
+    let (near, least) = error-bounded (codeOf card) (card-promise card sound) position received h within in
+    let answer = readWord (codeOf card) received in
+    rw (read-sound card received sound)
+    (near-loosen answer position _ _ (omega arith) near, near-loosen answer position _ _ (omega arith) near)
+
+-- so the bar that is drawn for e bits holds the position where at most e are turned
+pub bar-holds-position : (card received : List ℕ) → BarHoldsPosition card received (readAnswer card received)
+unfolding BarHoldsPosition
+bar-holds-position card received position e sound h within few =
+    let (near, least) = error-bounded (codeOf card) (card-promise card sound) position received h within in
+    rw (read-sound card received sound)
+    (near-loosen (readWord (codeOf card) received) position _ _ (omega arith) near, omega arith)
+
+-- where none is divided, P7's limit binds all five chunks
+pub binds-all-five : (C : Code) (position : ℕ) (received : List ℕ) → ((c : ℕ) → c < 5 → divided C position c ≡ false)
+    → UndividedWithinRadius C position received → WithinRadius C position received
+unfolding ChunksWithin
+binds-all-five C position received none d =
+    record { right-length = d .right-length; spare-zero = d .spare-zero; chunks = λ c b. d .chunks c b (none c b) }
+
+-- the sharper bound and demand 3 are P7's distances of a word within the radius in every chunk
 pub off-by-at-most-turned-and-residual : (card received : List ℕ)
     → OffByAtMostTurnedAndResidual card received (readAnswer card received)
-unfolding OffByAtMostTurnedAndResidual
+unfolding OffByAtMostTurnedAndResidual ReadWithDividedAtWill
 off-by-at-most-turned-and-residual card received position sound h within =
-    rw (read-sound card received sound) (error-bounded (codeOf card) (card-promise card sound) position received h within .0)
+    read-with-divided-at-will card received position sound h (all-within (codeOf card) position received within) .0
 
 pub off-by-at-most-twice-turned : (card received : List ℕ) → OffByAtMostTwiceTurned card received (readAnswer card received)
-unfolding OffByAtMostTwiceTurned
+unfolding OffByAtMostTwiceTurned ReadWithDividedAtWill
 off-by-at-most-twice-turned card received position sound h within =
-    let bound = error-bounded (codeOf card) (card-promise card sound) position received h within in
-    rw (read-sound card received sound)
-    (near-loosen (readWord (codeOf card) received) position
-    (turned (codeOf card) position received + residualOf (readWord (codeOf card) received)) _ (omega arith) (bound .0))
+    near-loosen (readAnswer card received) position _ _ (omega arith)
+    (read-with-divided-at-will card received position sound h (all-within (codeOf card) position received within) .1)
+
+-- at most one chunk is divided
+pub at-most-one-divided : (card : List ℕ) → AtMostOneDivided card
+unfolding AtMostOneDivided
+at-most-one-divided card sound = divided-one-by-one (codeOf card) (card-promise card sound)

@@ -22,7 +22,7 @@ use Rattle.position_theory.proofs.WordBytes.{length-of-word, no-spare-s
 use Rattle.position_theory.proofs.Blocks.{block-le, block-low, block-high}
 use Rattle.position_theory.proofs.Ranges.{Isometric}
 use Rattle.position_theory.proofs.Isometry.{isometric-block}
-use Rattle.position_theory.proofs.BoundedError.{error-bounded, near-loosen}
+use Rattle.position_theory.proofs.BoundedError.{all-within, error-bounded, near-loosen}
 
 module _ (C : Code) (promise : ChunkPromise C) where
   -- a position before the last is in a block that is not the last
@@ -74,7 +74,8 @@ module _ (C : Code) (promise : ChunkPromise C) where
   -- so a word that is read with nothing turned gives back its position, and no other has it
   read-as-itself : (position : ℕ) → position ≤ lastPosition C → Near (readWord C (wordBytes C position)) position 0
   read-as-itself position h =
-      let bound = error-bounded C promise position (wordBytes C position) h (undamaged position) in
+      let bound =
+      error-bounded C promise position (wordBytes C position) h (all-within C position (wordBytes C position) (undamaged position)) in
       near-loosen (readWord C (wordBytes C position)) position _ 0 (omega (arith, nothing-turned position)) (bound .0)
 
   pub words-distinct : (p q : ℕ) → p ≤ lastPosition C → q ≤ lastPosition C → wordBytes C p ≡ wordBytes C q → p ≡ q

@@ -7,6 +7,7 @@ pub mod Telling
 pub mod PlainSeen
 pub mod TrueCases
 pub mod Blocks
+pub mod WhereDivided
 pub mod Isometry
 pub mod RuleReads
 pub mod NamedChunks

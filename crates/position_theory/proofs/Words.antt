@@ -2,8 +2,9 @@
 -- chunks. Assumes nothing.
 use mathlib.Core.Path.{_≡_, refl, sym}
 use mathlib.Core.Bool.{Bool, cond}
+use mathlib.Core.Logic.{⊎-elim}
 use Prim.Native.Nat.{ℕ, zero, suc, _+_, _%_, _≤_, _<_}
-use native.Mathlib.Nat.{zero-add, add-assoc, mod-lt}
+use native.Mathlib.Nat.{zero-add, add-assoc, mod-lt, eq-or-lt-of-le}
 use native.Mathlib.Omega.{arith}
 use Rattle.bits.specs.Sums.{sumBelow, distance, unlike, distanceHeard, lostBelow}
 use Rattle.bits.specs.Places.{bit}
@@ -97,6 +98,15 @@ pub chunk-ends : (D n c : ℕ) → placesBefore D n (suc c) ≡ placesBefore D n
 unfolding placesBefore chunkSize
 chunk-ends D n zero = sym (zero-add D)
 chunk-ends D n (suc c) = refl
+
+-- so a later chunk has no fewer places before it
+pub places-rise : (D n c c′ : ℕ) → c ≤ c′ → placesBefore D n c ≤ placesBefore D n c′
+places-rise D n c zero h = let none : c ≡ 0 = omega arith in rw none (omega arith)
+places-rise D n c (suc c′) h =
+    ⊎-elim
+    (λ (e : c ≡ suc c′). rw e (omega arith))
+    (λ (l : c < suc c′). omega (arith, chunk-ends D n c′, places-rise D n c c′ (omega arith)))
+    (eq-or-lt-of-le h)
 
 pub word-ends : (C : Code) → wordBits C ≡ placesBefore (C .D) (C .n) 5
 unfolding placesBefore chunkSize
