@@ -1,5 +1,5 @@
 -- What a read answers, one law for each way out of the code; the status and the values are those of the answer that the
--- definition gives, and the theorems of demands 2 and 3, of P3 and of P6 hold of it. Assumes nothing.
+-- definition gives, and the theorems of demands 2 and 3, of P3, of P6 and of P7 hold of it. Assumes nothing.
 use mathlib.Core.Path.{_≡_, refl, sym, _∙_}
 use mathlib.Core.List.{List}
 use Prim.Native.Nat.{ℕ}
@@ -11,7 +11,9 @@ use Rattle.model.specs.declared.ReadAnswer.{ReadAnswer}
 use Rattle.model.specs.declared.ReadAnswer.the-variants.{Refused}
 use Rattle.code_theory.proofs.Refusals.{refused-by-card}
 use Rattle.position_theory.specs.Demands.{NearestOfAllowed, OffByAtMostTwiceTurned, OffByAtMostTurnedAndResidual}
+use Rattle.position_theory.specs.DividedChunks.{ReadWithDividedAtWill, BarHoldsPosition, AtMostOneDivided}
 use Rattle.position_theory.proofs.Demands.{read-sound, nearest-of-allowed, off-by-at-most-twice-turned, off-by-at-most-turned-and-residual}
+use Rattle.position_theory.proofs.Demands.{read-with-divided-at-will, bar-holds-position, at-most-one-divided}
 use Rattle.position_theory.specs.ChunkBits.{TellsBitsOfChunks, NeededAsTurned}
 use Rattle.position_theory.proofs.ChunkBits.{tells-bits-of-chunks, needed-as-turned}
 use Rattle.position_theory.specs.Contradictions.{ReadOnlyIfParityAgrees, PastedNeverRead, AsBeforeUnlessContradicted}
@@ -21,7 +23,7 @@ use Rattle.depot.proofs.Statuses.{read-told}
 
 module _ (card received : List ℕ) where
   -- what the contract of the read says of its answer
-  abbrev ReadMeets : ReadAnswer → Type 0
+  abbrev pub ReadMeets : ReadAnswer → Type 0
   ReadMeets answer =
       (answer ≡ readAnswer card received)
       × ((readStatus answer ≡ readRefusal card received)
@@ -32,7 +34,10 @@ module _ (card received : List ℕ) where
       × (TellsBitsOfChunks card received answer
       × (NeededAsTurned card received answer
       × (ReadOnlyIfParityAgrees card received answer
-      × (PastedNeverRead card received answer × AsBeforeUnlessContradicted card received answer)))))))))
+      × (PastedNeverRead card received answer
+      × (AsBeforeUnlessContradicted card received answer
+      × (ReadWithDividedAtWill card received answer
+      × (BarHoldsPosition card received answer × AtMostOneDivided card))))))))))))
 
   read-meets : (answer : ReadAnswer) → answer ≡ readAnswer card received → ReadMeets answer
   read-meets answer e =
@@ -45,7 +50,11 @@ module _ (card received : List ℕ) where
       let agrees = read-only-if-parity-agrees card received in
       let pasted = pasted-never-read card received in
       let before = as-before-unless-contradicted card received in
-      rw e (refl, (status, (values, (demand-3, (sharper, (nearest, (bits, (turned, (agrees, (pasted, before))))))))))
+      let divided = read-with-divided-at-will card received in
+      let bar = bar-holds-position card received in
+      let one = at-most-one-divided card in
+      rw e
+      (refl, (status, (values, (demand-3, (sharper, (nearest, (bits, (turned, (agrees, (pasted, (before, (divided, (bar, one)))))))))))))
 
   module _ (decoded : Decoded) (from : DecodedFrom card decoded) where
     pub read-card-refused : (decoded .refusal ≡ 0 → ⊥) → ReadMeets (Refused (decoded .refusal))

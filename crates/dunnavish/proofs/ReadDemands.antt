@@ -1,5 +1,5 @@
--- Demand 3, the bits of the chunks and what P6 promises, of the library's reading call, hold of the status and the numbers that the call
--- for C leaves: an answer that is near a position crosses with status 0, and the numbers left are its values. Where the count of the lent
+-- Demand 3, the bits of the chunks and what P6 and P7 promise, of the library's reading call, hold of the status and the numbers that the
+-- call for C leaves: an answer that is near a position crosses with status 0, and the numbers left are its values. Where the count of the lent
 -- numbers is wrong, nothing is claimed. Assumes nothing.
 use mathlib.Core.Path.{_≡_, refl, _∙_}
 use mathlib.Core.Bool.{Bool, true, false}
@@ -11,7 +11,7 @@ use borrow.Author.Tests.{eq-eqb}
 use Rattle.bits.specs.Places.{place}
 use Rattle.model.specs.Card.{Code, codeOf}
 use Rattle.model.specs.Answers.{readFigures, readAnswer}
-use Rattle.model.specs.Statuses.{ifServed, bitsValue, readStatus, readValues}
+use Rattle.model.specs.Statuses.{bitsValue, readStatus, readValues}
 use Rattle.model.specs.declared.ChunkBits.{ChunkBits}
 use Rattle.model.specs.declared.Reading.{Reading}
 use Rattle.model.specs.declared.ReadAnswer.{ReadAnswer}
@@ -20,10 +20,13 @@ use Rattle.position_theory.specs.Damage.{Near, residualOf}
 use Rattle.position_theory.specs.Demands.{OffByAtMostTwiceTurned, OffByAtMostTurnedAndResidual}
 use Rattle.position_theory.specs.ChunkBits.{TellsBits, BitsOfChunks, TellsBitsOfChunks, NeededAsTurned}
 use Rattle.position_theory.specs.Contradictions.{ReadOnlyIfParityAgrees, PastedNeverRead}
+use Rattle.position_theory.specs.DividedChunks.{ReadWithDividedAtWill, BarHoldsPosition}
+use Rattle.depot.proofs.Reading as library
 use Rattle.dunnavish.specs.Crossing.{readCount, wrongCount, statusFor, leftBy, UnchangedUnlessZero}
 use Rattle.dunnavish.specs.Demands.{residualLeft, ServedNear, ServedWithinTwiceTurned, ServedWithinTurnedAndResidual}
 use Rattle.dunnavish.specs.Demands.{LeavesBits, LeavesBitsOfChunks, LeavesBitsTurned}
 use Rattle.dunnavish.specs.Contradictions.{ServedOnlyIfParityAgrees, PastedNeverServed}
+use Rattle.dunnavish.specs.DividedChunks.{ServedWithDividedAtWill, BarLeftHoldsPosition}
 use Rattle.dunnavish.proofs.Lent.{Crosses, wrong-count-changes-nothing}
 use Rattle.dunnavish.proofs.ServedReads.{ReadLeaves, reading-crosses}
 use Rattle.dunnavish.proofs.Contradictions.{agreement-crosses, never-crosses}
@@ -37,6 +40,23 @@ near-crosses lent alike (At r) status left is-status is-left position e near =
     let served : status ≡ 0 = is-status ∙ rw (eq-eqb (length lent) readCount alike) in
     rw (is-left, served) ((refl, near .0, near .1), refl)
 near-crosses lent alike (Refused refusal) status left is-status is-left position e near = absurd near
+
+-- so do both distances of P7, and the bar
+module _ (card received lent : List ℕ) (answer : ReadAnswer) (status : ℕ) (left : List ℕ)
+    (is-status : status ≡ statusFor readCount lent (readStatus answer)) (is-left : left ≡ leftBy status (readValues answer) lent) where
+  distances-cross : ReadWithDividedAtWill card received answer → ServedWithDividedAtWill card received lent status left
+  unfolding ReadWithDividedAtWill ServedWithDividedAtWill
+  distances-cross divided alike position sound on-track within =
+      let (sharper, twice) = divided position sound on-track within in
+      let (near, residual) = near-crosses lent alike answer status left is-status is-left position _ sharper in
+      (rw residual near, near-crosses lent alike answer status left is-status is-left position _ twice .0)
+
+  bar-crosses : BarHoldsPosition card received answer → BarLeftHoldsPosition card received lent status left
+  unfolding BarHoldsPosition BarLeftHoldsPosition
+  bar-crosses bar alike position e sound on-track within few =
+      let (near, least) = bar position e sound on-track within few in
+      let (served, residual) = near-crosses lent alike answer status left is-status is-left position _ near in
+      rw residual (served, least)
 
 -- the bits that a chunk needed, as a number
 bits-cross : (C : Code) (named : Bool) (chunk : ℕ → ℕ) (p : ℕ) (answered : ChunkBits) → TellsBits C named chunk p answered
@@ -69,10 +89,13 @@ module _ (card received lent : List ℕ) where
       × (ServedWithinTurnedAndResidual card received lent status left
       × (LeavesBitsOfChunks card received status left
       × (LeavesBitsTurned card received status left
-      × (ServedOnlyIfParityAgrees card received status left × PastedNeverServed card received status)))))))
+      × (ServedOnlyIfParityAgrees card received status left
+      × (PastedNeverServed card received status
+      × (ServedWithDividedAtWill card received lent status left × BarLeftHoldsPosition card received lent status left)))))))))
 
   pub wrong-count-claims-nothing : (length lent ≡ readCount → ⊥) → ReadMeets wrongCount lent
   unfolding ServedWithinTwiceTurned ServedWithinTurnedAndResidual LeavesBitsOfChunks LeavesBitsTurned ServedOnlyIfParityAgrees PastedNeverServed
+      ServedWithDividedAtWill BarLeftHoldsPosition
   wrong-count-claims-nothing unlike =
       let no-read : wrongCount ≡ 0 → ⊥ = λ zero. omega arith in
       let (status, (left, unchanged)) = wrong-count-changes-nothing readCount lent unlike _ _ in
@@ -81,19 +104,21 @@ module _ (card received lent : List ℕ) where
       let bits : LeavesBitsOfChunks card received wrongCount lent = λ zero. absurd (no-read zero) in
       let turned : LeavesBitsTurned card received wrongCount lent = λ position sound on-track within zero. absurd (no-read zero) in
       let agrees : ServedOnlyIfParityAgrees card received wrongCount lent = λ zero. absurd (no-read zero) in
-      (status, (left, (unchanged, (bounded, (sharper, (bits, (turned, (agrees, λ i j c from. no-read))))))))
+      let pasted : PastedNeverServed card received wrongCount = λ i j c from. no-read in
+      let divided : ServedWithDividedAtWill card received lent wrongCount lent = λ alike. absurd (unlike alike) in
+      let bar : BarLeftHoldsPosition card received lent wrongCount lent = λ alike. absurd (unlike alike) in
+      (status, (left, (unchanged, (bounded, (sharper, (bits, (turned, (agrees, (pasted, (divided, bar))))))))))
 
-  pub demands-cross : (answer : ReadAnswer) → answer ≡ readAnswer card received
-      → readValues answer ≡ ifServed (readStatus answer) (readFigures card received)
-      → OffByAtMostTwiceTurned card received answer → OffByAtMostTurnedAndResidual card received answer
-      → TellsBitsOfChunks card received answer → NeededAsTurned card received answer
-      → ReadOnlyIfParityAgrees card received answer → PastedNeverRead card received answer
+  -- what the library's contract says of its answer crosses, clause by clause
+  pub demands-cross : (answer : ReadAnswer) → library.ReadMeets card received answer
       → (status : ℕ) (left : List ℕ) → Crosses readCount lent (readStatus answer) (readValues answer) status left
       → ReadMeets status left
   unfolding OffByAtMostTwiceTurned OffByAtMostTurnedAndResidual ServedWithinTwiceTurned ServedWithinTurnedAndResidual
       TellsBitsOfChunks NeededAsTurned LeavesBitsOfChunks LeavesBitsTurned readValues
       ReadOnlyIfParityAgrees PastedNeverRead ServedOnlyIfParityAgrees PastedNeverServed readFigures
-  demands-cross answer is values bounded sharper tells needed agrees pasted status left (is-status, (is-left, unchanged)) =
+  demands-cross answer
+      (is, (_, (values, (bounded, (sharper, (_, (tells, (needed, (agrees, (pasted, (_, (divided, (bar, _)))))))))))))
+      status left (is-status, (is-left, unchanged)) =
       let leaves : ReadLeaves lent answer status left = record { told = _; values = values; is-status = is-status; is-left = is-left } in
       let crosses = reading-crosses lent answer status left leaves in
       rw (← is) (
@@ -117,7 +142,13 @@ module _ (card received lent : List ℕ) where
                         let (r, at, left-are) = crosses zero in rw left-are (needed position sound on-track within r at),
                     (
                       agreement-crosses lent answer status left leaves _ _ agrees,
-                      λ i j c from. never-crosses lent answer status left leaves (pasted i j c from),
+                      (
+                        λ i j c from. never-crosses lent answer status left leaves (pasted i j c from),
+                        (
+                          distances-cross card received lent answer status left is-status is-left divided,
+                          bar-crosses card received lent answer status left is-status is-left bar,
+                        ),
+                      ),
                     ),
                   ),
                 ),

@@ -1,3 +1,4 @@
 pub mod Crossing
 pub mod Demands
 pub mod Contradictions
+pub mod DividedChunks

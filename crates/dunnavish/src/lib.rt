@@ -19,6 +19,7 @@ ghost use Rattle.dunnavish.specs.Demands.{LeavesBitsOfChunks, LeavesBits
 ghost use Rattle.dunnavish.specs.Demands.{ServedWithinTwiceWrongAndLost, LeavesAsPlain};
 ghost use Rattle.dunnavish.specs.Contradictions.{ServedOnlyIfParityAgrees, PastedNeverServed};
 ghost use Rattle.dunnavish.specs.Contradictions.{LevelsServedOnlyIfParityAgrees, PastedLevelsNeverServed};
+ghost use Rattle.dunnavish.specs.DividedChunks.{ServedWithDividedAtWill, BarLeftHoldsPosition};
 ghost use Rattle.dunnavish.specs.Demands.{MadeWithinLimits, VotedAsPromised, VotedAsSearch};
 use model::CardAnswer;
 use model::ChunkBits;
@@ -106,10 +107,13 @@ fn put_reading(read: Reading, values: &mut [u32])
 // Reads a received word: position, residual, rule, and the bits that chunk 1 and chunk 2 needed, into five numbers. Of the word of any
 // position on the track, with at most t bits turned in each chunk, the status is 0 where five numbers are lent, and the position put
 // into the first of them is at most twice as many steps off as bits are turned, and at most as many as bits are turned and the
-// residual, the second, together; and the number put for a chunk that the rule names is that of the bits turned in it. Of any word that
-// is read, it is the count of places in which that chunk of the word and the codeword that it reads as differ, at most t; for any
-// other chunk NOT_READ is put. Of a word whose status is 0, separator 1, by rule 2 separator 3, has the parity of the codeword's number, so
-// that of a word pasted from two telegrams whose parities differ there the status is never 0.
+// residual, the second, together; and the number put for a chunk that the rule names is that of the bits turned in it. The same holds of
+// the status and of both distances where the divided chunk of that position's word is turned at will and each other chunk has at most t
+// bits turned; and the bar that reaches from the first number, on either side, as far as the second and e, holds the position where at
+// most e bits are turned. Of any word that is read, the number put for a chunk that the rule names is the count of places in which that
+// chunk of the word and the codeword that it reads as differ, at most t; for any other chunk NOT_READ is put. Of a word whose status is 0,
+// separator 1, by rule 2 separator 3, has the parity of the codeword's number, so that of a word pasted from two telegrams whose parities
+// differ there the status is never 0.
 #[no_mangle]
 pub extern "C" fn dunnavish_read_word(card: &[u8], word: &[u8], values: &mut [u32]) -> u32
     ensures status { λ r. ⌜ r ≡ statusFor readCount (now (values .entry)) (readStatus (readAnswer (now (card .entry)) (now (word .entry)))) ⌝ }
@@ -121,6 +125,8 @@ pub extern "C" fn dunnavish_read_word(card: &[u8], word: &[u8], values: &mut [u3
     ensures turned { λ r. ⌜ LeavesBitsTurned (now (card .entry)) (now (word .entry)) r (now (values .exit)) ⌝ }
     ensures agrees { λ r. ⌜ ServedOnlyIfParityAgrees (now (card .entry)) (now (word .entry)) r (now (values .exit)) ⌝ }
     ensures pasted { λ r. ⌜ PastedNeverServed (now (card .entry)) (now (word .entry)) r ⌝ }
+    ensures divided { λ r. ⌜ ServedWithDividedAtWill (now (card .entry)) (now (word .entry)) (now (values .entry)) r (now (values .exit)) ⌝ }
+    ensures bar { λ r. ⌜ BarLeftHoldsPosition (now (card .entry)) (now (word .entry)) (now (values .entry)) r (now (values .exit)) ⌝ }
 {
     if values.len() != 5 {
         return WRONG_COUNT;

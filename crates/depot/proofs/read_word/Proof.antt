@@ -1,5 +1,5 @@
 -- `depot::read_word` meets its contract: a card that is refused is answered by its refusal, and past the card's test the code is
--- sound, as the reader asks; either answer is the one that the definition gives, of which the demands and the clauses of P3 and P6 are
+-- sound, as the reader asks; either answer is the one that the definition gives, of which the demands and the clauses of P3, P6 and P7 are
 -- theorems. Assumes nothing.
 use borrow.Author.Needs.{needs}
 use Rattle.depot.proofs.Reading.{read-card-refused, word-read}

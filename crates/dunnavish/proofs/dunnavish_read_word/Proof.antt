@@ -1,4 +1,4 @@
--- `dunnavish::dunnavish_read_word` meets its contract: the count of the lent numbers, then what the library answered; the bounds,
+-- `dunnavish::dunnavish_read_word` meets its contract: the count of the lent numbers, then what the library answered; the distances,
 -- the bits and the separators are those of the library's own contract. Assumes nothing.
 use borrow.Author.Needs.{needs}
 use Rattle.model.specs.Answers.{readFigures}
@@ -19,9 +19,7 @@ returns-2 c =
     let answered = asked .read-word .ensures in
     let told = c .before .answer .given .1 in
     let nonzero = refusal-nonzero _ _ _ (rw told at (answered .1 .1 .0)) in
-    demands-cross _ _ _ (asked .read-word .result) (answered .0) (answered .1 .1 .0) (answered .1 .1 .1 .0) (answered .1 .1 .1 .1 .0)
-    (answered .1 .1 .1 .1 .1 .1 .0) (answered .1 .1 .1 .1 .1 .1 .1 .0) (answered .1 .1 .1 .1 .1 .1 .1 .1 .0)
-    (answered .1 .1 .1 .1 .1 .1 .1 .1 .1 .0) _ _
+    demands-cross _ _ _ (asked .read-word .result) answered _ _
     (rw told (refusal-changes-nothing readCount _ (asked .before .if1 .left) _ nonzero _))
 
 returns-3 : tie.Need-returns-3
@@ -31,9 +29,7 @@ returns-3 c =
     let asked = arm .before .before in
     let answered = asked .read-word .ensures in
     let alike = asked .before .if1 .left in
-    demands-cross _ _ _ (asked .read-word .result) (answered .0) (answered .1 .1 .0) (answered .1 .1 .1 .0) (answered .1 .1 .1 .1 .0)
-    (answered .1 .1 .1 .1 .1 .1 .0) (answered .1 .1 .1 .1 .1 .1 .1 .0) (answered .1 .1 .1 .1 .1 .1 .1 .1 .0)
-    (answered .1 .1 .1 .1 .1 .1 .1 .1 .1 .0) _ _
+    demands-cross _ _ _ (asked .read-word .result) answered _ _
     (rw (arm .answer2 .given .1, c .before .before .put-reading .ensures) (values-are-left readCount _ alike _))
 
 pub dunnavish-read-word-spec : {M : Type 1} → statement M
