@@ -68,17 +68,22 @@ fn borne(track: &Track, word: &[bool], base: u32) -> [Vec<Vec<f32>>; 5] {
     })
 }
 
-/// All such levels of a whole word, added chunk by chunk.
+/// All such levels of a whole word.
 pub fn damaged(track: &Track, word: &[bool], base: u32) -> Vec<Vec<f32>> {
-    let mut all: Vec<Vec<f32>> = vec![vec![]];
-    for borne in borne(track, word, base) {
-        all = all.iter().flat_map(|before| borne.iter().map(move |chunk| [&before[..], chunk].concat())).collect();
+    joined(&borne(track, word, base))
+}
+
+/// All whole words, of levels or of bits, each of whose chunks comes in one of its own ways: added chunk by chunk.
+pub fn joined<Bit: Copy>(chunks: &[Vec<Vec<Bit>>; 5]) -> Vec<Vec<Bit>> {
+    let mut all: Vec<Vec<Bit>> = vec![vec![]];
+    for ways in chunks {
+        all = all.iter().flat_map(|before| ways.iter().map(move |chunk| [&before[..], chunk].concat())).collect();
     }
     all
 }
 
 /// The next number of a linear congruential generator.
-fn draw(state: &mut u64) -> u64 {
+pub fn draw(state: &mut u64) -> u64 {
     *state = state.wrapping_mul(6_364_136_223_846_793_005).wrapping_add(1_442_695_040_888_963_407);
     *state >> 33
 }

@@ -1,5 +1,5 @@
 //! A second reader of robust Gray position words: cards, words, positions and readings, written from the words of document 01 and
-//! of requests P1 to P6 by plain search, to be compared with the library.
+//! of requests P1 to P7 by plain search, to be compared with the library.
 //!
 //! Words are single bits, made by walking from position 0 and turning one bit a step; block starts add up the places in which one
 //! whole word and the next differ; the least distance is found by summing every set of rows, a chunk's codeword by trying all, the
@@ -9,7 +9,7 @@
 //!
 //! The calls below are the library's eight. [`track::Track`] and [`walk::Walk`] are for a caller with many words of one card,
 //! [`reed_muller::ReedMuller`] for one with many chunks of one code. [`separator_promise`] is for holding any reader's answers to
-//! request P6.
+//! request P6, [`divided`] to request P7.
 #![deny(unsafe_code)]
 #![deny(unsafe_op_in_unsafe_fn)]
 
@@ -17,6 +17,7 @@
 mod c_calls;
 pub mod card;
 pub mod code;
+pub mod divided;
 #[cfg(test)]
 mod level_promises;
 pub mod levels;

@@ -41,3 +41,16 @@ pub fn card_of_five() -> [u8; 512] {
 pub fn card_of_one() -> [u8; 512] {
     card(1, 0, &[1], 15)
 }
+
+/// Rows 1 and 6, track 0: check 1 × 3 + 2 × 2 + 12 × 1 + 20 × 6 = 139. c(0) to c(3) are 000, 100, 111 and 011, so D is 1, t 0,
+/// places 0, 1-3, 4, 5-7, 8. A is 1, 2 and 1, so the blocks have 5, 7 and 5 steps, and the starts are 0, 5, 12 and 17.
+pub fn card_of_weights_one_and_two() -> [u8; 512] {
+    card(3, 0, &[1, 6], 139)
+}
+
+/// Rows 3 and 14, track 0: check 1 × 4 + 2 × 2 + 12 × 3 + 20 × 14 = 324. c(0) to c(3) are 0000, 1100, 1011 and 0111, so D is 2,
+/// t 0, places 0-1, 2-5, 6-7, 8-11, 12-13. A is 2, 3 and 2, so the blocks have 10, 12 and 10 steps, and the starts are 0, 10, 22
+/// and 32.
+pub fn card_of_weights_two_and_three() -> [u8; 512] {
+    card(4, 0, &[3, 14], 324)
+}
