@@ -2,13 +2,14 @@
 //! damaged in many ways, in bits and in levels, and on the Reed-Muller codes and their chunks, and prints counts. A call is
 //! compared in `calls.rs`, a count is a line of `tally.rs`, and what is tried stands in `trials`.
 //!
-//! How the file `expected` was made: every count but the last fourteen follows from how the cards, words and chunks are made and
-//! from what the second reader answers, and none of them from the library. The last fourteen are of the library, and are 0 where it
+//! How the file `expected` was made: every count but the last seventeen follows from how the cards, words and chunks are made and
+//! from what the second reader answers, and none of them from the library. The last seventeen are of the library, and are 0 where it
 //! is right. So the file has the former as the program printed them with a library that refused every call, and 0 for each of the
 //! latter.
 mod calls;
 mod codes;
 mod counts;
+mod divided;
 mod levels;
 mod library;
 mod parity;
@@ -44,6 +45,9 @@ const WITH_MANY: [usize; 3] = [CARD_A, CARD_B, 4];
 /// Every word of levels 1, -1 and 0 is tried up to this number of bits, and of card A, with its twelve.
 const EVERY_WORD: usize = 10;
 
+/// Every plain word whose divided chunk is turned at will is tried up to this number of bits.
+const EVERY_TURN: usize = 20;
+
 fn main() {
     let mut tally = Tally::new();
     let shapes = shapes::all();
@@ -58,6 +62,7 @@ fn main() {
     }
     with_offsets(&mut tally, &shapes);
     with_levels(&mut tally, &shapes);
+    with_divided_chunks(&mut tally, &shapes);
     codes::all(&mut tally);
     tally.print();
 }
@@ -95,6 +100,17 @@ fn with_levels(tally: &mut Tally, shapes: &[Shape]) {
         }
         if WITH_MANY.contains(&i) {
             small_cards::many(tally, &card, &track, 50);
+        }
+    }
+}
+
+/// Every word whose divided chunk is turned at will, the others within the radius, of the smallest cards.
+fn with_divided_chunks(tally: &mut Tally, shapes: &[Shape]) {
+    for (i, shape) in shapes.iter().enumerate() {
+        let card = cards::sealed(cards::of_shape(shape, i as u16));
+        let small = Track::of_card(&card).ok().filter(|track| track.card.code.word_bits() <= EVERY_TURN);
+        if let Some(track) = small {
+            divided::every_word(tally, &card, &track);
         }
     }
 }

@@ -1,6 +1,7 @@
 //! The track of a sound card: its block starts, and its positions from end to end.
 use crate::calls::{self, Lent};
 use crate::counts;
+use crate::divided;
 use crate::levels;
 use crate::library;
 use crate::tally::Tally;
@@ -16,8 +17,8 @@ pub fn blocks(tally: &mut Tally, card: &[u8], track: &Track) {
     }
 }
 
-/// The positions, one after the other: words are written, and at some of them words are read, and words of levels; at the starts of
-/// some blocks also words with counts at their borders.
+/// The positions, one after the other: words are written, and at some of them words are read, and words of levels; at some also words
+/// whose divided chunk is turned at will, and at the starts of some blocks words with counts at their borders.
 pub fn from_end_to_end(tally: &mut Tally, card: &[u8], track: &Track, id: u64) {
     let mut here = Walk::new(track);
     let mut behind = here.clone();
@@ -33,6 +34,10 @@ pub fn from_end_to_end(tally: &mut Tally, card: &[u8], track: &Track, id: u64) {
             follow(&mut behind, position);
             read(tally, card, &behind, &here, id);
             levels::at(tally, card, &behind, &here, id);
+        }
+        if choice::is_turned_at_will(&here, id) {
+            follow(&mut behind, position);
+            divided::at(tally, card, &behind, &here, id);
         }
         let begins = track.starts.binary_search(&position).ok();
         if let Some(p) = begins.filter(|&p| choice::is_counted(track, p, id)) {
@@ -69,6 +74,9 @@ fn neighbours(tally: &mut Tally, one: &Lent, next: &Lent) {
 fn read(tally: &mut Tally, card: &[u8], behind: &Walk, here: &Walk, id: u64) {
     for word in words::at(behind, here, id) {
         let [answer, second] = counts::both_read(tally, card, behind, &word.bytes);
+        if second != Err(8) {
+            divided::held(tally, here, &word.bytes, answer, second);
+        }
         if let Some(turned) = word.turned_within_radius {
             let in_all = turned.iter().copied().map(u64::from).sum();
             bounded(tally, in_all, off(here.position, answer), off(here.position, second));

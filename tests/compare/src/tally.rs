@@ -1,7 +1,7 @@
 //! The counts that the program prints.
 
 /// The printed lines in their order: a name each, under which something is counted.
-const LINES: [&str; 99] = [
+const LINES: [&str; 109] = [
     // What the second reader answered, call by call.
     "cards sound",
     "cards refused 1",
@@ -80,6 +80,14 @@ const LINES: [&str; 99] = [
     "words with t + 1 bits turned in a chunk named, refused 11",
     "words with t + 1 bits turned in a chunk named, refused 12",
     "words with t + 1 bits turned in a chunk named, refused 17",
+    // Of these chunks each has at most t bits turned; a divided one may be turned at will.
+    "words within the limits of the chunks that are not divided",
+    "words of these with a divided chunk",
+    "words of these with more than t bits turned in the divided chunk",
+    "words of these with the divided chunk turned whole",
+    "most bits turned in one within these limits",
+    "greatest error of one within these limits in steps",
+    "errors of the bits turned and the residual together",
     // Damage is 2 × wrong + lost.
     "words of levels damaged below D in every chunk",
     "most damage of one of them",
@@ -102,6 +110,9 @@ const LINES: [&str; 99] = [
     "mismatches of chunks",
     "neighbours not one bit apart",
     "errors above twice the bits turned or refused",
+    "words within these limits refused",
+    "errors above the bits turned and the residual together",
+    "errors above twice the bits turned within these limits",
     "counts unlike the bits turned or refused",
     "errors above the damage or refused",
     "words of levels 1 and -1 unlike the plain word",

@@ -1,5 +1,5 @@
-//! Which positions of a track are written, at which of them words are read, and of which codewords there are words with counts at
-//! their borders. `id` is the card's number.
+//! Which positions of a track are written, at which of them words are read, and words whose divided chunk is turned at will, and of which
+//! codewords there are words with counts at their borders. `id` is the card's number.
 use super::random;
 use second_reader::track::Track;
 use second_reader::walk::Walk;
@@ -16,6 +16,17 @@ pub fn is_written(here: &Walk, id: u64) -> bool {
 /// Whether words are read at the position at which a walk stands: at some of the track, and in some blocks on both sides of the
 /// start and where one chunk ends and the next begins.
 pub fn is_read(here: &Walk, id: u64) -> bool {
+    is_tried(here, id, at_border)
+}
+
+/// Whether words whose divided chunk is turned at will are read there: at some of the track, and in some blocks where a chunk begins to be
+/// divided, and where it is for the last time.
+pub fn is_turned_at_will(here: &Walk, id: u64) -> bool {
+    is_tried(here, id + 3, at_border_of_division)
+}
+
+/// Whether the position is one of some of the track, or at a border in some blocks: the fewer, the longer the track is.
+fn is_tried(here: &Walk, id: u64, border: fn(&Walk) -> bool) -> bool {
     let many = match here.track.card.code.rows.len() {
         0..=5 => 40,
         6..=8 => 20,
@@ -23,7 +34,7 @@ pub fn is_read(here: &Walk, id: u64) -> bool {
     };
     let blocks = here.track.starts.len() as u64 - 1;
     among(here.position.into(), here.track.last().into(), many, id)
-        || (one_in(blocks / (many / 8 + 1), id + 1, here.block as u64) && at_border(here))
+        || (one_in(blocks / (many / 8 + 1), id + 1, here.block as u64) && border(here))
 }
 
 /// Whether there are words with counts at their borders of codeword p: the first two, the last, and about one between.
@@ -36,6 +47,17 @@ pub fn is_counted(track: &Track, p: usize, id: u64) -> bool {
 fn at_border(here: &Walk) -> bool {
     let begins = |place| here.track.card.code.chunks().iter().any(|chunk| chunk.start == place);
     here.place < 2 || begins(here.place) || here.word.len() <= here.place + 1
+}
+
+/// Whether the place that the last step turned is the first, or the last but one, of those in which the two words of its block differ in
+/// its chunk.
+fn at_border_of_division(here: &Walk) -> bool {
+    let code = &here.track.card.code;
+    let (this, next) = (code.whole_word(here.block), code.whole_word(here.block + 1));
+    code.chunks().into_iter().any(|chunk| {
+        let differ: Vec<usize> = chunk.filter(|&place| this[place] != next[place]).collect();
+        [differ.first(), differ.iter().rev().nth(1)].contains(&here.place.checked_sub(1).as_ref())
+    })
 }
 
 /// Whether a number is one of some `many` from 0 to `last`: all of them if there are no more, else the first and the last three,
