@@ -3,12 +3,13 @@
 mod cards;
 mod codes;
 mod random;
+mod words;
 
 use cards::card_of;
 use codes::{golay, reed_muller};
-use dunnavish::{block_start, check_card, read_levels, read_word, write_word, CardSummary, Reading, Refusal};
+use dunnavish::{block_start, check_card, read_levels, read_word, CardSummary, Reading, Refusal};
 use random::Random;
-use std::ops::Range;
+use words::{chunks, packed, word_at};
 
 /// Card A: n 3, rows 3 and 6, so D 2, t 0 and d 12. c(0) to c(3) are 000, 110, 101 and 011.
 fn card_a() -> Vec<u8> {
@@ -22,10 +23,9 @@ fn card_b() -> Vec<u8> {
 
 /// The answer to a word as bits, and as levels of 1 and -1, which must be the same.
 fn read(card: &[u8], word: &str) -> Result<Reading, Refusal> {
-    let bits: Vec<u8> = word.chars().filter(|bit| *bit != ' ').map(|bit| u8::from(bit == '1')).collect();
-    let bytes: Vec<u8> = bits.chunks(8).map(|byte| byte.iter().rev().fold(0, |sum, bit| 2 * sum + bit)).collect();
-    let levels: Vec<f32> = bits.iter().map(|bit| 1.0 - 2.0 * f32::from(*bit)).collect();
-    let answer = read_word(card, &bytes);
+    let bits: Vec<bool> = word.chars().filter(|bit| *bit != ' ').map(|bit| bit == '1').collect();
+    let levels: Vec<f32> = bits.iter().map(|bit| if *bit { -1.0 } else { 1.0 }).collect();
+    let answer = read_word(card, &packed(&bits));
     assert_eq!(read_levels(card, &levels).map(|(reading, _)| reading), answer, "{word}");
     answer
 }
@@ -95,19 +95,7 @@ fn every_word() {
 
 /// The bits of the word at which a block starts, w(i).
 fn whole(card: &[u8], summary: &CardSummary, i: u32) -> Vec<bool> {
-    let mut bytes = vec![0; summary.word_bytes()];
-    write_word(card, block_start(card, i).unwrap(), &mut bytes).unwrap();
-    (0..summary.word_bits as usize).map(|place| bytes[place / 8] >> (place % 8) & 1 == 1).collect()
-}
-
-/// The places of the five chunks.
-fn chunks(summary: &CardSummary) -> [Range<usize>; 5] {
-    let (n, distance) = (summary.length as usize, summary.distance as usize);
-    let mut end = 0;
-    [distance, n, distance, n, distance].map(|length| {
-        end += length;
-        end - length..end
-    })
+    word_at(card, summary, block_start(card, i).unwrap())
 }
 
 /// A word whose separators, from w(i) and, where the rule has another, from a word of the other parity, name a rule, and whose code
@@ -143,10 +131,7 @@ fn words_pasted_from_two() {
             let (rule, i) = (1 + round % 3, random.below(last + 1) as u32);
             let j = [0, last, random.below(last + 1), random.below(last + 1)][random.below(4)] as u32;
             let word = pasted(&card, &summary, rule, [i, j], &mut random);
-            let mut bytes = vec![0; summary.word_bytes()];
-            for (place, _) in word.iter().enumerate().filter(|(_, bit)| **bit) {
-                bytes[place / 8] |= 1 << (place % 8);
-            }
+            let bytes = packed(&word);
             let levels: Vec<f32> = word.iter().map(|bit| if *bit { -1.0 } else { 1.0 }).collect();
             let no_block = rule == 1 && j == 0 || rule == 2 && j == last as u32;
             let expected = match i % 2 == j % 2 {

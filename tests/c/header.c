@@ -137,6 +137,28 @@ static void contradicted(const uint8_t card[DUNNAVISH_CARD_BYTES])
 }
 
 /*
+ * The word of position m on card B has ones in its first m places, three a chunk. So the chunk of place m - 1 is divided where m is
+ * no multiple of 3. Turned in every way, it is read, off by at most the bits turned and the residual, and by at most twice the bits
+ * turned; so the bar that reaches as far as the bits turned and the residual holds m.
+ */
+static void divided_at_will(const uint8_t card[DUNNAVISH_CARD_BYTES])
+{
+    uint32_t m, way;
+
+    for (m = 1; m < 15; m++)
+        for (way = 0; way < 8 && m % 3 != 0; way++) {
+            uint32_t word = ((1u << m) - 1) ^ (way << (m / 3 * 3)), turned = way % 2 + way / 2 % 2 + way / 4;
+            uint8_t bytes[2] = {(uint8_t)(word % 256), (uint8_t)(word / 256)};
+            uint32_t values[DUNNAVISH_READ_VALUES] = {0}, off;
+
+            expect(dunnavish_read_word(card, DUNNAVISH_CARD_BYTES, bytes, 2, values, DUNNAVISH_READ_VALUES) == DUNNAVISH_OK,
+                   "a word whose divided chunk is turned is refused, of position", m);
+            off = values[DUNNAVISH_READ_POSITION] < m ? m - values[DUNNAVISH_READ_POSITION] : values[DUNNAVISH_READ_POSITION] - m;
+            expect(off <= turned + values[DUNNAVISH_READ_RESIDUAL] && off <= 2 * turned, "further off than promised, of position", m);
+        }
+}
+
+/*
  * The word of position 10 on card B as levels, 111 111 111 100 000, with place 4 lost, in code chunk 1, and place 5 turned there or
  * not; the last level is 2.5. Chunk 1 with one bit lost is read, and with one turned besides, 2 * 1 + 1 = 3 = D, it is not.
  */
@@ -246,6 +268,7 @@ int main(int argc, char **argv)
     bytes_of_words(card_b);
     read_values(card_b);
     contradicted(card_b);
+    divided_at_will(card_b);
     levels_read(card_b);
     levels_statuses(card_b);
     made_card();

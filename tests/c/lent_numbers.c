@@ -65,6 +65,12 @@ static const struct trial trials[] = {
     {READ, 512, 0, 0, 0, 0x0008, 0, {0, 1, 3, 1, 0}},
     {READ, 512, 0, 0, 0, 0x0400, 0, {0, 1, 3, 0, 1}},
     {READ, 512, 0, 0, 0, 0x0408, 0, {0, 2, 3, 1, 1}},
+    /*
+     * Positions 7 and 5 with their divided chunk turned whole: 111 111 011 000 000 is read as 9, and 111 001 000 000 000, with one bit
+     * turned in each other chunk besides, 011 001 100 100 100, as 3.
+     */
+    {READ, 512, 0, 0, 0, 0x01BF, 0, {9, 1, 1, 0, DUNNAVISH_NOT_READ}},
+    {READ, 512, 0, 0, 0, 0x1266, 0, {3, 5, 2, DUNNAVISH_NOT_READ, 1}},
     /* refused after the chunks that the rule names have been read, and before */
     {READ, 512, 0, 0, 0, 0x0E38, 17, {0}},
     {READ, 512, 0, 0, 0, 0x01C7, 12, {0}},

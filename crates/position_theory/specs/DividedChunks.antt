@@ -36,7 +36,7 @@ ReadWithDividedAtWill card received answer =
 
 -- The bar about the answer reaches, on either side, as far as the residual and e, the bits that one is ready to assume turned. Under the
 -- same premises, where at most e bits are turned, the bar holds the position; and the residual is at most e, so that a greater one shows
--- that more bits were turned than one assumed.
+-- that the word is not such a one, or that more bits are turned.
 unfoldable pub BarHoldsPosition : (card received : List ℕ) → ReadAnswer → Type 0
 BarHoldsPosition card received answer =
     (position e : ℕ) → SoundCard card → position ≤ lastPosition (codeOf card) → UndividedWithinRadius (codeOf card) position received
