@@ -1,5 +1,5 @@
-//! Words whose divided chunk is turned at will, and the bar about the answer, request P7: cases worked by hand, every such word of two
-//! small cards, and many of larger ones. In words place 0 stands leftmost.
+//! Words whose divided chunk is turned at will, and the bar about the answer, request P7: cases worked by hand, every such word
+//! of two small cards, and many of larger ones. In words place 0 stands leftmost.
 mod cards;
 mod codes;
 mod random;
@@ -19,8 +19,9 @@ fn card_a() -> Vec<u8> {
     card_of(3, 2, 0, &[3, 6])
 }
 
-/// Card B: n 3, row 7, so D 3 and t 1. The word of position m has ones in its first m places, up to 15; separators and code chunks take
-/// turns, three places each. So separator 1 is divided at 1 and 2, chunk 1 at 4 and 5, separator 2 at 7 and 8, and so on.
+/// Card B: n 3, row 7, so D 3 and t 1. The word of position m has ones in its first m places, up to 15; separators and code
+/// chunks take turns, three places each. So separator 1 is divided at 1 and 2, chunk 1 at 4 and 5, separator 2 at 7 and 8, and
+/// so on.
 fn card_b() -> Vec<u8> {
     card_of(3, 1, 14, &[7])
 }
@@ -30,8 +31,8 @@ fn the_divided_chunk_turned_at_will() {
     let card = card_b();
     // 8, with both ones of separator 2 turned, is the word of 6: off by 2, the bits turned, and no residual
     assert_eq!(read_word(&card, &[0x3f, 0x00]), rule_2(6, 0, 0));
-    // 2 with its first bit turned, 010 000 000 000 000: separators 0 0 0, allowed are 0 to 3, and 0 and 2 have one bit unlike: off by 2,
-    // the bit turned and the residual
+    // 2 with its first bit turned, 010 000 000 000 000: separators 0 0 0, allowed are 0 to 3, and 0 and 2 have one bit unlike:
+    // off by 2, the bit turned and the residual
     assert_eq!(read_word(&card, &[0x02, 0x00]), rule_3(0, 1, [0, 0]));
     // 7 with separator 2 turned whole, 111 111 011 000 000: separators 1 1 0, allowed are 6 to 15, and 9 has one bit unlike
     assert_eq!(read_word(&card, &[0xbf, 0x01]), rule_1(9, 1, 0));
@@ -51,8 +52,8 @@ fn what_is_not_divided_has_its_limit() {
     assert_eq!(read_word(&card, &[0x00, 0x60]), Err(Refusal::NoBlock));
 }
 
-/// The positions that the bar holds about an answer, where at most so many bits are assumed turned: as many steps and the residual on
-/// either side, as far as the track goes.
+/// The positions that the bar holds about an answer, where at most so many bits are assumed turned: as many steps and the
+/// residual on either side, as far as the track goes.
 fn bar(card: &[u8], word: &[u8], turned: u32) -> (u32, u32) {
     let (reading, last) = (read_word(card, word).unwrap(), check_card(card).unwrap().last);
     let reach = reading.residual + turned;
@@ -70,8 +71,8 @@ fn the_bar_about_an_answer() {
     assert_eq!(bar(&card_b(), &[0xff, 0x7f], 2), (13, 15));
 }
 
-/// Which chunk of the word of a position is divided, if one is: some of the places in which w(i) and w(i+1) differ there have the bit of
-/// w(i+1), and some have not, i being the position's block.
+/// Which chunk of the word of a position is divided, if one is: some of the places in which w(i) and w(i+1) differ there have
+/// the bit of w(i+1), and some have not, i being the position's block.
 fn divided(card: &[u8], summary: &CardSummary, position: u32) -> Option<usize> {
     let blocks = 0..1u32 << summary.rows;
     let i = blocks.clone().rev().find(|&i| block_start(card, i).unwrap() <= position).unwrap();
@@ -97,8 +98,8 @@ fn within_both_distances(card: &[u8], position: u32, sent: &[bool], word: &[bool
     assert!(reading.residual <= turned, "{position} as {word:?}, {turned} turned: {reading:?}");
 }
 
-/// Every word of a card in which the divided chunk is turned at will and each other has at most t bits turned: how many there are. The
-/// word of at most 16 bits is a number, place p its bit worth 2^p.
+/// Every word of a card in which the divided chunk is turned at will and each other has at most t bits turned: how many there
+/// are. The word of at most 16 bits is a number, place p its bit worth 2^p.
 fn every(card: &[u8]) -> usize {
     let summary = check_card(card).unwrap();
     let mut tried = 0;
@@ -117,8 +118,9 @@ fn every(card: &[u8]) -> usize {
     tried
 }
 
-/// Counted by hand. Card B: a chunk has 1 + 3 ways within t, a divided one 8, and one is divided at ten of 16 positions. Card A, t 0: a
-/// block has 5 positions with none divided, 3 with a separator, in 4 ways, and 2 with a code chunk, in 8; and there is the last.
+/// Counted by hand. Card B: a chunk has 1 + 3 ways within t, a divided one 8, and one is divided at ten of 16 positions. Card
+/// A, t 0: a block has 5 positions with none divided, 3 with a separator, in 4 ways, and 2 with a code chunk, in 8; and there
+/// is the last.
 #[test]
 fn every_word_of_two_small_cards() {
     assert_eq!(every(&card_b()), 6 * 1024 + 10 * 8 * 256);

@@ -17,8 +17,8 @@ pub fn blocks(tally: &mut Tally, card: &[u8], track: &Track) {
     }
 }
 
-/// The positions, one after the other: words are written, and at some of them words are read, and words of levels; at some also words
-/// whose divided chunk is turned at will, and at the starts of some blocks words with counts at their borders.
+/// The positions, one after the other: words are written, and at some of them words are read, and words of levels; at some also
+/// words whose divided chunk is turned at will, and at the starts of some blocks words with counts at their borders.
 pub fn from_end_to_end(tally: &mut Tally, card: &[u8], track: &Track, id: u64) {
     let mut here = Walk::new(track);
     let mut behind = here.clone();
