@@ -99,15 +99,16 @@ pub fn write_word(card: &[u8], position: u32, word: &mut [u8]) -> WriteAnswer
 // last, 12; separator 1, by rule 2 separator 3, that differs from the parity of the codeword's number, 17.
 // Of the word of any position on the track, with at most t bits turned in each chunk, the answer is a position, and it is at most
 // twice as many steps off as bits are turned, and at most as many as bits are turned and the residual together; and a chunk that is
-// read needed as many bits as are turned in it. The same distances hold where the divided chunk of that position's word, of which some but
-// not all places are taken from the next codeword's word, is turned at will, the other chunks having at most t bits turned (`divided`); at
-// most one chunk is divided, and none at a block's start and at the last position (`one_divided`, a law of the definition). So the bar that
-// reaches from the answer, on either side, as far as the residual and e, holds the position where at most e bits are turned (`bar`).
+// read needed as many bits as are turned in it. Both distances hold also where the divided chunk of that position's word is turned at
+// will and each other one has at most t bits turned (`divided`). A chunk is divided if some, but not all, of the places in which w(i) and
+// w(i+1) differ in it are taken from w(i+1): at most one is, and none at a block's start and at the last position (`one_divided`, a law of
+// the definition that `divided` names). So the bar that reaches from the answer, on either side, as far as the residual and e holds the
+// position where at most e bits are turned (`bar`).
 // Of any word that is read, the answer is the nearest of the positions that the rule allows, and how many bits a chunk needed is the count
-// of places in which that chunk of the received word and the codeword that it reads as differ, at most t; and separator 1, by rule 2 separator 3, has the parity of the codeword's number (`agrees`). So a word that has this
-// separator from one telegram and a code chunk that the rule names from another, whose parities differ, is never read (`pasted`). A word
-// that no refusal before it turns down, and in which this separator differs, was read without 17 and is refused by it; every other word
-// is answered as it was (`before`).
+// of places in which that chunk of the received word and the codeword that it reads as differ, at most t; and separator 1, by rule 2
+// separator 3, has the parity of the codeword's number (`agrees`). So a word that has this separator from one telegram and a code chunk
+// that the rule names from another, whose parities differ, is never read (`pasted`). A word that no refusal before it turns down, and in
+// which this separator differs, was read without 17 and is refused by it; every other word is answered as it was (`before`).
 pub fn read_word(card: &[u8], word: &[u8]) -> ReadAnswer
     ensures answer { λ r. ⌜ r ≡ readAnswer (now (card .entry)) (now (word .entry)) ⌝ }
     ensures status { λ r. ⌜ readStatus r ≡ readRefusal (now (card .entry)) (now (word .entry)) ⌝ }
