@@ -30,31 +30,31 @@ module _ (card received : List ℕ) where
       × ((readValues answer ≡ ifServed (readStatus answer) (readFigures card received))
       × (OffByAtMostTwiceTurned card received answer
       × (OffByAtMostTurnedAndResidual card received answer
+      × (ReadWithDividedAtWill card received answer
+      × (BarHoldsPosition card received answer
+      × (AtMostOneDivided card
       × (NearestOfAllowed card received answer
       × (TellsBitsOfChunks card received answer
       × (NeededAsTurned card received answer
       × (ReadOnlyIfParityAgrees card received answer
-      × (PastedNeverRead card received answer
-      × (AsBeforeUnlessContradicted card received answer
-      × (ReadWithDividedAtWill card received answer
-      × (BarHoldsPosition card received answer × AtMostOneDivided card))))))))))))
+      × (PastedNeverRead card received answer × AsBeforeUnlessContradicted card received answer))))))))))))
 
   read-meets : (answer : ReadAnswer) → answer ≡ readAnswer card received → ReadMeets answer
   read-meets answer e =
       let (status, values) = read-told card received in
       let demand-3 = off-by-at-most-twice-turned card received in
       let sharper = off-by-at-most-turned-and-residual card received in
+      let divided = read-with-divided-at-will card received in
+      let bar = bar-holds-position card received in
+      let one = at-most-one-divided card in
       let nearest = nearest-of-allowed card received in
       let bits = tells-bits-of-chunks card received in
       let turned = needed-as-turned card received in
       let agrees = read-only-if-parity-agrees card received in
       let pasted = pasted-never-read card received in
       let before = as-before-unless-contradicted card received in
-      let divided = read-with-divided-at-will card received in
-      let bar = bar-holds-position card received in
-      let one = at-most-one-divided card in
       rw e
-      (refl, (status, (values, (demand-3, (sharper, (nearest, (bits, (turned, (agrees, (pasted, (before, (divided, (bar, one)))))))))))))
+      (refl, (status, (values, (demand-3, (sharper, (divided, (bar, (one, (nearest, (bits, (turned, (agrees, (pasted, before)))))))))))))
 
   module _ (decoded : Decoded) (from : DecodedFrom card decoded) where
     pub read-card-refused : (decoded .refusal ≡ 0 → ⊥) → ReadMeets (Refused (decoded .refusal))

@@ -115,15 +115,15 @@ pub fn read_word(card: &[u8], word: &[u8]) -> ReadAnswer
     ensures values { λ r. ⌜ readValues r ≡ ifServed (readStatus r) (readFigures (now (card .entry)) (now (word .entry))) ⌝ }
     ensures bounded { λ r. ⌜ OffByAtMostTwiceTurned (now (card .entry)) (now (word .entry)) r ⌝ }
     ensures sharper { λ r. ⌜ OffByAtMostTurnedAndResidual (now (card .entry)) (now (word .entry)) r ⌝ }
+    ensures divided { λ r. ⌜ ReadWithDividedAtWill (now (card .entry)) (now (word .entry)) r ⌝ }
+    ensures bar { λ r. ⌜ BarHoldsPosition (now (card .entry)) (now (word .entry)) r ⌝ }
+    ensures one_divided { λ r. ⌜ AtMostOneDivided (now (card .entry)) ⌝ }
     ensures nearest { λ r. ⌜ NearestOfAllowed (now (card .entry)) (now (word .entry)) r ⌝ }
     ensures bits { λ r. ⌜ TellsBitsOfChunks (now (card .entry)) (now (word .entry)) r ⌝ }
     ensures turned { λ r. ⌜ NeededAsTurned (now (card .entry)) (now (word .entry)) r ⌝ }
     ensures agrees { λ r. ⌜ ReadOnlyIfParityAgrees (now (card .entry)) (now (word .entry)) r ⌝ }
     ensures pasted { λ r. ⌜ PastedNeverRead (now (card .entry)) (now (word .entry)) r ⌝ }
     ensures before { λ r. ⌜ AsBeforeUnlessContradicted (now (card .entry)) (now (word .entry)) r ⌝ }
-    ensures divided { λ r. ⌜ ReadWithDividedAtWill (now (card .entry)) (now (word .entry)) r ⌝ }
-    ensures bar { λ r. ⌜ BarHoldsPosition (now (card .entry)) (now (word .entry)) r ⌝ }
-    ensures one_divided { λ r. ⌜ AtMostOneDivided (now (card .entry)) ⌝ }
 {
     let decoded = decode::decode(card);
     if decoded.refusal != 0 {

@@ -87,11 +87,11 @@ module _ (card received lent : List ℕ) where
       × (UnchangedUnlessZero lent status left
       × (ServedWithinTwiceTurned card received lent status left
       × (ServedWithinTurnedAndResidual card received lent status left
+      × (ServedWithDividedAtWill card received lent status left
+      × (BarLeftHoldsPosition card received lent status left
       × (LeavesBitsOfChunks card received status left
       × (LeavesBitsTurned card received status left
-      × (ServedOnlyIfParityAgrees card received status left
-      × (PastedNeverServed card received status
-      × (ServedWithDividedAtWill card received lent status left × BarLeftHoldsPosition card received lent status left)))))))))
+      × (ServedOnlyIfParityAgrees card received status left × PastedNeverServed card received status)))))))))
 
   pub wrong-count-claims-nothing : (length lent ≡ readCount → ⊥) → ReadMeets wrongCount lent
   unfolding ServedWithinTwiceTurned ServedWithinTurnedAndResidual LeavesBitsOfChunks LeavesBitsTurned ServedOnlyIfParityAgrees PastedNeverServed
@@ -101,13 +101,12 @@ module _ (card received lent : List ℕ) where
       let (status, (left, unchanged)) = wrong-count-changes-nothing readCount lent unlike _ _ in
       let bounded : ServedWithinTwiceTurned card received lent wrongCount lent = λ alike. absurd (unlike alike) in
       let sharper : ServedWithinTurnedAndResidual card received lent wrongCount lent = λ alike. absurd (unlike alike) in
+      let divided : ServedWithDividedAtWill card received lent wrongCount lent = λ alike. absurd (unlike alike) in
+      let bar : BarLeftHoldsPosition card received lent wrongCount lent = λ alike. absurd (unlike alike) in
       let bits : LeavesBitsOfChunks card received wrongCount lent = λ zero. absurd (no-read zero) in
       let turned : LeavesBitsTurned card received wrongCount lent = λ position sound on-track within zero. absurd (no-read zero) in
       let agrees : ServedOnlyIfParityAgrees card received wrongCount lent = λ zero. absurd (no-read zero) in
-      let pasted : PastedNeverServed card received wrongCount = λ i j c from. no-read in
-      let divided : ServedWithDividedAtWill card received lent wrongCount lent = λ alike. absurd (unlike alike) in
-      let bar : BarLeftHoldsPosition card received lent wrongCount lent = λ alike. absurd (unlike alike) in
-      (status, (left, (unchanged, (bounded, (sharper, (bits, (turned, (agrees, (pasted, (divided, bar))))))))))
+      (status, (left, (unchanged, (bounded, (sharper, (divided, (bar, (bits, (turned, (agrees, λ i j c from. no-read))))))))))
 
   -- what the library's contract says of its answer crosses, clause by clause
   pub demands-cross : (answer : ReadAnswer) → library.ReadMeets card received answer
@@ -117,43 +116,27 @@ module _ (card received lent : List ℕ) where
       TellsBitsOfChunks NeededAsTurned LeavesBitsOfChunks LeavesBitsTurned readValues
       ReadOnlyIfParityAgrees PastedNeverRead ServedOnlyIfParityAgrees PastedNeverServed readFigures
   demands-cross answer
-      (is, (_, (values, (bounded, (sharper, (_, (tells, (needed, (agrees, (pasted, (_, (divided, (bar, _)))))))))))))
+      (is, (_, (values, (bounded, (sharper, (divided, (bar, (_, (_, (tells, (needed, (agrees, (pasted, _)))))))))))))
       status left (is-status, (is-left, unchanged)) =
       let leaves : ReadLeaves lent answer status left = record { told = _; values = values; is-status = is-status; is-left = is-left } in
       let crosses = reading-crosses lent answer status left leaves in
-      rw (← is) (
-        is-status,
-        (
-          is-left,
-          (
-            unchanged,
-            (
-              λ alike position sound on-track within.
-                  near-crosses lent alike answer status left is-status is-left position _ (bounded position sound on-track within) .0,
-              (
-                λ alike position sound on-track within.
-                    let (near, residual) =
-                    near-crosses lent alike answer status left is-status is-left position _ (sharper position sound on-track within) in
-                    rw residual near,
-                (
-                  λ zero. let (r, at, left-are) = crosses zero in rw left-are (all-bits-cross r (tells r at)),
-                  (
-                    λ position sound on-track within zero.
-                        let (r, at, left-are) = crosses zero in rw left-are (needed position sound on-track within r at),
-                    (
-                      agreement-crosses lent answer status left leaves _ _ agrees,
-                      (
-                        λ i j c from. never-crosses lent answer status left leaves (pasted i j c from),
-                        (
-                          distances-cross card received lent answer status left is-status is-left divided,
-                          bar-crosses card received lent answer status left is-status is-left bar,
-                        ),
-                      ),
-                    ),
-                  ),
-                ),
-              ),
-            ),
-          ),
-        ),
-      )
+      let bounded′ : ServedWithinTwiceTurned card received lent status left =
+      λ alike position sound on-track within.
+      near-crosses lent alike answer status left is-status is-left position _ (bounded position sound on-track within) .0 in
+      let sharper′ : ServedWithinTurnedAndResidual card received lent status left =
+      λ alike position sound on-track within.
+      let (near, residual) =
+      near-crosses lent alike answer status left is-status is-left position _ (sharper position sound on-track within) in
+      rw residual near in
+      let divided′ = distances-cross card received lent answer status left is-status is-left divided in
+      let bar′ = bar-crosses card received lent answer status left is-status is-left bar in
+      let bits : LeavesBitsOfChunks card received status left =
+      λ zero. let (r, at, left-are) = crosses zero in rw left-are (all-bits-cross r (tells r at)) in
+      let turned : LeavesBitsTurned card received status left =
+      λ position sound on-track within zero.
+      let (r, at, left-are) = crosses zero in rw left-are (needed position sound on-track within r at) in
+      let agrees′ : ServedOnlyIfParityAgrees card received status left = agreement-crosses lent answer status left leaves _ _ agrees in
+      let pasted′ : PastedNeverServed card received status =
+      λ i j c from. never-crosses lent answer status left leaves (pasted i j c from) in
+      rw (← is)
+      (is-status, (is-left, (unchanged, (bounded′, (sharper′, (divided′, (bar′, (bits, (turned, (agrees′, pasted′))))))))))

@@ -121,12 +121,12 @@ pub extern "C" fn dunnavish_read_word(card: &[u8], word: &[u8], values: &mut [u3
     ensures unchanged { λ r. ⌜ UnchangedUnlessZero (now (values .entry)) r (now (values .exit)) ⌝ }
     ensures bounded { λ r. ⌜ ServedWithinTwiceTurned (now (card .entry)) (now (word .entry)) (now (values .entry)) r (now (values .exit)) ⌝ }
     ensures sharper { λ r. ⌜ ServedWithinTurnedAndResidual (now (card .entry)) (now (word .entry)) (now (values .entry)) r (now (values .exit)) ⌝ }
+    ensures divided { λ r. ⌜ ServedWithDividedAtWill (now (card .entry)) (now (word .entry)) (now (values .entry)) r (now (values .exit)) ⌝ }
+    ensures bar { λ r. ⌜ BarLeftHoldsPosition (now (card .entry)) (now (word .entry)) (now (values .entry)) r (now (values .exit)) ⌝ }
     ensures bits { λ r. ⌜ LeavesBitsOfChunks (now (card .entry)) (now (word .entry)) r (now (values .exit)) ⌝ }
     ensures turned { λ r. ⌜ LeavesBitsTurned (now (card .entry)) (now (word .entry)) r (now (values .exit)) ⌝ }
     ensures agrees { λ r. ⌜ ServedOnlyIfParityAgrees (now (card .entry)) (now (word .entry)) r (now (values .exit)) ⌝ }
     ensures pasted { λ r. ⌜ PastedNeverServed (now (card .entry)) (now (word .entry)) r ⌝ }
-    ensures divided { λ r. ⌜ ServedWithDividedAtWill (now (card .entry)) (now (word .entry)) (now (values .entry)) r (now (values .exit)) ⌝ }
-    ensures bar { λ r. ⌜ BarLeftHoldsPosition (now (card .entry)) (now (word .entry)) (now (values .entry)) r (now (values .exit)) ⌝ }
 {
     if values.len() != 5 {
         return WRONG_COUNT;
