@@ -147,15 +147,15 @@ uint32_t dunnavish_write_word(const uint8_t *card, size_t card_bytes, uint32_t p
 /*
  * Read a received word. Answers 0 to 6, 8 to 12, 14, 17, or 100. On 0 the five values are those of the indices below. If five values
  * are lent and each of the word's five chunks has at most t bits turned, the answer is 0 and the position is off by at most twice
- * the bits turned in all, and by at most the bits turned and the residual together. The same holds, for both distances, where the
- * divided chunk of the position's word is turned at will and each other one has at most t bits turned. A chunk is divided if some,
- * but not all, of the places in which w(i) and w(i+1), the words of codewords i and i+1, differ in it are taken from w(i+1), i being
- * the position's block: at most one chunk is, and none at a block's start or at the last position.
+ * the bits turned in all, and by at most the bits turned and the residual together. The answer is also 0, and both distances hold,
+ * where the divided chunk of the position's word is turned at will and each other one has at most t bits turned. A chunk is divided
+ * if some, but not all, of the places in which w(i) and w(i+1), the words of codewords i and i+1, differ in it are taken from
+ * w(i+1), i being the position's block: at most one chunk is, and none at a block's start or at the last position.
  *
- * To draw a bar about the answer: decide on the greatest number of bits that you are ready to assume turned in all. The bar reaches
- * as far as this number and the residual together, on either side of the position, and ends where the track does. It holds the
- * tram's position if no more bits were turned, and no more than t in any chunk that is not divided. A residual above that number
- * shows that one or the other is not so.
+ * To draw a bar about the answer: decide on the greatest number of bits that you are ready to assume turned in all. On either side
+ * of the position the bar reaches as many steps as this number and the residual together, and it ends where the track does. It
+ * holds the tram's position if no more bits were turned, and no more than t in any chunk that is not divided. A residual above that
+ * number shows that one or the other is not so.
  *
  * The rule names the code chunks that are read: rule 1 names chunk 1, rule 2 chunk 2, and rule 3 both. The value of a chunk that
  * is read is the number of bits in which it, as received, differs from the codeword that it was read as: at most t, which is at

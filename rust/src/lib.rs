@@ -33,7 +33,7 @@
 //! assert_eq!(reading.rule, dunnavish::Rule::FirstDiffers);
 //! assert_eq!((reading.chunk1_bits, reading.chunk2_bits), (None, Some(0)));
 //!
-//! // The bar about this answer, if one bit turned is the most that one is ready to assume: it holds 7, where the tram stands.
+//! // The bar about this answer, where at most one bit is assumed turned: it holds 7, where the tram stands.
 //! let reach = reading.residual + 1;
 //! let bar = reading.position.saturating_sub(reach)..=summary.last.min(reading.position + reach);
 //! assert_eq!(bar, 3..=7);
@@ -332,15 +332,15 @@ pub fn write_word(card: &[u8], position: u32, word: &mut [u8]) -> Result<(), Ref
 ///
 /// If each of the word's five chunks has at most [`CardSummary::radius`] bits turned, the answer is a reading, and its position
 /// is off by at most twice the bits turned in all, and by at most the bits turned and [`Reading::residual`] together; and each
-/// chunk that was read differs from its codeword in as many bits as are turned in it. Both distances hold also where the divided
-/// chunk of the position's word is turned at will and each other one has at most that many bits turned. A chunk is divided if some,
-/// but not all, of the places in which w(i) and w(i+1), the words of codewords i and i+1, differ in it are taken from w(i+1), i being
-/// the position's block: at most one chunk is, and none at a block's start or at the last position.
+/// chunk that was read differs from its codeword in as many bits as are turned in it. The word is also read, and both distances
+/// hold, where the divided chunk of the position's word is turned at will and each other one has at most that many bits turned. A
+/// chunk is divided if some, but not all, of the places in which w(i) and w(i+1), the words of codewords i and i+1, differ in it
+/// are taken from w(i+1), i being the position's block: at most one chunk is, and none at a block's start or at the last position.
 ///
-/// To draw a bar about the answer: decide on the greatest number of bits that you are ready to assume turned in all. The bar reaches
-/// as far as this number and the residual together, on either side of the position, and ends where the track does. It holds the
-/// tram's position if no more bits were turned, and no more than the radius in any chunk that is not divided. A residual above that
-/// number shows that one or the other is not so.
+/// To draw a bar about the answer: decide on the greatest number of bits that you are ready to assume turned in all. On either side
+/// of the position the bar reaches as many steps as this number and the residual together, and it ends where the track does. It
+/// holds the tram's position if no more bits were turned, and no more than the radius in any chunk that is not divided. A residual
+/// above that number shows that one or the other is not so.
 ///
 /// Of a word that is read, separator 1, by [`Rule::FirstDiffers`] separator 3, has the parity of the number of its codeword. So a
 /// word pasted from two telegrams, with that separator from one and the codeword from another whose number has the other parity, is

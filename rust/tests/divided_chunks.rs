@@ -45,7 +45,7 @@ fn the_divided_chunk_turned_at_will() {
 #[test]
 fn what_is_not_divided_has_its_limit() {
     let card = card_b();
-    // 5, at which chunk 1 is divided, with two bits turned in separator 3 besides: separators 1 0 1
+    // 5, at which chunk 1 is divided, with two bits turned in separator 3: separators 1 0 1
     assert_eq!(read_word(&card, &[0x1f, 0x30]), Err(Refusal::Separators));
     // none is divided at either end: 15 with two bits turned in separator 1, 0 with two in separator 3
     assert_eq!(read_word(&card, &[0xfc, 0x7f]), Err(Refusal::NoBlock));
@@ -72,7 +72,8 @@ fn the_bar_about_an_answer() {
 }
 
 /// Which chunk of the word of a position is divided, if one is: some of the places in which w(i) and w(i+1) differ there have
-/// the bit of w(i+1), and some have not, i being the position's block.
+/// the bit of w(i+1), and some have not, i being the position's block. After the last w(i) there is none, and it stands in for
+/// the next itself.
 fn divided(card: &[u8], summary: &CardSummary, position: u32) -> Option<usize> {
     let blocks = 0..1u32 << summary.rows;
     let i = blocks.clone().rev().find(|&i| block_start(card, i).unwrap() <= position).unwrap();
@@ -89,7 +90,7 @@ fn divided(card: &[u8], summary: &CardSummary, position: u32) -> Option<usize> {
     first
 }
 
-/// Asserts that a word of a position is read, within both distances.
+/// Asserts that a word of a position is read, within both distances, and that the residual is at most the bits turned.
 fn within_both_distances(card: &[u8], position: u32, sent: &[bool], word: &[bool]) {
     let reading = read_word(card, &packed(word)).unwrap_or_else(|refusal| panic!("{position} as {word:?}: {refusal}"));
     let turned = sent.iter().zip(word).filter(|(sent, came)| sent != came).count() as u32;
@@ -99,7 +100,7 @@ fn within_both_distances(card: &[u8], position: u32, sent: &[bool], word: &[bool
 }
 
 /// Every word of a card in which the divided chunk is turned at will and each other has at most t bits turned: how many there
-/// are. The word of at most 16 bits is a number, place p its bit worth 2^p.
+/// are. Which places are turned is a number, place p its bit worth 2^p.
 fn every(card: &[u8]) -> usize {
     let summary = check_card(card).unwrap();
     let mut tried = 0;

@@ -138,8 +138,8 @@ static void contradicted(const uint8_t card[DUNNAVISH_CARD_BYTES])
 
 /*
  * The word of position m on card B has ones in its first m places, three a chunk. So the chunk of place m - 1 is divided where m is
- * no multiple of 3. Turned in every way, it is read, off by at most the bits turned and the residual, and by at most twice the bits
- * turned; so the bar that reaches as far as the bits turned and the residual holds m.
+ * no multiple of 3. With this chunk turned in every way the word is read, off by at most the bits turned and the residual, and by at
+ * most twice the bits turned; so the bar for that many bits holds m.
  */
 static void divided_at_will(const uint8_t card[DUNNAVISH_CARD_BYTES])
 {

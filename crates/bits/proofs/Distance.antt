@@ -1,5 +1,6 @@
 -- The Hamming distance is symmetric, and adds up over parts of a word, and along a third word that agrees at each place with one of the
--- two. (The triangle inequality stands in Heard.antt, with lost places.) Assumes nothing.
+-- two; and some differing place has any smaller number of them before it. (The triangle inequality stands in Heard.antt, with lost places.)
+-- Assumes nothing.
 use mathlib.Core.Path.{_≡_, refl, _∙_}
 use mathlib.Core.Logic.{_⊎_, ⊎-elim}
 use Prim.Native.Nat.{ℕ, zero, suc, _+_, _≤_, _<_}
@@ -67,7 +68,7 @@ pub distance-le : (d : ℕ) (u v : ℕ → ℕ) → distance d u v ≤ d
 unfolding distance
 distance-le d u v = sum-of-bits (λ p. unlike (u p) (v p)) d (λ p. omega arith)
 
--- of the places in which two words differ, counted from 0, place number r
+-- where r is below the distance, there is a place in which the two words differ with r such places before it
 pub differing-place : (u v : ℕ → ℕ) (d r : ℕ) → r < distance d u v
     → (p : ℕ) × (p < d) × (unlike (u p) (v p) ≡ 1) × (distance p u v ≡ r)
 unfolding distance sumBelow

@@ -99,11 +99,11 @@ pub fn write_word(card: &[u8], position: u32, word: &mut [u8]) -> WriteAnswer
 // last, 12; separator 1, by rule 2 separator 3, that differs from the parity of the codeword's number, 17.
 // Of the word of any position on the track, with at most t bits turned in each chunk, the answer is a position, and it is at most
 // twice as many steps off as bits are turned, and at most as many as bits are turned and the residual together; and a chunk that is
-// read needed as many bits as are turned in it. Both distances hold also where the divided chunk of that position's word is turned at
-// will and each other one has at most t bits turned (`divided`). A chunk is divided if some, but not all, of the places in which w(i) and
-// w(i+1) differ in it are taken from w(i+1): at most one is, and none at a block's start and at the last position (`one_divided`, a law of
-// the definition that `divided` names). So the bar that reaches from the answer, on either side, as far as the residual and e holds the
-// position where at most e bits are turned (`bar`).
+// read needed as many bits as are turned in it. The word is also read, and both distances hold, where the divided chunk of that position's
+// word is turned at will and each other one has at most t bits turned (`divided`). A chunk is divided if some, but not all, of the places
+// in which w(i) and w(i+1) differ in it are taken from w(i+1), i being the position's block: at most one is, and none at a block's start
+// and at the last position (`one_divided`, a law of the definition that `divided` names). If besides at most e bits are turned in all, the
+// position lies within the residual plus e steps of the answer, which is the bar about it, and the residual is at most e (`bar`).
 // Of any word that is read, the answer is the nearest of the positions that the rule allows, and how many bits a chunk needed is the count
 // of places in which that chunk of the received word and the codeword that it reads as differ, at most t; and separator 1, by rule 2
 // separator 3, has the parity of the codeword's number (`agrees`). So a word that has this separator from one telegram and a code chunk

@@ -4,7 +4,7 @@
 use mathlib.Core.Path.{_≡_, refl, _∙_}
 use mathlib.Core.Bool.{Bool, true, false}
 use mathlib.Core.List.{List}
-use Prim.Native.Nat.{ℕ}
+use Prim.Native.Nat.{ℕ, _+_}
 use native.Mathlib.Omega.{arith}
 use lib.ListN.{length}
 use borrow.Author.Tests.{eq-eqb}
@@ -20,7 +20,8 @@ use Rattle.position_theory.specs.Damage.{Near, residualOf}
 use Rattle.position_theory.specs.Demands.{OffByAtMostTwiceTurned, OffByAtMostTurnedAndResidual}
 use Rattle.position_theory.specs.ChunkBits.{TellsBits, BitsOfChunks, TellsBitsOfChunks, NeededAsTurned}
 use Rattle.position_theory.specs.Contradictions.{ReadOnlyIfParityAgrees, PastedNeverRead}
-use Rattle.position_theory.specs.DividedChunks.{ReadWithDividedAtWill, BarHoldsPosition}
+use Rattle.position_theory.specs.DividedChunks.{ReadWithDividedAtWill, BarHoldsPosition, AtMostOneDivided}
+use Rattle.position_theory.proofs.Demands.{at-most-one-divided}
 use Rattle.depot.proofs.Reading as library
 use Rattle.dunnavish.specs.Crossing.{readCount, wrongCount, statusFor, leftBy, UnchangedUnlessZero}
 use Rattle.dunnavish.specs.Demands.{residualLeft, ServedNear, ServedWithinTwiceTurned, ServedWithinTurnedAndResidual}
@@ -41,15 +42,31 @@ near-crosses lent alike (At r) status left is-status is-left position e near =
     rw (is-left, served) ((refl, near .0, near .1), refl)
 near-crosses lent alike (Refused refusal) status left is-status is-left position e near = absurd near
 
--- so do both distances of P7, and the bar
+-- so the distances of demand 3, the sharper bound and P7 cross, and the bar
 module _ (card received lent : List ℕ) (answer : ReadAnswer) (status : ℕ) (left : List ℕ)
     (is-status : status ≡ statusFor readCount lent (readStatus answer)) (is-left : left ≡ leftBy status (readValues answer) lent) where
+  near-left : length lent ≡ readCount → (position e : ℕ) → Near answer position e → ServedNear status left position e
+  near-left alike position e near = near-crosses lent alike answer status left is-status is-left position e near .0
+
+  near-with-residual : length lent ≡ readCount → (position e : ℕ) → Near answer position (e + residualOf answer)
+      → ServedNear status left position (e + residualLeft left)
+  near-with-residual alike position e near =
+      let (served, residual) = near-crosses lent alike answer status left is-status is-left position _ near in rw residual served
+
+  bounded-crosses : OffByAtMostTwiceTurned card received answer → ServedWithinTwiceTurned card received lent status left
+  unfolding OffByAtMostTwiceTurned ServedWithinTwiceTurned
+  bounded-crosses bounded alike position sound on-track within = near-left alike position _ (bounded position sound on-track within)
+
+  sharper-crosses : OffByAtMostTurnedAndResidual card received answer → ServedWithinTurnedAndResidual card received lent status left
+  unfolding OffByAtMostTurnedAndResidual ServedWithinTurnedAndResidual
+  sharper-crosses sharper alike position sound on-track within =
+      near-with-residual alike position _ (sharper position sound on-track within)
+
   distances-cross : ReadWithDividedAtWill card received answer → ServedWithDividedAtWill card received lent status left
   unfolding ReadWithDividedAtWill ServedWithDividedAtWill
   distances-cross divided alike position sound on-track within =
       let (sharper, twice) = divided position sound on-track within in
-      let (near, residual) = near-crosses lent alike answer status left is-status is-left position _ sharper in
-      (rw residual near, near-crosses lent alike answer status left is-status is-left position _ twice .0)
+      (near-with-residual alike position _ sharper, near-left alike position _ twice)
 
   bar-crosses : BarHoldsPosition card received answer → BarLeftHoldsPosition card received lent status left
   unfolding BarHoldsPosition BarLeftHoldsPosition
@@ -89,9 +106,10 @@ module _ (card received lent : List ℕ) where
       × (ServedWithinTurnedAndResidual card received lent status left
       × (ServedWithDividedAtWill card received lent status left
       × (BarLeftHoldsPosition card received lent status left
+      × (AtMostOneDivided card
       × (LeavesBitsOfChunks card received status left
       × (LeavesBitsTurned card received status left
-      × (ServedOnlyIfParityAgrees card received status left × PastedNeverServed card received status)))))))))
+      × (ServedOnlyIfParityAgrees card received status left × PastedNeverServed card received status))))))))))
 
   pub wrong-count-claims-nothing : (length lent ≡ readCount → ⊥) → ReadMeets wrongCount lent
   unfolding ServedWithinTwiceTurned ServedWithinTurnedAndResidual LeavesBitsOfChunks LeavesBitsTurned ServedOnlyIfParityAgrees PastedNeverServed
@@ -106,28 +124,22 @@ module _ (card received lent : List ℕ) where
       let bits : LeavesBitsOfChunks card received wrongCount lent = λ zero. absurd (no-read zero) in
       let turned : LeavesBitsTurned card received wrongCount lent = λ position sound on-track within zero. absurd (no-read zero) in
       let agrees : ServedOnlyIfParityAgrees card received wrongCount lent = λ zero. absurd (no-read zero) in
-      (status, (left, (unchanged, (bounded, (sharper, (divided, (bar, (bits, (turned, (agrees, λ i j c from. no-read))))))))))
+      let one = at-most-one-divided card in
+      (status, (left, (unchanged, (bounded, (sharper, (divided, (bar, (one, (bits, (turned, (agrees, λ i j c from. no-read)))))))))))
 
-  -- what the library's contract says of its answer crosses, clause by clause
+  -- the clauses of the library's contract that the call for C has cross, one by one
   pub demands-cross : (answer : ReadAnswer) → library.ReadMeets card received answer
       → (status : ℕ) (left : List ℕ) → Crosses readCount lent (readStatus answer) (readValues answer) status left
       → ReadMeets status left
-  unfolding OffByAtMostTwiceTurned OffByAtMostTurnedAndResidual ServedWithinTwiceTurned ServedWithinTurnedAndResidual
-      TellsBitsOfChunks NeededAsTurned LeavesBitsOfChunks LeavesBitsTurned readValues
+  unfolding TellsBitsOfChunks NeededAsTurned LeavesBitsOfChunks LeavesBitsTurned readValues
       ReadOnlyIfParityAgrees PastedNeverRead ServedOnlyIfParityAgrees PastedNeverServed readFigures
   demands-cross answer
-      (is, (_, (values, (bounded, (sharper, (divided, (bar, (_, (_, (tells, (needed, (agrees, (pasted, _)))))))))))))
+      (is, (_, (values, (bounded, (sharper, (divided, (bar, (one, (_, (tells, (needed, (agrees, (pasted, _)))))))))))))
       status left (is-status, (is-left, unchanged)) =
       let leaves : ReadLeaves lent answer status left = record { told = _; values = values; is-status = is-status; is-left = is-left } in
       let crosses = reading-crosses lent answer status left leaves in
-      let bounded′ : ServedWithinTwiceTurned card received lent status left =
-      λ alike position sound on-track within.
-      near-crosses lent alike answer status left is-status is-left position _ (bounded position sound on-track within) .0 in
-      let sharper′ : ServedWithinTurnedAndResidual card received lent status left =
-      λ alike position sound on-track within.
-      let (near, residual) =
-      near-crosses lent alike answer status left is-status is-left position _ (sharper position sound on-track within) in
-      rw residual near in
+      let bounded′ = bounded-crosses card received lent answer status left is-status is-left bounded in
+      let sharper′ = sharper-crosses card received lent answer status left is-status is-left sharper in
       let divided′ = distances-cross card received lent answer status left is-status is-left divided in
       let bar′ = bar-crosses card received lent answer status left is-status is-left bar in
       let bits : LeavesBitsOfChunks card received status left =
@@ -139,4 +151,4 @@ module _ (card received lent : List ℕ) where
       let pasted′ : PastedNeverServed card received status =
       λ i j c from. never-crosses lent answer status left leaves (pasted i j c from) in
       rw (← is)
-      (is-status, (is-left, (unchanged, (bounded′, (sharper′, (divided′, (bar′, (bits, (turned, (agrees′, pasted′))))))))))
+      (is-status, (is-left, (unchanged, (bounded′, (sharper′, (divided′, (bar′, (one, (bits, (turned, (agrees′, pasted′)))))))))))

@@ -11,6 +11,7 @@ ghost use Rattle.model.specs.Statuses.{cardStatus, cardValues, writeStatus, bit
 ghost use Rattle.model.specs.Statuses.{levelsStatus, levelsValues, strengthValues};
 ghost use Rattle.model.specs.Statuses.{millimetresStatus, millimetresValues, voteStatus, voteValues};
 ghost use Rattle.model.specs.declared.ReadAnswer.the-variants.{At};
+ghost use Rattle.position_theory.specs.DividedChunks.{AtMostOneDivided};
 ghost use Rattle.dunnavish.specs.Crossing.{cardCount, readCount, strengthCount, numberCount, voteCount, cardBytes};
 ghost use Rattle.dunnavish.specs.Crossing.{statusFor, leftBy, UnchangedUnlessZero};
 ghost use Rattle.dunnavish.specs.Demands.{CheckLeftAsBefore, DistanceLeftAsBefore};
@@ -108,9 +109,9 @@ fn put_reading(read: Reading, values: &mut [u32])
 // position on the track, with at most t bits turned in each chunk, the status is 0 where five numbers are lent, and the position put
 // into the first of them is at most twice as many steps off as bits are turned, and at most as many as bits are turned and the
 // residual, the second, together; and the number put for a chunk that the rule names is that of the bits turned in it. The same holds of
-// the status and of both distances where the divided chunk of that position's word is turned at will and each other chunk has at most t
-// bits turned; and the bar that reaches from the first number, on either side, as far as the second and e, holds the position where at
-// most e bits are turned. Of any word that is read, the number put for a chunk that the rule names is the count of places in which that
+// the status and of both distances where the divided chunk of that position's word, as in `depot::read_word`, is turned at will and each
+// other one has at most t bits turned; and if then at most e bits are turned in all, the position lies within the second number plus e
+// steps of the first, and the second is at most e. Of any word that is read, the number put for a chunk that the rule names is the count of places in which that
 // chunk of the word and the codeword that it reads as differ, at most t; for any other chunk NOT_READ is put. Of a word whose status is 0,
 // separator 1, by rule 2 separator 3, has the parity of the codeword's number, so that of a word pasted from two telegrams whose parities
 // differ there the status is never 0.
@@ -123,6 +124,7 @@ pub extern "C" fn dunnavish_read_word(card: &[u8], word: &[u8], values: &mut [u3
     ensures sharper { λ r. ⌜ ServedWithinTurnedAndResidual (now (card .entry)) (now (word .entry)) (now (values .entry)) r (now (values .exit)) ⌝ }
     ensures divided { λ r. ⌜ ServedWithDividedAtWill (now (card .entry)) (now (word .entry)) (now (values .entry)) r (now (values .exit)) ⌝ }
     ensures bar { λ r. ⌜ BarLeftHoldsPosition (now (card .entry)) (now (word .entry)) (now (values .entry)) r (now (values .exit)) ⌝ }
+    ensures one_divided { λ r. ⌜ AtMostOneDivided (now (card .entry)) ⌝ }
     ensures bits { λ r. ⌜ LeavesBitsOfChunks (now (card .entry)) (now (word .entry)) r (now (values .exit)) ⌝ }
     ensures turned { λ r. ⌜ LeavesBitsTurned (now (card .entry)) (now (word .entry)) r (now (values .exit)) ⌝ }
     ensures agrees { λ r. ⌜ ServedOnlyIfParityAgrees (now (card .entry)) (now (word .entry)) r (now (values .exit)) ⌝ }

@@ -60,7 +60,8 @@ tooLow = 0xff ∷ 0xff ∷ 0xb1 ∷ 0xdf ∷ []
 abbrev tooHigh : List ℕ
 tooHigh = 0x00 ∷ 0x00 ∷ 0x4e ∷ 0x21 ∷ []
 
--- two rows, of weights 2 and 1, and D 1: A is 2 in blocks 0 and 2, and 1 in block 1; blocks start at 0, 7 and 12, and the last is 19
+-- two rows, of weights 2 and 1, and D 1: A is 2 in blocks 0 and 2, and 1 in block 1; blocks start at 0, 7 and 12, and the last
+-- position is 19
 unfoldable pub cardOfUnlikeBlocks : List ℕ
 cardOfUnlikeBlocks = cardWith 2 2 0 (0b11 ∷ 0b01 ∷ [])
 
@@ -98,7 +99,7 @@ pub data Question : Type 0 where
   made : (track r m rows : ℕ) → Question
   -- the answer to a vote on a chunk
   vote : (r m chunk : ℕ) → Question
-  -- the positions, up to the last, at which a chunk of the position's word is divided
+  -- the positions, up to the last, at which a chunk, 0 to 4, of the position's word is divided
   whereDivided : (card : List ℕ) (chunk : ℕ) → Question
 
 -- an answer written out: its status, then its values
@@ -377,8 +378,8 @@ starredCases =
     ∷ case (levels cardB (oneBits 2 ++ (three ∷ []) ++ oneBits 3 ++ oneBits 2 ++ (three ∷ []) ++ oneBits 3 ++ oneBits 2 ++ (three ∷ [])))
     (17 ∷ [])
     ∷ case (levels cardB (zeroBits 2 ++ (minusThree ∷ []) ++ oneBits 12)) (0 ∷ 15 ∷ 2 ∷ 3 ∷ 0 ∷ 0 ∷ 0x41880000 ∷ 0x40400000 ∷ [])
-    -- document 02, P7: on card B, of 3 places that differ in a chunk one or two are taken at two positions each; none is divided at 0, 3,
-    -- 6, 9, 12 and 15
+    -- document 02, P7: on card B three places differ in each chunk, so each is divided at two positions, with one and with two of them
+    -- taken; none is at 0, 3, 6, 9, 12 and 15
     ∷ case (whereDivided cardB 0) (1 ∷ 2 ∷ [])
     ∷ case (whereDivided cardB 1) (4 ∷ 5 ∷ [])
     ∷ case (whereDivided cardB 2) (7 ∷ 8 ∷ [])

@@ -77,16 +77,18 @@ millimetresOf offset position = offset +ℤ pos (50 * position)
 
 -- ---- document 02, P7: which chunks of a position's word are divided
 
--- whether w(i) and w(i+1) differ in place p of a word; and whether in the word of a position of block i that place is taken from w(i+1):
--- of a place in which the two differ, whether it has there the bit of w(i+1)
+-- whether w(i) and w(i+1) differ in place p of a word
 abbrev pub differAt : Code → (i p : ℕ) → Bool
 differAt C i p = not (eqb (word C i p) (word C (i + 1) p))
 
+-- of a place in which w(i) and w(i+1) differ: whether the word of a position of block i has it taken from w(i+1), so has the bit of w(i+1)
+-- (of any other place this means nothing)
 abbrev pub takenAt : Code → (position p : ℕ) → Bool
 takenAt C position p = eqb (wordAt C position p) (word C (blockOf C position + 1) p)
 
 -- chunk c, 0 to 4, of the word of a position of block i is divided: some, but not all, of the places in which w(i) and w(i+1) differ
--- there are taken from w(i+1), so that one of these places is taken from it and one is not
+-- there are taken from w(i+1), so that one of these places is taken from it and one is not (none is at the last position, where w(i+1)
+-- doesn't exist and nothing is taken from it)
 unfoldable pub divided : Code → (position c : ℕ) → Bool
 divided C position c =
     let size : ℕ = chunkSize (C .D) (C .n) c in

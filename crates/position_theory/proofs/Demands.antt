@@ -74,7 +74,8 @@ nearest-of-allowed card received sound h spare = (
 )
 
 -- P7, where the divided chunk is turned at will: the word is read, off by at most the bits turned and the residual together; and since the
--- residual is at most the bits turned, by at most twice these
+-- residual is at most the bits turned, by at most twice these. (Each distance is compared as a number, so that a claim of a smaller one is
+-- refused by a counterexample.)
 pub read-with-divided-at-will : (card received : List ℕ) → ReadWithDividedAtWill card received (readAnswer card received)
 unfolding ReadWithDividedAtWill
 read-with-divided-at-will card received position sound h within =
@@ -91,7 +92,7 @@ bar-holds-position card received position e sound h within few =
     rw (read-sound card received sound)
     (near-loosen (readWord (codeOf card) received) position _ _ (omega arith) near, omega arith)
 
--- where none is divided, P7's limit binds all five chunks
+-- where none is divided, P7's limit binds all five chunks: said for the reader, since no proof needs it
 pub binds-all-five : (C : Code) (position : ℕ) (received : List ℕ) → ((c : ℕ) → c < 5 → divided C position c ≡ false)
     → UndividedWithinRadius C position received → WithinRadius C position received
 unfolding ChunksWithin

@@ -23,7 +23,8 @@ use Rattle.code_theory.specs.Promise.{ChunkPromise}
 use Rattle.position_theory.specs.DividedChunks.{DividedOneByOne}
 use Rattle.position_theory.proofs.Words.{word-bit, word-chunk, chunk-ends, chunk-fits, places-rise}
 use Rattle.position_theory.proofs.Between.{Next, stepsBefore, WholeAt, apart-before, chunk-ahead, chunk-passed}
-use Rattle.position_theory.proofs.Blocks.{OnTheWay, next-codeword, block-steps, block-inside, block-start, word-at-start, word-in-block, on-the-way}
+use Rattle.position_theory.proofs.Blocks.{OnTheWay, next-codeword, block-steps, block-inside, block-start, on-the-way}
+use Rattle.position_theory.proofs.Blocks.{word-at-start, word-in-block}
 
 -- ---- by the places in which u and v differ, some of them taken from v in w
 
@@ -31,39 +32,41 @@ module _ (u v w : ℕ → ℕ) where
   abbrev isTaken : (p : ℕ) → Bool
   isTaken p = not (eqb (u p) (v p)) && eqb (w p) (v p)
 
-  abbrev isLeft : (p : ℕ) → Bool
-  isLeft p = not (eqb (u p) (v p)) && not (eqb (w p) (v p))
+  abbrev isKept : (p : ℕ) → Bool
+  isKept p = not (eqb (u p) (v p)) && not (eqb (w p) (v p))
 
-  none-taken : (d : ℕ) → ((p : ℕ) → p < d → w p ≡ u p) → (anyBelow isTaken d && anyBelow isLeft d) ≡ false
+  none-taken : (d : ℕ) → ((p : ℕ) → p < d → w p ≡ u p) → (anyBelow isTaken d && anyBelow isKept d) ≡ false
   none-taken d same = rw (any-none isTaken d (λ p b. rw (same p b) (never-both (eqb (u p) (v p)))))
     where
       never-both : (t : Bool) → (not t && t) ≡ false
       never-both true = refl
       never-both false = refl
 
-  all-taken : (d : ℕ) → ((p : ℕ) → p < d → w p ≡ v p) → (anyBelow isTaken d && anyBelow isLeft d) ≡ false
+  all-taken : (d : ℕ) → ((p : ℕ) → p < d → w p ≡ v p) → (anyBelow isTaken d && anyBelow isKept d) ≡ false
   all-taken d same =
-      rw (any-none isLeft d (λ p b. rw (eq-eqb (w p) (v p) (same p b)) (and-false (not (eqb (u p) (v p)))))) (and-false (anyBelow isTaken d))
+      rw (any-none isKept d (λ p b. rw (eq-eqb (w p) (v p) (same p b)) (and-false (not (eqb (u p) (v p)))))) (and-false (anyBelow isTaken d))
     where
       and-false : (t : Bool) → (t && false) ≡ false
       and-false true = refl
       and-false false = refl
 
   some-taken : (d q q′ : ℕ) → q < d → unlike (u q) (v q) ≡ 1 → w q ≡ v q → q′ < d → unlike (u q′) (v q′) ≡ 1 → w q′ ≡ u q′
-      → (anyBelow isTaken d && anyBelow isLeft d) ≡ true
+      → (anyBelow isTaken d && anyBelow isKept d) ≡ true
   some-taken d q q′ b differ taken b′ differ′ left =
       rw (
         any-some isTaken d q b (rw (ne-eqb (u q) (v q) (λ e. omega arith), eq-eqb (w q) (v q) taken)),
-        any-some isLeft d q′ b′ (rw (left, ne-eqb (u q′) (v q′) (λ e. omega arith))),
+        any-some isKept d q′ b′ (rw (left, ne-eqb (u q′) (v q′) (λ e. omega arith))),
       )
 
 -- ---- chunks of words
 
--- step number r of the walk from one codeword's word to the next, counted from 0, is made in chunk c if it is one of that chunk's
+-- step number r of the walk from one codeword's word to the next, counted from 0, turns a place of chunk c where r is no less than the
+-- steps before that chunk and below those to its end
 step-in-chunk : (C : Code) {i j A : ℕ} → Next C i j A → (c r : ℕ) → c < 5 → stepsBefore C A c ≤ r → r < stepsBefore C A (suc c)
     → (q : ℕ) × (q < chunkSize (C .D) (C .n) c) × (unlike (chunkOf C c (word C i) q) (chunkOf C c (word C j) q) ≡ 1)
     × (distance (placesBefore (C .D) (C .n) c + q) (word C i) (word C j) ≡ r)
-step-in-chunk C {i} {j} next c r b l h = inside (differing-place u v (placesBefore (C .D) (C .n) (suc c)) r (rw (apart-before C next (suc c) b) h))
+step-in-chunk C {i} {j} next c r b l h =
+    inside (differing-place u v (placesBefore (C .D) (C .n) (suc c)) r (rw (apart-before C next (suc c) b) h))
   where
     u : ℕ → ℕ
     u = word C i

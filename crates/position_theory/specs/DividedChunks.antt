@@ -46,8 +46,8 @@ BarHoldsPosition card received answer =
 -- ---- where chunks are divided
 
 -- At most one chunk of a position's word is divided, and none at a block's start and at the last position. Of the steps of block i,
--- placesBefore D A(i) c are made before chunk c: m steps into the block, its end included, chunk c is divided just where m is more than
--- these, and fewer than those up to its end.
+-- placesBefore D A(i) c are made before chunk c. So m steps into the block, or at the block's end, chunk c is divided just where m is more
+-- than these and fewer than placesBefore D A(i) (c + 1), the steps to the chunk's end.
 pub record DividedOneByOne (C : Code) : Type 0 where
   pub at-most-one : (position c c′ : ℕ) → position ≤ lastPosition C → c < 5 → c′ < 5
       → divided C position c ≡ true → divided C position c′ ≡ true → c ≡ c′

@@ -55,6 +55,10 @@ pub fn held(tally: &mut Tally, here: &Walk, bytes: &[u8], answer: Result<Reading
     );
     tally
         .add("errors above twice the bits turned within these limits", answer.map_or(false, |reading| 2 * turned < off(reading)));
+    tally.add(
+        "residuals above the bits turned within these limits",
+        answer.map_or(false, |reading| turned < u64::from(reading.residual)),
+    );
 }
 
 /// Counts a word by the bits turned in the divided chunk, if there is one.

@@ -2,8 +2,8 @@
 //! damaged in many ways, in bits and in levels, and on the Reed-Muller codes and their chunks, and prints counts. A call is
 //! compared in `calls.rs`, a count is a line of `tally.rs`, and what is tried stands in `trials`.
 //!
-//! How the file `expected` was made: every count but the last seventeen follows from how the cards, words and chunks are made and
-//! from what the second reader answers, and none of them from the library. The last seventeen are of the library, and are 0 where it
+//! How the file `expected` was made: every count but the last eighteen follows from how the cards, words and chunks are made and
+//! from what the second reader answers, and none of them from the library. The last eighteen are of the library, and are 0 where it
 //! is right. So the file has the former as the program printed them with a library that refused every call, and 0 for each of the
 //! latter.
 mod calls;

@@ -1,7 +1,7 @@
 //! The counts that the program prints.
 
 /// The printed lines in their order: a name each, under which something is counted.
-const LINES: [&str; 109] = [
+const LINES: [&str; 110] = [
     // What the second reader answered, call by call.
     "cards sound",
     "cards refused 1",
@@ -80,7 +80,7 @@ const LINES: [&str; 109] = [
     "words with t + 1 bits turned in a chunk named, refused 11",
     "words with t + 1 bits turned in a chunk named, refused 12",
     "words with t + 1 bits turned in a chunk named, refused 17",
-    // Of these chunks each has at most t bits turned; a divided one may be turned at will.
+    // A chunk that is not divided has at most t bits turned; the divided one is turned at will.
     "words within the limits of the chunks that are not divided",
     "words of these with a divided chunk",
     "words of these with more than t bits turned in the divided chunk",
@@ -113,6 +113,7 @@ const LINES: [&str; 109] = [
     "words within these limits refused",
     "errors above the bits turned and the residual together",
     "errors above twice the bits turned within these limits",
+    "residuals above the bits turned within these limits",
     "counts unlike the bits turned or refused",
     "errors above the damage or refused",
     "words of levels 1 and -1 unlike the plain word",

@@ -2,9 +2,9 @@
 //! turned where only these may be turned at will, and the two distances that its reading keeps.
 //!
 //! A chunk is divided when some, but not all, of the places in which w(i) and w(i+1) differ there are taken from w(i+1). The block
-//! i is found from the starts, and both words are made anew and compared place by place, apart from the steps of the walk and from
-//! the reading rules, so that any reader's answers can be held to the promise: a word that has a count in [`turned_within_limit`]
-//! is read, and [`both_distances_hold`] of its reading.
+//! i is found from the starts, and both words are made anew and compared place by place with the position's, which is the walk's;
+//! of its steps and of the reading rules nothing is used, so that any reader's answers can be held to the promise: a word that has
+//! a count in [`turned_within_limit`] is read, and [`both_distances_hold`] of its reading.
 use crate::reading::Reading;
 use crate::walk::Walk;
 use crate::word::unlike;

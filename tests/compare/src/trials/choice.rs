@@ -56,7 +56,7 @@ fn at_border_of_division(here: &Walk) -> bool {
     let (this, next) = (code.whole_word(here.block), code.whole_word(here.block + 1));
     code.chunks().into_iter().any(|chunk| {
         let differ: Vec<usize> = chunk.filter(|&place| this[place] != next[place]).collect();
-        [differ.first(), differ.iter().rev().nth(1)].contains(&here.place.checked_sub(1).as_ref())
+        here.place > 0 && [differ.first(), differ.iter().rev().nth(1)].contains(&Some(&(here.place - 1)))
     })
 }
 

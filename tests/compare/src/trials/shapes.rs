@@ -13,6 +13,8 @@ pub struct Shape {
 enum Rows {
     /// Row z is a word shifted by z: of a cyclic code the generator.
     Shifted(u64),
+    /// Row z is a word shifted by 2z.
+    ShiftedByTwos(u64),
     /// The monomials of at most this degree in the bits of a place, as numbers in rising order: a Reed-Muller code.
     Monomials(u32),
     /// Random, of a seed.
@@ -21,7 +23,7 @@ enum Rows {
     Triangular(u64),
 }
 
-use Rows::{Monomials, Random, Shifted, Triangular};
+use Rows::{Monomials, Random, Shifted, ShiftedByTwos, Triangular};
 
 /// Codes that are given one by one: n, k and rows.
 const GIVEN: [(u64, u64, Rows); 18] = [
@@ -63,6 +65,8 @@ pub fn all() -> Vec<Shape> {
     shapes.extend((226..238).map(|i| (i - 225, i - 225, Triangular(i))));
     shapes.extend((238..262).map(|i| (random(i, 100) % 44 + 21, random(i, 101) % 8 + 1, Random(i))));
     shapes.extend((262..).zip(LARGEST).map(|(i, (n, k))| (n, k, Random(i))));
+    // Rows 7 and 28, D 3: the smallest words of a code that corrects a bit and has a block with another on either side.
+    shapes.push((5, 2, ShiftedByTwos(7)));
     shapes.into_iter().map(|(n, k, rows)| Shape { n, k, rows }).collect()
 }
 
@@ -71,6 +75,7 @@ impl Shape {
     pub fn row(&self, z: u64) -> u64 {
         let row = match self.rows {
             Shifted(word) => word << z,
+            ShiftedByTwos(word) => word << (2 * z),
             Monomials(degree) => monomial((0..64).filter(|set: &u64| set.count_ones() <= degree).nth(z as usize).unwrap()),
             Random(seed) => random(seed, z),
             Triangular(seed) => (random(seed, z) % (1 << z)) | (1 << z),
