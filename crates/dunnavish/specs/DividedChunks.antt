@@ -21,8 +21,8 @@ ServedWithDividedAtWill card received lent status left =
     → ServedNear status left position (turned (codeOf card) position received + residualLeft left)
     × ServedNear status left position (2 * turned (codeOf card) position received)
 
--- The bar about the position left, which reaches as far as the residual left and e on either side, holds the position where at most e bits
--- are turned; and the residual left is at most e.
+-- Under the same premises, where at most e bits are turned: the bar about the position left, which reaches as far as the residual left and
+-- e on either side, holds the position; and the residual left is at most e.
 unfoldable pub BarLeftHoldsPosition : (card received lent : List ℕ) (status : ℕ) (left : List ℕ) → Type 0
 BarLeftHoldsPosition card received lent status left =
     length lent ≡ readCount → (position e : ℕ) → SoundCard card → position ≤ lastPosition (codeOf card)

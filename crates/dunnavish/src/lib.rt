@@ -111,10 +111,10 @@ fn put_reading(read: Reading, values: &mut [u32])
 // residual, the second, together; and the number put for a chunk that the rule names is that of the bits turned in it. The same holds of
 // the status and of both distances where the divided chunk of that position's word, as in `depot::read_word`, is turned at will and each
 // other one has at most t bits turned; and if then at most e bits are turned in all, the position lies within the second number plus e
-// steps of the first, and the second is at most e. Of any word that is read, the number put for a chunk that the rule names is the count of places in which that
-// chunk of the word and the codeword that it reads as differ, at most t; for any other chunk NOT_READ is put. Of a word whose status is 0,
-// separator 1, by rule 2 separator 3, has the parity of the codeword's number, so that of a word pasted from two telegrams whose parities
-// differ there the status is never 0.
+// steps of the first, and the second is at most e. Of any word that is read, the number put for a chunk that the rule names is the count
+// of places in which that chunk of the word and the codeword that it reads as differ, at most t; for any other chunk NOT_READ is put. Of a
+// word whose status is 0, separator 1, by rule 2 separator 3, has the parity of the codeword's number, so that of a word pasted from two
+// telegrams whose parities differ there the status is never 0.
 #[no_mangle]
 pub extern "C" fn dunnavish_read_word(card: &[u8], word: &[u8], values: &mut [u32]) -> u32
     ensures status { λ r. ⌜ r ≡ statusFor readCount (now (values .entry)) (readStatus (readAnswer (now (card .entry)) (now (word .entry)))) ⌝ }

@@ -398,6 +398,7 @@ starredCases =
     ∷ case (whereDivided cardOfUnlikeBlocks 3) (5 ∷ 17 ∷ [])
     ∷ case (whereDivided cardOfUnlikeBlocks 4) []
     -- card B's 8, with both ones of separator 2, which is divided there, turned: it reads 6, off by the bits turned and the residual, 2 + 0
+    ∷ case (bitsUnlike cardB 8 (0x3f ∷ 0x00 ∷ [])) (2 ∷ [])
     ∷ case (read cardB (0x3f ∷ 0x00 ∷ [])) (0 ∷ 6 ∷ 0 ∷ 2 ∷ 4294967295 ∷ 0 ∷ [])
     -- 7 with all of separator 2 turned reads 9, by rule 1; 5 with all of chunk 1 turned reads 3; and with one bit turned in each other
     -- chunk besides, 7 in all, it reads 3 too

@@ -45,7 +45,8 @@ pub all-below : (C : Code) (heard : ℕ → Bool) (position : ℕ) (u x : ℕ �
 unfolding ChunksBelowD
 all-below C heard position u x below c b _ = below c b
 
--- likewise a word within the radius in every chunk is within it in those that are not divided
+-- likewise a word within the radius in every chunk is within it in those that are not divided (limits are compared as numbers, so that a
+-- claim of a wider one is refused by a counterexample)
 pub all-within : (C : Code) (position : ℕ) (received : List ℕ) → WithinRadius C position received → UndividedWithinRadius C position received
 unfolding ChunksWithin
 all-within C position received d =
