@@ -21,11 +21,17 @@
  *   `values` is where the call puts its answer. Its count must be exactly the call's (DUNNAVISH_CARD_VALUES and so on), or the
  *   call is answered DUNNAVISH_VALUE_COUNT before anything else is looked at. So must the count of `strength` be exactly
  *   DUNNAVISH_STRENGTH_VALUES, and the bytes of a card that is to be made exactly DUNNAVISH_CARD_BYTES.
- *   No pointer may be NULL, not even with a count of 0: pass the address of any object then. An array that a call writes
- *   (`values`, `strength`, the word of dunnavish_write_word, the card of dunnavish_make_card) may not overlap another one of the
- *   same call. Pointers to numbers and floats are aligned as uint32_t, int32_t and float are. dunnavish_read_levels is called
- *   under the floating-point settings that a program starts with: sums rounded to the nearest, ties to even, subnormal numbers
- *   kept, no exception trapped. These are the only things that a call cannot check.
+ *   An array whose count is 0 may be NULL, which is what an empty vector hands over: no call looks behind a pointer that comes with a
+ *   count of 0, and answers as for any other array of a wrong count.
+ *
+ * What a call cannot check, and asks of its caller
+ *   That at each pointer stand as many elements as its count says, aligned as uint32_t, int32_t and float are; that they can be read,
+ *   and those that the call writes (`values`, `strength`, the word of dunnavish_write_word, the card of dunnavish_make_card) written;
+ *   that nobody else changes them during the call; and that an array that the call writes overlaps no other one of the same call.
+ *   Of dunnavish_read_levels besides: the processor's default floating-point settings, those that a program starts with: sums rounded
+ *   to the nearest, ties to even, subnormal numbers kept, no exception trapped. A program that is linked with -ffast-math or -Ofast
+ *   starts with others: subnormal numbers count as zeros, so that a word of levels of 1e-40, say, is all lost and answered
+ *   DUNNAVISH_CHUNK_UNREADABLE. Link without these flags, or call fesetenv(FE_DFL_ENV) in each thread before it reads levels.
  *
  * Who owns what
  *   The caller owns every array, before, during and after the call. The library keeps no pointer, allocates nothing and frees
@@ -33,8 +39,8 @@
  *
  * Threads
  *   The library has no state at all: no globals, nothing kept between calls. Any number of threads may call at the same time,
- *   as long as none writes an array that another one uses. Calls from signal handlers are safe too. (Sums of levels may set the
- *   thread's floating-point exception flags.)
+ *   as long as none writes an array that another one uses. Calls from signal handlers are safe too. (Sums and comparisons of levels
+ *   may set the thread's floating-point exception flags, a level that is not a number the flag for an invalid operation.)
  *
  * Stack
  *   A call takes less than 2,048 bytes of stack, the same for every card, word and chunk; tests/c/stack_use.c measures it. (If

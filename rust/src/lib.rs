@@ -368,6 +368,11 @@ pub fn read_word(card: &[u8], word: &[u8]) -> Result<Reading, Refusal> {
 /// below D, the answer is a reading, and its position is off by at most 2 × wrong + lost, counted over the whole word. What
 /// [`read_word`] says of the separators and the codeword's number holds here too, a separator being what its levels sum to.
 ///
+/// All of this is asked under the processor's default floating-point settings: rounding to the nearest, ties to even, subnormal
+/// numbers kept. Rust code never changes them, but a program that is linked by a C compiler with `-ffast-math` or `-Ofast` starts
+/// with others: subnormal levels, 1e-40 say, then count as zeros and are lost. The call may set the thread's floating-point
+/// exception flags, by its comparisons too.
+///
 /// Refused, in this order: the card; [`Refusal::LevelCount`]; [`Refusal::LevelLimits`], for any of the levels (1,000,000 itself
 /// is allowed); [`Refusal::Separators`] to [`Refusal::NoBlock`]; and [`Refusal::ParityDiffers`].
 pub fn read_levels(card: &[u8], levels: &[f32]) -> Result<(Reading, Strength), Refusal> {

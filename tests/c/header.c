@@ -1,7 +1,7 @@
 /*
  * What the header itself defines: the version, the text of a status, the bytes of a word, the indices of values and of a strength,
- * and what stands for a chunk that is not read. Compiled as C99, as C11 and as C++; calls on a card, one of them on levels, and the
- * two that are given none show that it links in each.
+ * what stands for a chunk that is not read, and that an array of no elements may be NULL. Compiled as C99, as C11 and as C++; calls on a
+ * card, one of them on levels, and the two that are given none show that it links in each.
  */
 #include <stdio.h>
 #include <string.h>
@@ -254,6 +254,40 @@ static void offsets(void)
     expect(mm[0] == -1, "a number changed by refusal", 14);
 }
 
+/* An array of no elements may be NULL, in the place of each array of each call: it is refused as one of a wrong count. */
+static void nothing_at_null(const uint8_t card[DUNNAVISH_CARD_BYTES])
+{
+    static const float levels[15] = {1, 1, 1, 1, 1, 1, 1, 1, 1, 1, 1, 1, 1, 1, 1};
+    static const uint8_t word[2] = {0, 0};
+    uint8_t lent[2];
+    uint32_t numbers[DUNNAVISH_CARD_VALUES];
+    int32_t distance[DUNNAVISH_NUMBER_VALUES];
+    float floats[DUNNAVISH_STRENGTH_VALUES];
+    const size_t bytes = DUNNAVISH_CARD_BYTES;
+
+    expect(dunnavish_check_card(NULL, 0, numbers, 7) == DUNNAVISH_CARD_LENGTH, "no card checked, not", DUNNAVISH_CARD_LENGTH);
+    expect(dunnavish_check_card(card, bytes, NULL, 0) == DUNNAVISH_VALUE_COUNT, "check into none, not", DUNNAVISH_VALUE_COUNT);
+    expect(dunnavish_write_word(NULL, 0, 0, lent, 2) == DUNNAVISH_CARD_LENGTH, "write by no card, not", DUNNAVISH_CARD_LENGTH);
+    expect(dunnavish_write_word(card, bytes, 0, NULL, 0) == DUNNAVISH_WORD_LENGTH, "write into none, not", DUNNAVISH_WORD_LENGTH);
+    expect(dunnavish_read_word(NULL, 0, word, 2, numbers, 5) == DUNNAVISH_CARD_LENGTH, "read by no card, not", DUNNAVISH_CARD_LENGTH);
+    expect(dunnavish_read_word(card, bytes, NULL, 0, numbers, 5) == DUNNAVISH_WORD_LENGTH, "no word read, not", DUNNAVISH_WORD_LENGTH);
+    expect(dunnavish_read_word(card, bytes, word, 2, NULL, 0) == DUNNAVISH_VALUE_COUNT, "read into none, not", DUNNAVISH_VALUE_COUNT);
+    expect(dunnavish_read_levels(NULL, 0, levels, 15, numbers, 5, floats, 2) == DUNNAVISH_CARD_LENGTH, "levels by no card, not",
+           DUNNAVISH_CARD_LENGTH);
+    expect(dunnavish_read_levels(card, bytes, NULL, 0, numbers, 5, floats, 2) == DUNNAVISH_LEVEL_COUNT, "no levels read, not",
+           DUNNAVISH_LEVEL_COUNT);
+    expect(dunnavish_read_levels(card, bytes, levels, 15, NULL, 0, floats, 2) == DUNNAVISH_VALUE_COUNT, "levels into none, not",
+           DUNNAVISH_VALUE_COUNT);
+    expect(dunnavish_read_levels(card, bytes, levels, 15, numbers, 5, NULL, 0) == DUNNAVISH_VALUE_COUNT, "strength into none, not",
+           DUNNAVISH_VALUE_COUNT);
+    expect(dunnavish_block_start(NULL, 0, 0, numbers, 1) == DUNNAVISH_CARD_LENGTH, "start by no card, not", DUNNAVISH_CARD_LENGTH);
+    expect(dunnavish_block_start(card, bytes, 0, NULL, 0) == DUNNAVISH_VALUE_COUNT, "start into none, not", DUNNAVISH_VALUE_COUNT);
+    expect(dunnavish_millimetres(NULL, 0, 0, distance, 1) == DUNNAVISH_CARD_LENGTH, "distance by no card, not", DUNNAVISH_CARD_LENGTH);
+    expect(dunnavish_millimetres(card, bytes, 0, NULL, 0) == DUNNAVISH_VALUE_COUNT, "distance into none, not", DUNNAVISH_VALUE_COUNT);
+    expect(dunnavish_make_card(14, 0, 2, NULL, 0) == DUNNAVISH_VALUE_COUNT, "card into none, not", DUNNAVISH_VALUE_COUNT);
+    expect(dunnavish_vote_chunk(0, 2, 0x7, NULL, 0) == DUNNAVISH_VALUE_COUNT, "vote into none, not", DUNNAVISH_VALUE_COUNT);
+}
+
 int main(int argc, char **argv)
 {
     char version[32];
@@ -273,5 +307,6 @@ int main(int argc, char **argv)
     levels_statuses(card_b);
     made_card();
     offsets();
+    nothing_at_null(card_b);
     return failed;
 }
