@@ -74,38 +74,41 @@ module _ (card : List ℕ) (position : ℕ) (lent : List ℕ) where
   unfolding writeRefusal firstRefusal
   write-card-refused decoded from ne = refused (decoded .refusal) (rw (← (from .refusal), ne-eqb (decoded .refusal) 0 ne)) ne
 
--- what is measured once the card has passed: the length of its words and its last position
-pub record Measured (card : List ℕ) (decoded : Decoded) (size last : ℕ) : Type 0 where
+-- a card that has passed: the code that is decoded is the card's
+pub record Passed (card : List ℕ) (decoded : Decoded) : Type 0 where
   pub from : DecodedFrom card decoded
   pub passed : decoded .refusal ≡ 0
-  pub is-size : size ≡ wordLength (meaning (decoded .code))
-  pub is-last : last ≡ lastPosition (meaning (decoded .code))
 
-module _ {card : List ℕ} {decoded : Decoded} {size last : ℕ} (measured : Measured card decoded size last) (position : ℕ) (lent : List ℕ) where
+-- the length of its words, and its last position
+abbrev size : Decoded → ℕ
+size decoded = wordLength (meaning (decoded .code))
+
+abbrev last : Decoded → ℕ
+last decoded = lastPosition (meaning (decoded .code))
+
+module _ {card : List ℕ} {decoded : Decoded} (card-passed : Passed card decoded) (position : ℕ) (lent : List ℕ) where
   is-code : meaning (decoded .code) ≡ codeOf card
-  is-code = measured .from .code (measured .passed)
+  is-code = card-passed .from .code (card-passed .passed)
 
-  word-refusal : writeRefusal card position lent ≡ cond (not (eqb (length lent) size)) 6 (cond (ltb last position) 7 0)
+  word-refusal : writeRefusal card position lent
+      ≡ cond (not (eqb (length lent) (size decoded))) 6 (cond (ltb (last decoded) position) 7 0)
   unfolding writeRefusal firstRefusal
-  word-refusal =
-      rw (← (measured .from .refusal), eq-eqb (decoded .refusal) 0 (measured .passed), ← is-code)
-      (rw (← (measured .is-size), ← (measured .is-last)))
+  word-refusal = rw (← (card-passed .from .refusal), eq-eqb (decoded .refusal) 0 (card-passed .passed), ← is-code)
 
-  pub refused-6 : (length lent ≡ size → ⊥) → WriteMeets card position lent (Refused 6) lent
-  refused-6 unlike = refused card position lent 6 (word-refusal ∙ rw (ne-eqb (length lent) size unlike)) (λ e. omega arith)
+  pub refused-6 : (length lent ≡ size decoded → ⊥) → WriteMeets card position lent (Refused 6) lent
+  refused-6 unlike =
+      refused card position lent 6 (word-refusal ∙ rw (ne-eqb (length lent) (size decoded) unlike)) (λ e. omega arith)
 
-  module _ (whole : length lent ≡ size) where
-    pub refused-7 : last < position → WriteMeets card position lent (Refused 7) lent
+  module _ (whole : length lent ≡ size decoded) where
+    pub refused-7 : last decoded < position → WriteMeets card position lent (Refused 7) lent
     refused-7 above =
-        refused card position lent 7 (word-refusal ∙ rw (eq-eqb (length lent) size whole, lt-ltb last position above)) (λ e. omega arith)
+        refused card position lent 7
+        (word-refusal ∙ rw (eq-eqb (length lent) (size decoded) whole, lt-ltb (last decoded) position above)) (λ e. omega arith)
 
-    -- where neither holds, the lent word has the right length and the position is on the track, and it is written
-    module _ (within : position ≤ last) where
-      pub servable : (position ≤ lastPosition (meaning (decoded .code))) × (length lent ≡ wordLength (meaning (decoded .code)))
-      servable = rw (← (measured .is-size), ← (measured .is-last)) (within, whole)
-
+    -- where neither holds, it is written
+    module _ (within : position ≤ last decoded) where
       none : writeRefusal card position lent ≡ 0
-      none = word-refusal ∙ rw (eq-eqb (length lent) size whole, le-ltb last position within)
+      none = word-refusal ∙ rw (eq-eqb (length lent) (size decoded) whole, le-ltb (last decoded) position within)
 
       pub written : (left : List ℕ) → left ≡ wordBytes (meaning (decoded .code)) position → WriteMeets card position lent Written left
       unfolding writeAnswer lentAfterWrite unlessRefused

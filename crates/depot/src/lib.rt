@@ -80,12 +80,10 @@ pub fn write_word(card: &[u8], position: u32, word: &mut [u8]) -> WriteAnswer
         return WriteAnswer::Refused(decoded.refusal);
     }
     let code = decoded.code;
-    let length = layout::word_length(code);
-    let last = blocks::last_position(code);
-    if word.len() != length {
+    if word.len() != layout::word_length(code) {
         return WriteAnswer::Refused(6);
     }
-    if last < position {
+    if blocks::last_position(code) < position {
         return WriteAnswer::Refused(7);
     }
     words::write(code, position, word);
