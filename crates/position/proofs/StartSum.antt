@@ -2,7 +2,7 @@
 -- last row it is the start; no sum on the way exceeds that, which is bounded, so each of them fits. And what document 01 corrects in
 -- the count of document 003's Algorithm 1. Assumes nothing.
 use mathlib.Core.Logic.{⊎-elim}
-use mathlib.Core.Path.{_≡_, refl, sym, ap, _∙_}
+use mathlib.Core.Path.{_≡_, refl, sym, ap}
 use Prim.Native.Nat.{ℕ, zero, suc, _+_, _-_, _*_, _/_, _^_, _≤_, _<_}
 use native.Mathlib.Nat.{add-mul-div-right, div-eq-of-lt, div-le-self}
 use native.Mathlib.Numerals.{add-one}
@@ -12,7 +12,7 @@ use Rattle.bits.specs.Sums.{sumBelow}
 use Rattle.bits.proofs.Numbers.{lt-or-le}
 use Rattle.bits.proofs.Sums.{sum-longer, sum-more}
 use Rattle.model.specs.Card.{Code}
-use Rattle.model.specs.Order.{lastCodeword, start, correctedCount, rowWeight, rowShare, sumAfterRow, sumBeforeRow}
+use Rattle.model.specs.Order.{lastCodeword, start, correctedCount, rowWeight, shareOf, rowShare, sumAfterRow, sumBeforeRow}
 use Rattle.code_theory.specs.Promise.{Sound}
 use Rattle.code_theory.proofs.Starts.{start-bound, last-codeword-bound}
 
@@ -54,9 +54,14 @@ module _ (C : Code) (i : ℕ) where
   before-sum (suc z) = ap (λ (rows : ℕ). 3 * C .D * i + sumBelow (rowShare C i) rows) (add-one z)
 
   -- a row's share takes the sum before the row to the sum after it
-  pub share-added : (z : ℕ) → sumAfterRow C i z ≡ sumBeforeRow C i z + rowShare C i z
+  share-added : (z : ℕ) → sumAfterRow C i z ≡ sumBeforeRow C i z + rowShare C i z
   unfolding sumAfterRow
   share-added z = omega (arith, before-sum z, sum-more (rowShare C i) z)
+
+  -- and so to the sum before the next, of a row that has this weight
+  pub row-added : {weight sum : ℕ} (z : ℕ) → weight ≡ rowWeight C z → sum ≡ sumBeforeRow C i z
+      → sum + shareOf weight i z ≡ sumBeforeRow C i (z + 1)
+  row-added z weighs before = rw (weighs, before, next-row z) (sym (share-added z))
 
   -- twice a sum of products is the sum of their doubles
   doubled : (d : ℕ) → 2 * sumBelow (λ z. rowWeight C z * correctedCount i z) d ≡ sumBelow (rowShare C i) d
@@ -64,13 +69,10 @@ module _ (C : Code) (i : ℕ) where
   doubled zero = refl
   doubled (suc d) = omega (arith, doubled d)
 
-  all-rows : sumBeforeRow C i (C .k) ≡ start C i
+  -- after all k rows the sum is r(i)
+  pub whole-sum : sumBeforeRow C i (C .k) ≡ start C i
   unfolding start
-  all-rows = omega (arith, before-sum (C .k), doubled (C .k))
-
-  -- after the last row the sum is r(i)
-  pub whole-sum : (z : ℕ) → z + 1 ≡ C .k → sumAfterRow C i z ≡ start C i
-  whole-sum z last = sym (next-row z) ∙ ap (sumBeforeRow C i) last ∙ all-rows
+  whole-sum = omega (arith, before-sum (C .k), doubled (C .k))
 
   -- no sum on the way exceeds the start, and no start 4,095 blocks of 320 steps
   pub sum-bound : Sound C → i ≤ lastCodeword C → (z : ℕ) → z ≤ C .k → sumBeforeRow C i z ≤ 1310400
@@ -79,7 +81,7 @@ module _ (C : Code) (i : ℕ) where
         arith,
         before-sum z,
         before-sum (C .k),
-        all-rows,
+        whole-sum,
         start-bound C S i h,
         last-codeword-bound C S,
         sum-longer (rowShare C i) {a = z} {d = C .k} l,

@@ -1,9 +1,8 @@
 // The blocks of a track: where each one starts, and the block of a position.
 ghost use mathlib.Core.Path.{_≡_};
-ghost use Prim.Native.Nat.{_+_, _≤_, _<_};
-ghost use Rattle.model.specs.Card.{Code};
+ghost use Prim.Native.Nat.{ℕ, _+_, _≤_, _<_};
 ghost use Rattle.model.specs.Decoded.{meaning};
-ghost use Rattle.model.specs.Order.{lastCodeword, changedWeight, start, lastPosition, correctedCount, rowWeight, shareOf, sumAfterRow, sumBeforeRow};
+ghost use Rattle.model.specs.Order.{lastCodeword, changedWeight, start, lastPosition, correctedCount, shareOf, sumAfterRow, sumBeforeRow};
 ghost use Rattle.model.specs.Words.{blockOf};
 ghost use Rattle.code_theory.specs.Promise.{Sound};
 ghost use Rattle.position.specs.RowWeights.{RowWeights};
@@ -48,35 +47,41 @@ fn corrected_count(i: u32, z: u32) -> u32
     ((i - first) >> (z + 1)) + 1
 }
 
-// The sum for the start of block i after row z, from the sum before it: the row's share is added, 2 × its weight × its corrected
-// count. It stands for the line in the loop of Algorithm 1, less its 3D. It takes the row's weight and no code, so the contract
-// speaks of every code in which row z has that weight. The limits are a sound card's: places, codewords, rows, last position.
+// The sum for the start of block i with one row's share added, 2 × its weight × its corrected count. It stands for the line in the loop
+// of Algorithm 1, less its 3D. The limits are a sound card's: places, codewords, rows, last position.
 fn sum_after_row(weight: u32, i: u32, z: u32, sum: u32) -> u32
     requires { ⌜ (weight ≤ 64) × (i ≤ 4095) × (z < 12) × (sum ≤ 1310400) ⌝ }
-    ensures added { λ r. ⌜ r ≡ sum + shareOf weight i z ⌝ }
-    ensures after_row { λ r. ⌜ ((C : Code) → weight ≡ rowWeight C z → sum ≡ sumBeforeRow C i z → r ≡ sumAfterRow C i z) ⌝ }
+    ensures { λ r. ⌜ r ≡ sum + shareOf weight i z ⌝ }
 {
     sum + 2 * weight * corrected_count(i, z)
 }
 
-// The start of block i, from the weights of the rows, as Algorithm 1 of document 003 (compute-r) sums it: rows 0 to k - 1, each row's
-// share added as it comes. Its lines stand in quotes beside the code, with what document 01 corrects in them (r is its sum for block
-// i, ||a_z|| the weight of row z).
-fn start_by(code: DecodedCode, weights: [u32; 12], i: u32) -> u32
-    requires { ⌜ Sound (meaning code) × (i ≤ lastCodeword (meaning code)) × RowWeights (meaning code) weights ⌝ }
-    ensures { λ r. ⌜ r ≡ start (meaning code) i ⌝ }
+// The sum for the start of block i after the first `rows` rows, from the weights of the rows, as Algorithm 1 of document 003 (compute-r)
+// sums it: each row's share is added as it comes, and after row z the sum is 3D × i and the shares of rows 0 to z. Its lines stand in
+// quotes beside the code, with what document 01 corrects in them (r is its sum for block i, ||a_z|| the weight of row z).
+fn sum_of_rows(code: DecodedCode, weights: [u32; 12], i: u32, rows: u32) -> u32
+    requires { ⌜ Sound (meaning code) × (i ≤ lastCodeword (meaning code)) × RowWeights (meaning code) weights × (rows ≤ code .k) ⌝ }
+    ensures before_row { λ r. ⌜ r ≡ sumBeforeRow (meaning code) i rows ⌝ }
+    ensures after_row { λ r. ⌜ ((z : ℕ) → rows ≡ z + 1 → r ≡ sumAfterRow (meaning code) i z) ⌝ }
 {
-    let k = code.k;
     let distance = code.distance;
     // "r = 0". Corrected: 3D × i, since 3D counts once for each of the i blocks before this one, and not once a row.
     let mut sum = 3 * distance * i;
-    // "for z in {0, ..., k - 1} do"
-    for z in 0..k {
+    // "for z in {0, ..., k - 1} do", which is all rows; here, as many of them as are asked for.
+    for z in 0..rows {
         // "r = r + 2 floor(max(i - 2^z, 0) / 2^(z+1)) ||a_z|| + 3D". Corrected: the count, by `corrected_count`; and no 3D.
         sum = sum_after_row(weights[z as usize], i, z, sum);
     }
     // "Return: r"
     sum
+}
+
+// The start of block i, from the weights of the rows: the sum after all k rows.
+fn start_by(code: DecodedCode, weights: [u32; 12], i: u32) -> u32
+    requires { ⌜ Sound (meaning code) × (i ≤ lastCodeword (meaning code)) × RowWeights (meaning code) weights ⌝ }
+    ensures { λ r. ⌜ r ≡ start (meaning code) i ⌝ }
+{
+    sum_of_rows(code, weights, i, code.k)
 }
 
 // The start of block i.

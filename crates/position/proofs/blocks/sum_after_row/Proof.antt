@@ -1,12 +1,11 @@
 -- `position::blocks::sum_after_row` meets its contract: what it adds is the row's share. A count is at most i, so the sum fits.
 -- Assumes nothing.
 use Prim.Native.Nat.{ℕ, _+_, _*_, _≤_}
-use mathlib.Core.Path.{sym, ap, ap₂, _∙_}
+use mathlib.Core.Path.{ap}
 use borrow.Author.Needs.{needs}
 use native.Mathlib.Omega.{arith}
 use native.Mathlib.Nat.{mul-le-mul}
-use Rattle.model.specs.Order.{shareOf}
-use Rattle.position.proofs.StartSum.{share-added, count-at-most}
+use Rattle.position.proofs.StartSum.{count-at-most}
 use Rattle.position.proofs.blocks.sum_after_row.Statement.{statement}
 use Rattle.position.proofs.blocks.sum_after_row.Tie as tie
 
@@ -17,13 +16,7 @@ share-fits c =
 
 returns : tie.Need-returns
 returns c =
-    let args = c .before .args in
-    let added = ap (λ (count : ℕ). args .sum + 2 * args .weight * count) (c .corrected-count .ensures) in (
-      added,
-      λ C weighs before.
-          let shares = ap₂ (λ (sum weight : ℕ). sum + shareOf weight (args .i) (args .z)) before weighs in
-          added ∙ shares ∙ sym (share-added C (args .i) (args .z)),
-    )
+    let args = c .before .args in ap (λ (count : ℕ). args .sum + 2 * args .weight * count) (c .corrected-count .ensures)
 
 pub sum-after-row-spec : {M : Type 1} → statement M
 sum-after-row-spec =

@@ -1,4 +1,6 @@
 -- `position::places::separator_at` meets its contract: the test of the count of ones is the definition of the majority. Assumes nothing.
+use Prim.Native.Nat.{_*_, _<_}
+use native.Mathlib.Omega.{arith}
 use borrow.Author.Tests.{lt-ltb, le-ltb}
 use Rattle.model.specs.Reading.{majority}
 use borrow.Author.Needs.{needs}
@@ -7,7 +9,9 @@ use Rattle.position.proofs.places.separator_at.Tie as tie
 
 returns : tie.Need-returns
 unfolding majority
-returns c = rw (← (c .before .ones-from .ensures .0), lt-ltb _ _ (c .if1 .taken))
+returns c =
+    let more : c .before .before .args .distance < 2 * c .before .ones-from .result = omega arith in
+    rw (← (c .before .ones-from .ensures .0), lt-ltb _ _ more)
 
 returns-2 : tie.Need-returns-2
 unfolding majority
