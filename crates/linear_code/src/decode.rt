@@ -26,7 +26,7 @@ fn refused(refusal: u32) -> Decoded
 
 // Refusals 1 to 5 and 14 of any bytes as a card, 14 between 4 and 5, and the track, the offset and the code of a sound one. The rows are
 // dependent where a nonempty set of them has weight 0, so where their least weight is 0; that is known once every row lies within
-// n bits. What 14 and 5 test is known before either is tested, so that the order stands in the two tests alone.
+// n bits.
 pub fn decode(card: &[u8]) -> Decoded
     ensures { λ r. ⌜ DecodedFrom (now (card .entry)) r ⌝ }
 {
@@ -47,11 +47,10 @@ pub fn decode(card: &[u8]) -> Decoded
         return refused(4);
     }
     let offset = offset::offset_of(card);
-    let outside = offset::is_outside(offset);
-    let distance = least_weight::least_weight(n, k, rows);
-    if outside {
+    if offset::is_outside(offset) {
         return refused(14);
     }
+    let distance = least_weight::least_weight(n, k, rows);
     if distance == 0 {
         return refused(5);
     }

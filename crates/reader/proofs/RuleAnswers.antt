@@ -1,15 +1,15 @@
 -- What each rule answers, by what its chunks read as: one law for each way out of the code. A chunk that is unreadable is refusal 10;
 -- chunks that read differently are 11; a block that does not exist is 12; a separator that contradicts the codeword is 17. What a search of
 -- the allowed positions has found is answered with the bits that the rule's chunks needed. Assumes nothing.
-use mathlib.Core.Path.{_≡_, refl, sym, _∙_}
+use mathlib.Core.Path.{_≡_, refl, sym}
 use mathlib.Core.Bool.{Bool, true, false, _||_}
 use mathlib.Core.List.{List, [], _∷_}
 use Prim.Native.Nat.{ℕ}
-use borrow.Author.Tests.{eqb-false, eq-eqb, ne-eqb}
+use borrow.Author.Tests.{eq-eqb, ne-eqb}
 use lib.Dec.{eqb}
 use Rattle.bits.specs.Sums.{fromPlace, marked}
 use Rattle.bits.specs.Places.{place}
-use Rattle.model.specs.Refusals.{refuses, firstRefusal, unlessRefused}
+use Rattle.model.specs.Refusals.{Row, refuses, firstRefusal, unlessRefused}
 use Rattle.model.specs.Card.{Code}
 use Rattle.model.specs.Order.{lastCodeword}
 use Rattle.model.specs.Reading.{unreadable, numberRead, Seen, namesFirst, namesSecond, numberBy, separatorBy, parityDiffers}
@@ -22,7 +22,6 @@ use Rattle.model.specs.declared.ChunkBits.{ChunkBits}
 use Rattle.model.specs.declared.ChunkBits.the-variants.{Differing, NotRead}
 use Rattle.model.specs.declared.ReadAnswer.{ReadAnswer}
 use Rattle.model.specs.declared.ReadAnswer.the-variants.{At, Refused}
-use Rattle.code_theory.proofs.Refusals.{NoneHolds, numbered, none-holds, served-if-none, refused-if-some}
 use Rattle.reader.specs.declared.scan.Scan.{Scan}
 use Rattle.reader.specs.Received.{residualIn, SearchedRange, foundAt, answerBy}
 
@@ -36,13 +35,6 @@ pub differs-told : {found : Bool} {separator held : ℕ} (p : ℕ) → found ≡
     → parityDiffers held p ≡ found
 differs-told p told same = rw same (sym told)
 
--- where neither of rows 12 and 17 refuses codeword p, it is not the one at the track's end
-pub not-at-end : (p end : ℕ) (differs : Bool) (refusal : ℕ) → refusal ≡ firstRefusal (refuses 12 (eqb p end) ∷ refuses 17 differs ∷ [])
-    → refusal ≡ 0 → p ≡ end → ⊥
-unfolding NoneHolds numbered
-not-at-end p end differs refusal is none =
-    eqb-false p end (none-holds (refuses 12 (eqb p end) ∷ refuses 17 differs ∷ []) refl (sym is ∙ none) .0)
-
 or-none : (a : Bool) → (a || false) ≡ a
 or-none true = refl
 or-none false = refl
@@ -54,21 +46,25 @@ chunk₁In C x h = heardReading C (chunk₁ C (marked (place h))) (chunk₁ C (p
 abbrev pub chunk₂In : Code → (x h : List ℕ) → Chunk
 chunk₂In C x h = heardReading C (chunk₂ C (marked (place h))) (chunk₂ C (place x))
 
--- where its chunk reads p, rows 12 and 17 are left to rule 1 or 2, and the positions that it allows go by p
+-- rows 12 and 17 of codeword p, where the rule has no block for codeword `end`
+abbrev pub rows12And17 : (end separator p : ℕ) → List Row
+rows12And17 end separator p = refuses 12 (eqb p end) ∷ refuses 17 (parityDiffers separator p) ∷ []
+
+-- where its chunk reads p, these are left to rule 1 or 2, and the positions that it allows go by p
 module _ (C : Code) (s : Seen) (p e : ℕ) where
-  pub rule₁-refusal : s .read₁ ≡ Codeword p e → (differs : Bool) → parityDiffers (separatorBy s 1) p ≡ differs
-      → firstRefusal (refuses 12 (eqb p 0) ∷ refuses 17 differs ∷ []) ≡ firstRefusal (rowsSeen (twoEnds C) s 1)
+  pub rule₁-rows : s .read₁ ≡ Codeword p e
+      → firstRefusal (rowsSeen (twoEnds C) s 1) ≡ firstRefusal (rows12And17 0 (separatorBy s 1) p)
   unfolding rowsSeen rows9To12 unreadable numberBy numberRead twoEnds firstRefusal
-  rule₁-refusal r differs is = rw (r, is, or-none (eqb p 0))
+  rule₁-rows r = rw (r, or-none (eqb p 0))
 
   pub rule₁-range : s .read₁ ≡ Codeword p e → range₁ C p ≡ rangeSeen (twoEnds C) s 1
   unfolding numberBy numberRead twoEnds
   rule₁-range r = rw r
 
-  pub rule₂-refusal : s .read₂ ≡ Codeword p e → (differs : Bool) → parityDiffers (separatorBy s 2) p ≡ differs
-      → firstRefusal (refuses 12 (eqb p (lastCodeword C)) ∷ refuses 17 differs ∷ []) ≡ firstRefusal (rowsSeen (twoEnds C) s 2)
+  pub rule₂-rows : s .read₂ ≡ Codeword p e
+      → firstRefusal (rowsSeen (twoEnds C) s 2) ≡ firstRefusal (rows12And17 (lastCodeword C) (separatorBy s 2) p)
   unfolding rowsSeen rows9To12 unreadable numberBy numberRead twoEnds firstRefusal
-  rule₂-refusal r differs is = rw (r, is)
+  rule₂-rows r = rw r
 
   pub rule₂-range : s .read₂ ≡ Codeword p e → range₂ C p ≡ rangeSeen (twoEnds C) s 2
   unfolding numberBy numberRead twoEnds
@@ -89,15 +85,21 @@ module _ (C : Code) (x h : List ℕ) (s : Seen) where
       let scanned = searched .scanned in
       rw (← (searched .low), ← (searched .high), ← (scanned .nearest), scanned .least, is₁, is₂)
 
-  -- what a rule answers by the refusal that its rows give: that refusal, or the nearest position where there is none
-  module _ (rule refusal : ℕ) (is : refusal ≡ firstRefusal (rowsSeen (twoEnds C) s rule)) where
-    pub refused-by-rule : (refusal ≡ 0 → ⊥) → Refused refusal ≡ answerBy C s (residualIn C x h) rule
-    unfolding answerBy
-    refused-by-rule some = rw (← is) (sym (refused-if-some refusal Refused _ some))
+  -- what rule 1 or 2 answers of codeword p: 12, 17, or the nearest position where neither holds
+  module _ (rule p end : ℕ) (rows : firstRefusal (rowsSeen (twoEnds C) s rule) ≡ firstRefusal (rows12And17 end (separatorBy s rule) p)) where
+    pub no-block : p ≡ end → Refused 12 ≡ answerBy C s (residualIn C x h) rule
+    unfolding answerBy firstRefusal unlessRefused
+    no-block at-end = rw (rows, eq-eqb p end at-end)
 
-    pub served-by-rule : refusal ≡ 0 → nearestBy rule (rangeSeen (twoEnds C) s rule) ≡ answerBy C s (residualIn C x h) rule
-    unfolding answerBy
-    served-by-rule none = sym (served-if-none _ Refused _ (sym is ∙ none))
+    module _ (inside : p ≡ end → ⊥) where
+      pub contradicted : parityDiffers (separatorBy s rule) p ≡ true → Refused 17 ≡ answerBy C s (residualIn C x h) rule
+      unfolding answerBy firstRefusal unlessRefused
+      contradicted differs = rw (rows, ne-eqb p end inside, differs)
+
+      pub agreed : parityDiffers (separatorBy s rule) p ≡ false
+          → nearestBy rule (rangeSeen (twoEnds C) s rule) ≡ answerBy C s (residualIn C x h) rule
+      unfolding answerBy firstRefusal unlessRefused
+      agreed agrees = rw (rows, ne-eqb p end inside, agrees)
 
   pub rule₁-unreadable : s .read₁ ≡ Unreadable → Refused 10 ≡ answerBy C s (residualIn C x h) 1
   unfolding answerBy rowsSeen rows9To12 unreadable firstRefusal unlessRefused

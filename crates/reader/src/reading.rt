@@ -2,11 +2,9 @@
 // that contradicts the codeword is refusal 17. The rules read a word over the places that are heard, which `heard` marks: all of a plain
 // word, and the places that aren't lost of one that comes as levels.
 ghost use mathlib.Core.Path.{_≡_};
-ghost use mathlib.Core.List.{[], _∷_};
 ghost use Prim.Native.Nat.{_+_, _≤_};
 ghost use Rattle.bits.specs.Sums.{fromPlace, marked};
 ghost use Rattle.bits.specs.Places.{place};
-ghost use Rattle.model.specs.Refusals.{refuses, firstRefusal};
 ghost use Rattle.model.specs.Answers.{readWord};
 ghost use Rattle.model.specs.Decoded.{meaning};
 ghost use Rattle.model.specs.Words.{wordBits};
@@ -50,38 +48,23 @@ fn found(s: Scan, rule: u32, chunk1: ChunkBits, chunk2: ChunkBits) -> ReadAnswer
     })
 }
 
-// The refusal of a codeword that a rule has read, by what is tested of it: 12 where the codeword stands at the end of the track
-// and the rule's block does not exist, 17 where the rule's separator differs from the parity of its number, and 0 where neither is so.
-fn refusal_of(ends: bool, differs: bool) -> u32
-    ensures { λ r. ⌜ r ≡ firstRefusal (refuses 12 ends ∷ refuses 17 differs ∷ []) ⌝ }
-{
-    if ends {
-        return 12;
-    }
-    if differs {
-        return 17;
-    }
-    0
-}
-
 // What rule 1 answers: it reads chunk 1, and `separator` is what separator 1 reads.
 fn by_rule1(code: DecodedCode, x: [u8; 40], heard: [u8; 40], separator: u32) -> ReadAnswer
     requires { ⌜ Sound (meaning code) × NothingSpare (meaning code) x heard ⌝ }
     ensures { λ r. ⌜ AnswersRule (meaning code) x heard 1 separator r ⌝ }
 {
     let at = layout::layout_of(code);
-    match chunk_reading(code, x, heard, at.chunk1) {
-        Chunk::Codeword { number, unlike } => {
-            let differs = naming::contradicts(separator, number);
-            let refusal = refusal_of(number == 0, differs);
-            if refusal != 0 {
-                return ReadAnswer::Refused(refusal);
-            }
-            let s = nearest::nearest_before(code, x, heard, number);
-            found(s, 1, ChunkBits::Differing(unlike), ChunkBits::NotRead)
-        }
-        Chunk::Unreadable => ReadAnswer::Refused(10),
+    let Chunk::Codeword { number, unlike } = chunk_reading(code, x, heard, at.chunk1) else {
+        return ReadAnswer::Refused(10);
+    };
+    if number == 0 {
+        return ReadAnswer::Refused(12);
     }
+    if naming::contradicts(separator, number) {
+        return ReadAnswer::Refused(17);
+    }
+    let s = nearest::nearest_before(code, x, heard, number);
+    found(s, 1, ChunkBits::Differing(unlike), ChunkBits::NotRead)
 }
 
 // What rule 2 answers: it reads chunk 2, and `separator` is what separator 3 reads.
@@ -90,18 +73,17 @@ fn by_rule2(code: DecodedCode, x: [u8; 40], heard: [u8; 40], separator: u32) -> 
     ensures { λ r. ⌜ AnswersRule (meaning code) x heard 2 separator r ⌝ }
 {
     let at = layout::layout_of(code);
-    match chunk_reading(code, x, heard, at.chunk2) {
-        Chunk::Codeword { number, unlike } => {
-            let differs = naming::contradicts(separator, number);
-            let refusal = refusal_of(number == blocks::last_codeword(code), differs);
-            if refusal != 0 {
-                return ReadAnswer::Refused(refusal);
-            }
-            let s = nearest::nearest_after(code, x, heard, number);
-            found(s, 2, ChunkBits::NotRead, ChunkBits::Differing(unlike))
-        }
-        Chunk::Unreadable => ReadAnswer::Refused(10),
+    let Chunk::Codeword { number, unlike } = chunk_reading(code, x, heard, at.chunk2) else {
+        return ReadAnswer::Refused(10);
+    };
+    if number == blocks::last_codeword(code) {
+        return ReadAnswer::Refused(12);
     }
+    if naming::contradicts(separator, number) {
+        return ReadAnswer::Refused(17);
+    }
+    let s = nearest::nearest_after(code, x, heard, number);
+    found(s, 2, ChunkBits::NotRead, ChunkBits::Differing(unlike))
 }
 
 // What rule 3 answers: it reads both chunks, which must read alike, and `separator` is what separator 1 reads.
@@ -166,12 +148,11 @@ pub fn read(code: DecodedCode, word: &[u8]) -> ReadAnswer
     }
     let x = words::received(word);
     let bits = layout::layout_of(code).bits;
-    let named = naming::named_rule(code, x);
-    let rule = named.rule;
-    let spare = places::ones_from(x, bits, 8 * len as u32 - bits);
-    if spare != 0 {
+    if places::ones_from(x, bits, 8 * len as u32 - bits) != 0 {
         return ReadAnswer::Refused(8);
     }
+    let named = naming::named_rule(code, x);
+    let rule = named.rule;
     if rule == 0 {
         return ReadAnswer::Refused(9);
     }

@@ -32,7 +32,7 @@ second-passed c = c .before .before .before .before
 abbrev third-passed : tie.Else4 → tie.Else3
 third-passed c = c .before .before .before
 
-abbrev fourth-passed : tie.After-least-weight → tie.Else4
+abbrev fourth-passed : tie.Else5 → tie.Else4
 fourth-passed c = c .before .before .before
 
 abbrev card₂ : tie.Else2 → List ℕ
@@ -77,7 +77,7 @@ is-misplaced c =
 placed : (c : tie.Else4) → misplaced (card₄ c) ≡ false
 placed c = sym (is-misplaced (c .before)) ∙ c .if4 .left
 
--- past the fourth test: the offset, whose bits a local holds, what the fifth asks of it, and the least weight of the card's rows
+-- past the fourth test: the offset, whose bits a local holds, and what the fifth asks of it
 abbrev offset : tie.After-offset-of → ℤ
 offset c = toZ w32 (ofZ w32 (c .offset-of .result))
 
@@ -87,16 +87,16 @@ is-offset c = toZ-ofZ (record { sfits = c .offset-of .ok }) ∙ c .offset-of .en
 is-outside : (c : tie.After-is-outside) → c .is-outside .result ≡ offsetOutside (offsetOf (card₄ (c .before .before)))
 is-outside c = rw (is-offset (c .before)) at (c .is-outside .ensures)
 
+-- past the fifth test: the offset is in its range, and the least weight of the card's rows
+in-range : (c : tie.Else5) → offsetOutside (offsetOf (card₄ (fourth-passed c))) ≡ false
+in-range c = sym (is-outside (c .before)) ∙ c .if5 .left
+
 is-least : (c : tie.After-least-weight)
-    → let b = card₄ (fourth-passed c) in Narrow (lengthOf b) (rowCountOf b) (rowOf b) → c .least-weight .result ≡ least b
+    → let b = card₄ (fourth-passed (c .before)) in Narrow (lengthOf b) (rowCountOf b) (rowOf b) → c .least-weight .result ≡ least b
 is-least c =
-    let fourth = fourth-passed c in
+    let fourth = fourth-passed (c .before) in
     let limited = third-passed fourth .before in
     least-of-card _ _ _ _ _ (is-n limited) (is-k limited) (fourth .before .before .rows-of .ensures) (c .least-weight .ensures)
-
--- past the fifth test
-in-range : (c : tie.Else5) → offsetOutside (offsetOf (card₄ (fourth-passed (c .before)))) ≡ false
-in-range c = sym (is-outside (c .before .before)) ∙ c .if5 .left
 
 returns : tie.Need-returns
 returns c = refused-from _ _ 1 (c .refused .ensures) (refusal-1 _ (c .before .if1 .taken)) (λ e. omega arith)
@@ -126,26 +126,26 @@ returns-4 c =
 
 least-weight-requires : tie.Need-least-weight-requires
 least-weight-requires c κs =
-    let third = third-passed (c .before .before) in
+    let third = third-passed (fourth-passed c) in
     let bounds = limits-of-test _ _ (within third) in
     (omega (arith, is-n (third .before), bounds .1), omega (arith, is-k (third .before), bounds .3))
 
 returns-5 : tie.Need-returns-5
 returns-5 c =
-    let weighed = c .before .before in
-    let fourth = fourth-passed weighed in
+    let told = c .before .before in
+    let fourth = told .before .before in
     let third = third-passed fourth in
     let second = second-passed third in
-    let test = sym (is-outside (weighed .before)) ∙ c .before .if5 .taken in
+    let test = sym (is-outside told) ∙ c .before .if5 .taken in
     refused-from _ _ 14 (c .refused5 .ensures)
     (refusal-14 _ (within third) (whole second) (checked second) (placed fourth) test)
     (λ e. omega arith)
 
 returns-6 : tie.Need-returns-6
 returns-6 c =
-    let fifth = c .before .before in
-    let weighed = fifth .before in
-    let fourth = fourth-passed weighed in
+    let weighed = c .before .before in
+    let fifth = weighed .before in
+    let fourth = fourth-passed fifth in
     let third = third-passed fourth in
     let second = second-passed third in
     refused-from _ _ 5 (c .refused6 .ensures)
@@ -154,15 +154,15 @@ returns-6 c =
 
 returns-7 : tie.Need-returns-7
 returns-7 c =
-    let fifth = c .before .before in
-    let weighed = fifth .before in
-    let fourth = fourth-passed weighed in
+    let weighed = c .before .before in
+    let fifth = weighed .before in
+    let fourth = fourth-passed fifth in
     let third = third-passed fourth in
     let second = second-passed third in
     let rows = fourth .before .before .rows-of in
     let sound =
     not-refused _ (within third) (whole second) (checked second) (placed fourth) (in-range fifth) _ (is-least weighed) (c .before .if6 .left) in
-    decoded-from _ _ sound refl (c .track-of .ensures) (is-offset (weighed .before .before))
+    decoded-from _ _ sound refl (c .track-of .ensures) (is-offset (fifth .before .before))
     (code-of-least _ sound _ _ _ (rows .result) (is-n (third .before)) (is-k (third .before)) (rows .ensures) (is-least weighed))
 
 pub decode-spec : {M : Type 1} → statement M
@@ -187,9 +187,9 @@ decode-spec =
     returns-4
     (λ c κs. search needs)
     (λ c κs. search needs)
-    least-weight-requires
     (λ c κs. search needs)
     returns-5
+    least-weight-requires
     (λ c κs. search needs)
     returns-6
     (λ c κs. search needs)

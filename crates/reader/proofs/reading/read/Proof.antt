@@ -25,32 +25,20 @@ use Rattle.reader.proofs.reading.read.Tie as tie
 held : (c : tie.After-received) → place (c .received .result) ≡ place (c .before .before .before .before .args .word .now)
 held c = fun-ext (c .received .ensures)
 
--- the rule that is named, and its separator, are those of the received word
-named : (c : tie.After-named-rule)
-    → let first = c .before .before .before .before .before .before in
-    NamesOf (seen (meaning (first .args .code)) (place (first .args .word .now))) (c .named-rule .result)
-named c = rw (held (c .before .before)) at (c .named-rule .ensures)
-
-rule : (c : tie.After-named-rule)
-    → let first = c .before .before .before .before .before .before in
-    c .named-rule .result .rule ≡ ruleNamed (meaning (first .args .code)) (place (first .args .word .now))
-unfolding ruleNamed
-rule c = named c .rule
-
 -- the count of ones is that of the spare bits
 spare-ones : (c : tie.After-ones-from)
-    → let got = c .before .before .before in
+    → let got = c .before .before in
     let C = meaning (got .before .before .before .before .args .code) in
     c .ones-from .result ≡ sumBelow (fromPlace (wordBits C) (place (got .received .result))) (8 * wordLength C - wordBits C)
 spare-ones c =
-    let laid = c .before .before in
+    let laid = c .before in
     let sized = laid .before .before .before in
     rw (laid .layout-of .ensures .bits-are, sized .word-length .ensures .0) at (c .ones-from .ensures .0)
 
 -- the way back: from the count of ones to the array, and to the call
 module _ (c : tie.After-ones-from) where
   abbrev got : tie.After-received
-  got = c .before .before .before
+  got = c .before .before
 
   abbrev first : tie.Start
   first = got .before .before .before .before
@@ -68,6 +56,16 @@ module _ (c : tie.After-ones-from) where
   spare : not (eqb (c .ones-from .result) 0) ≡ spareSet C received
   spare = spare-test C received (got .received .result) (got .received .ensures) _ (spare-ones c)
 
+-- the rule that is named, and its separator, are those of the received word
+named : (c : tie.After-named-rule)
+    → let counted = c .before .before in NamesOf (seen (C counted) (place (received counted))) (c .named-rule .result)
+named c = rw (held (got (c .before .before))) at (c .named-rule .ensures)
+
+rule : (c : tie.After-named-rule)
+    → let counted = c .before .before in c .named-rule .result .rule ≡ ruleNamed (C counted) (place (received counted))
+unfolding ruleNamed
+rule c = named c .rule
+
 returns : tie.Need-returns
 returns c = refused-6 _ _ (λ e. c .if1 .taken (e ∙ sym (c .before .word-length .ensures .0)))
 
@@ -76,27 +74,33 @@ returns-2 c = let counted = c .before in refused-8 _ _ (whole counted) _ (spare 
 
 returns-3 : tie.Need-returns-3
 returns-3 c =
-    let counted = c .before .before in
-    refused-9 _ _ (whole counted) _ (spare counted) (c .before .if2 .left) (sym (rule (counted .before)) ∙ c .if3 .taken)
+    let at-named = c .before in
+    let none = at-named .before in
+    let counted = none .before in
+    let unnamed : at-named .named-rule .result .rule ≡ 0 = omega arith in
+    refused-9 _ _ (whole counted) _ (spare counted) (none .if2 .left) (sym (rule at-named) ∙ unnamed)
 
 by-rule-requires : tie.Need-by-rule-requires
 by-rule-requires c κs =
-    let counted = c .before .before .before in
+    let at-named = c .before .before in
+    let none = at-named .before in
+    let counted = none .before in
     let array = got counted .received in
-    let none = none-spare _ _ (whole counted) _ (spare counted) (c .before .before .if2 .left) in (
+    let unset = none-spare _ _ (whole counted) _ (spare counted) (none .if2 .left) in (
       first counted .pre,
-      nothing-spare (C counted) (received counted) (array .result) (array .ensures) _ (whole counted) none,
+      nothing-spare (C counted) (received counted) (array .result) (array .ensures) _ (whole counted) unset,
       omega (arith, c .before .if3 .left),
-      counted .before .named-rule .ensures .at-most-three,
+      at-named .named-rule .ensures .at-most-three,
     )
 
 returns-4 : tie.Need-returns-4
 returns-4 c =
     let marked = c .before in
-    let counted = marked .before .before .before in
-    let at-named = counted .before in
-    read-by-rule _ _ (whole counted) _ (spare counted) (marked .before .before .if2 .left) (first counted .pre) _ _
-    (held (at-named .before .before)) (marked .all-heard .ensures) _
+    let at-named = marked .before .before in
+    let none = at-named .before in
+    let counted = none .before in
+    read-by-rule _ _ (whole counted) _ (spare counted) (none .if2 .left) (first counted .pre) _ _
+    (held (got counted)) (marked .all-heard .ensures) _
     (rw (named at-named .separator, rule at-named) at (c .by-rule .ensures))
 
 pub read-spec : {M : Type 1} → statement M
@@ -107,12 +111,12 @@ read-spec =
     returns
     (λ c κs. search needs)
     (λ c κs. search needs)
-    (λ c κs. search needs)
     (λ c. search needs)
     (λ c. search needs)
     (λ c. search needs)
     (λ c κs. search needs)
     returns-2
+    (λ c κs. search needs)
     returns-3
     (λ c κs. search needs)
     by-rule-requires

@@ -2,6 +2,7 @@
 -- and otherwise the nearest is what it was; a law of `Scanned` says either. Assumes nothing.
 use Rattle.reader.proofs.Scanning.{scanned-nearer, scanned-no-nearer}
 use mathlib.Core.Path.{refl}
+use native.Mathlib.Omega.{arith}
 use borrow.Author.Needs.{needs}
 use Rattle.reader.proofs.scan.advance.Statement.{statement}
 use Rattle.reader.proofs.scan.advance.Tie as tie
@@ -9,7 +10,7 @@ use Rattle.reader.proofs.scan.advance.Tie as tie
 returns : tie.Need-returns
 returns c = (
   (refl, refl, refl),
-  λ f scanned next. scanned-nearer f _ scanned _ next (c .if1 .taken),
+  λ f scanned next. scanned-nearer f _ scanned _ next (omega arith),
 )
 
 returns-2 : tie.Need-returns-2
