@@ -81,17 +81,12 @@ module _ (C : Code) where
       (λ (l : D ≤ 2 * wrong). lt-leb wrong ((D - 1) / 2) (omega arith) ∙ sym (le-ltb (2 * wrong + lost) D (omega arith)))
       (lt-or-le (2 * wrong) D)
 
-  module _ (D-pos : 1 ≤ C .D) where
-    pub plain-near : (x : ℕ → ℕ) → withinRadius C x ≡ withinLosses C everywhere x
-    unfolding withinRadius withinLosses
-    plain-near x =
-        fun-ext (λ p.
-        ap (λ (count : ℕ → ℕ). leb (count p) (radius C)) (plain-count x)
-        ∙ half (C .D) (chunkWrong C everywhere x p) _ D-pos (none-lost everywhere (C .n) (λ q b. refl)))
-
-    pub plain-reading : (x : ℕ → ℕ) → chunkReading C x ≡ heardReading C everywhere x
-    unfolding chunkReading heardReading
-    plain-reading x = ap₂ (λ (near : ℕ → Bool) (count : ℕ → ℕ). readFirst near count (2 ^ C .k)) (plain-near x) (plain-count x)
+  pub plain-near : 1 ≤ C .D → (x : ℕ → ℕ) → withinRadius C x ≡ withinLosses C everywhere x
+  unfolding withinRadius withinLosses
+  plain-near D-pos x =
+      fun-ext (λ p.
+      ap (λ (count : ℕ → ℕ). leb (count p) (radius C)) (plain-count x)
+      ∙ half (C .D) (chunkWrong C everywhere x p) _ D-pos (none-lost everywhere (C .n) (λ q b. refl)))
 
 -- the status and the values of a chunk's reading
 abbrev pub ChunkTold : (refusal : ℕ) → Code → (x : ℕ → ℕ) → Chunk → Type 0

@@ -1,24 +1,25 @@
--- A sound card's code keeps the chunk promise: the first codeword for which 2 × wrong + lost is below D is the only one, blocks follow
--- one another, and consecutive codewords differ in one row. Assumes nothing.
+-- A sound card's code keeps the chunk promise: the first codeword within the radius, or for which 2 × wrong + lost is below D, is the only
+-- one, blocks follow one another, and consecutive codewords differ in one row. Two readers that keep a promise answer alike, so where
+-- nothing is lost a chunk reads by either half of it as by the other. Assumes nothing.
 use mathlib.Core.Path.{_∙_, _≡_, refl, sym, fun-ext}
 use mathlib.Core.Bool.{Bool, true}
 use Prim.Native.Nat.{ℕ, _+_, _^_, _≤_}
 use native.Mathlib.Omega.{arith}
 use lib.Pow.{pow-mono, pow-pos}
-use borrow.Author.Tests.{ltb-true}
+use borrow.Author.Tests.{leb-true, ltb-true}
 use Rattle.bits.specs.Sums.{everywhere}
 use Rattle.bits.proofs.Numbers.{not-true}
 use Rattle.model.specs.Card.{Code}
 use Rattle.model.specs.Order.{lastCodeword}
-use Rattle.model.specs.Reading.{readFirst, chunkReading}
+use Rattle.model.specs.Reading.{withinRadius, readFirst, chunkReading}
 use Rattle.model.specs.Levels.{withinLosses, heardReading}
 use Rattle.model.specs.declared.Chunk.{Chunk}
 use Rattle.model.specs.declared.Chunk.the-variants.{Codeword, Unreadable}
 use Rattle.code_theory.specs.Promise.{Sound, ReadsNear, ReadsHeard, ReadsChunks, ChunkPromise}
 use Rattle.code_theory.proofs.Codewords.{step-distance}
-use Rattle.code_theory.proofs.LeastDistance.{D-low, one-within-losses}
+use Rattle.code_theory.proofs.LeastDistance.{D-low, one-within-losses, one-within-radius}
 use Rattle.code_theory.proofs.Starts.{start-zero, start-next}
-use Rattle.code_theory.proofs.ChunkReading.{reading-first, reading-near, plain-count, plain-near, plain-reading}
+use Rattle.code_theory.proofs.ChunkReading.{reading-first, reading-near, plain-count, plain-near}
 
 -- Where no chunk has two codewords near to it, the first one is the one, and the search keeps the promise.
 pub first-reads : {X : Type 0} {last : ℕ} {near : X → ℕ → Bool} {count : X → ℕ → ℕ}
@@ -39,6 +40,13 @@ pub one-near : (C : Code) → Sound C → (heard : ℕ → Bool) (x : ℕ → �
 unfolding withinLosses
 one-near C S heard x i j li lj hi hj = one-within-losses C S heard x i j li lj (ltb-true _ _ hi) (ltb-true _ _ hj)
 
+-- so either search keeps its half of the promise
+plain-search-keeps : (C : Code) → Sound C → ReadsChunks C (chunkReading C)
+unfolding chunkReading lastCodeword withinRadius
+plain-search-keeps C S =
+    first-reads (λ x i j li lj hi hj. one-within-radius C S x i j li lj (leb-true _ _ hi) (leb-true _ _ hj))
+    (2 ^ C .k) (omega (arith, pow-pos (C .k)))
+
 search-keeps : (C : Code) → Sound C → (heard : ℕ → Bool) → ReadsHeard C heard (heardReading C heard)
 unfolding heardReading lastCodeword
 search-keeps C S heard = first-reads (one-near C S heard) (2 ^ C .k) (omega (arith, pow-pos (C .k)))
@@ -53,16 +61,12 @@ promise C S =
     record {
       D-pos = D-low C S;
       two-codewords = two-codewords C S;
+      plain = plain-search-keeps C S;
       chunks = search-keeps C S;
       start-zero = start-zero C;
       start-next = start-next C;
       step = step-distance C;
     }
-
--- so the plain reading of chunks keeps its own: the codeword within the radius, the case of nothing lost
-pub plain-keeps : (C : Code) → ChunkPromise C → ReadsChunks C (chunkReading C)
-plain-keeps C P =
-    rw (fun-ext (plain-near C (P .D-pos)), fun-ext (plain-reading C (P .D-pos)), fun-ext (plain-count C)) (P .chunks everywhere)
 
 -- two readers that promise to read chunks answer alike on every chunk, readable or not
 pub readers-agree : {X : Type 0} {last : ℕ} {near : X → ℕ → Bool} {count : X → ℕ → ℕ} (f g : X → Chunk) → ReadsNear X last near count f
@@ -75,3 +79,12 @@ readers-agree f g F G x = by-answer (f x) refl (g x) refl
     by-answer Unreadable h (Codeword p e) k =
         let is = G .within x p e k in F .reads x p (is .0) (is .1) ∙ rw (← (is .2)) (sym k)
     by-answer Unreadable h Unreadable k = h ∙ sym k
+
+-- where every place is heard, a reader that promises to read plain chunks promises just what one over the places heard does
+pub plain-as-heard : (C : Code) → 1 ≤ C .D → {read : (ℕ → ℕ) → Chunk} → ReadsChunks C read → ReadsHeard C everywhere read
+plain-as-heard C D-pos keeps = rw (fun-ext (plain-near C D-pos), fun-ext (plain-count C)) at keeps
+
+-- so a plain chunk reads by the promise of plain chunks as it does where nothing is lost
+pub plain-reading : (C : Code) → ChunkPromise C → (x : ℕ → ℕ) → chunkReading C x ≡ heardReading C everywhere x
+plain-reading C P =
+    readers-agree (chunkReading C) (heardReading C everywhere) (plain-as-heard C (P .D-pos) (P .plain)) (P .chunks everywhere)

@@ -5,7 +5,7 @@ use mathlib.Core.Bool.{Bool, true}
 use Prim.Native.Nat.{ℕ, _+_, _^_, _≤_, _<_}
 use Rattle.model.specs.Card.{Code, sumOfRows, leastWeight}
 use Rattle.model.specs.Order.{lastCodeword, changedWeight, blockLength, start}
-use Rattle.model.specs.Reading.{chunkDistance, withinRadius}
+use Rattle.model.specs.Reading.{chunkDistance, withinRadius, chunkReading}
 use Rattle.model.specs.Levels.{chunkWrong, withinLosses, heardReading}
 use Rattle.model.specs.declared.Chunk.{Chunk}
 use Rattle.model.specs.declared.Chunk.the-variants.{Codeword}
@@ -42,11 +42,13 @@ abbrev pub ReadsChunks : Code → ((ℕ → ℕ) → Chunk) → Type 0
 ReadsChunks C read = ReadsNear (ℕ → ℕ) (lastCodeword C) (withinRadius C) (chunkDistance C) read
 
 -- The chunk promise: all that the laws of words and reading know of the code and its order (only the bounds on the size of numbers,
--- which code needs, go by the card's limits)
+-- which code needs, go by the card's limits). Of the reading of chunks it has two halves: words of plain bits ask the first alone, which
+-- the reader that votes keeps as well, and words of which bits may be lost the second.
 pub record ChunkPromise (C : Code) : Type 0 where
   pub D-pos : 1 ≤ C .D
   -- there are two codewords at least, so every position lies on the way from one to the next
   pub two-codewords : 1 ≤ lastCodeword C
+  pub plain : ReadsChunks C (chunkReading C)
   pub chunks : (heard : ℕ → Bool) → ReadsHeard C heard (heardReading C heard)
   -- the first block starts at 0, and each one where the one before it ends
   pub start-zero : start C 0 ≡ 0

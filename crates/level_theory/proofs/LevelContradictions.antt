@@ -28,7 +28,7 @@ module _ (card : List ℕ) (levels : List Float) where
       let C = codeOf card in
       let (sound, none, is) = levels-show card levels r answered in
       rw (← is)
-      (parity-agrees C (seenOf card levels) (reads-in-code C (card-promise card sound) (told-sees-chunks C (toldAt levels))) none)
+      (parity-agrees C (seenOf card levels) (reads-in-code C (told-sees-chunks C (card-promise card sound) (toldAt levels))) none)
 
   pub pasted-levels-never-read : PastedLevelsNeverRead card levels (levelsAnswer card levels .answer)
   unfolding PastedLevelsNeverRead toldAt
@@ -36,14 +36,13 @@ module _ (card : List ℕ) (levels : List Float) where
       let C = codeOf card in
       let s = seenOf card levels in
       let (sound, none, _) = levels-show card levels r answered in
-      let promise = card-promise card sound in
       let reads : separatorBy s (ruleSeen s) ≡ i % 2 =
       ⊎-elim (λ read. read)
       (λ (units, below).
-      separator-from C promise (told-sees C (sound-card card sound) (toldAt levels) (λ p b. unit-told (units p b))) i (pasted .in-code) below)
+      separator-from C (told-sees C (sound-card card sound) (toldAt levels) (λ p b. unit-told (units p b))) i (pasted .in-code) below)
       (pasted .separator) in
-      pasted-refused C promise (told-sees-chunks C (toldAt levels)) i j c (pasted .in-code′) (pasted .differ) reads (pasted .named)
-      (pasted .chunk) none
+      pasted-refused C (told-sees-chunks C (card-promise card sound) (toldAt levels)) i j c (pasted .in-code′) (pasted .differ) reads
+      (pasted .named) (pasted .chunk) none
 
   pub levels-as-before-unless-contradicted : LevelsAsBeforeUnlessContradicted card levels (levelsAnswer card levels .answer)
   unfolding LevelsAsBeforeUnlessContradicted levelsAnswerBefore levelsAnswer levelsAnswered levelsRefusal rowsOfLevels rowsSeen rows9To12 numbered

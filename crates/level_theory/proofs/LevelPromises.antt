@@ -78,7 +78,7 @@ nearest-over-heard card levels sound whole inside =
     let promised = card-promise card sound in
     let word = toldAt levels in
     rw (levels-sound card levels sound, read-if-inside C levels whole inside)
-    (reading-is-nearest C promised (seenTold C word) (reads-in-code C promised (told-sees-chunks C word)) _)
+    (reading-is-nearest C promised (seenTold C word) (reads-in-code C (told-sees-chunks C promised word)) _)
 
 -- a word that is read shows that its card is sound and that no row holds of what its levels tell, and the answer is its reading
 pub levels-show : (card : List ℕ) (levels : List Float) (r : Reading) → levelsAnswer card levels .answer ≡ At r
@@ -99,7 +99,7 @@ tells-wrong-of-chunks card levels r answered =
     let C = codeOf card in
     let word = toldAt levels in
     let (sound, none, is) = levels-show card levels r answered in
-    rw (← is) (wrong-of-chunks C (card-promise card sound) (seenTold C word) (told-sees-chunks C word) _ none)
+    rw (← is) (wrong-of-chunks C (seenTold C word) (told-sees-chunks C (card-promise card sound) word) _ none)
 
 -- ---- levels of 1 and -1
 

@@ -10,20 +10,26 @@ use Rattle.bits.proofs.Heard.{heard-ext}
 use Rattle.model.specs.Card.{Code}
 use Rattle.model.specs.Words.{wordBits, chunkSize, placesBefore}
 use Rattle.model.specs.Reading.{majority, chunkReading, seen, residual}
-use Rattle.model.specs.Levels.{isHeard, bitTold, heardIn, bitsIn, separatorReading, toldReading, seenTold, residualHeard}
+use Rattle.model.specs.Levels.{isHeard, bitTold, heardIn, bitsIn, heardReading, separatorReading, toldReading, seenTold, residualHeard}
 use Rattle.model.specs.declared.Told.{Told}
-use Rattle.code_theory.specs.Promise.{Sound}
-use Rattle.code_theory.proofs.ChunkReading.{heard-reading-ext, plain-reading}
-use Rattle.code_theory.proofs.LeastDistance.{D-low, D-high}
-use Rattle.position_theory.specs.SeenChunks.{SeesChunks}
+use Rattle.code_theory.specs.Promise.{Sound, ChunkPromise}
+use Rattle.code_theory.proofs.ChunkReading.{heard-reading-ext}
+use Rattle.code_theory.proofs.LeastDistance.{D-high}
+use Rattle.code_theory.proofs.Promise.{promise, plain-reading}
+use Rattle.position_theory.specs.SeenChunks.{SeesChunk, SeesChunks}
 use Rattle.position_theory.proofs.Telling.{TellsParity, Sees}
 use Rattle.position_theory.proofs.PlainSeen.{plain-residual}
 use Rattle.level_theory.proofs.UnitsTold.{UnitOrLost}
 use Rattle.level_theory.proofs.SeparatorsTell.{separator-bit, separator-tells, separator-as-bits}
 
-pub told-sees-chunks : (C : Code) (word : ℕ → Told) → SeesChunks C (heardIn word) (bitsIn word) (seenTold C word)
-unfolding seenTold
-told-sees-chunks C word = record { first = refl; second = refl }
+module _ (C : Code) (promised : ChunkPromise C) where
+  told-sees-chunk : (chunk : ℕ → Told) → SeesChunk C (heardIn chunk) (bitsIn chunk) (toldReading C chunk)
+  told-sees-chunk chunk =
+      record { reader = heardReading C (heardIn chunk); keeps = promised .chunks (heardIn chunk); answers = refl }
+
+  pub told-sees-chunks : (word : ℕ → Told) → SeesChunks C (heardIn word) (bitsIn word) (seenTold C word)
+  unfolding seenTold
+  told-sees-chunks word = record { first = told-sees-chunk _; second = told-sees-chunk _ }
 
 module _ (C : Code) (sound : Sound C) (word : ℕ → Told) (units : (p : ℕ) → p < wordBits C → UnitOrLost (word p)) where
   few : C .D ≤ 2 ^ 24
@@ -42,7 +48,7 @@ module _ (C : Code) (sound : Sound C) (word : ℕ → Told) (units : (p : ℕ) �
   unfolding seenTold placesBefore chunkSize
   told-sees =
       record {
-        chunks = told-sees-chunks C word;
+        chunks = told-sees-chunks C (promise C sound) word;
         separator₁ = rw (← ap (separatorReading (C .D)) (from-place-zero word)) (tells-from 0 (omega arith));
         separator₂ = tells-from (C .D + C .n) (omega arith);
         separator₃ = tells-from (C .D + C .n + C .D + C .n) (omega arith);
@@ -60,7 +66,7 @@ module _ (C : Code) (sound : Sound C) (word : ℕ → Told) (units : (p : ℕ) �
     chunk-from : (at : ℕ) → at + C .n ≤ wordBits C → toldReading C (fromPlace at word) ≡ chunkReading C (fromPlace at x)
     chunk-from at room =
         heard-reading-ext C {heard′ = everywhere} (λ p b. heard (at + p) (omega arith)) (λ p b. sym (same (at + p) (omega arith)))
-        ∙ sym (plain-reading C (D-low C sound) (fromPlace at x))
+        ∙ sym (plain-reading C (promise C sound) (fromPlace at x))
 
     first-separator : separatorReading (C .D) word ≡ majority (C .D) x
     first-separator =

@@ -27,8 +27,9 @@ use Rattle.model.specs.Levels.{chunkWrong, withinLosses, heardReading}
 use Rattle.model.specs.declared.Chunk.{Chunk}
 use Rattle.model.specs.declared.Chunk.the-variants.{Unreadable}
 use Rattle.code_theory.specs.Promise.{Sound}
-use Rattle.code_theory.proofs.LeastDistance.{codeword-narrow, D-low}
-use Rattle.code_theory.proofs.ChunkReading.{reading-passed, heard-reading-ext, plain-reading, chunk-told}
+use Rattle.code_theory.proofs.LeastDistance.{codeword-narrow}
+use Rattle.code_theory.proofs.ChunkReading.{reading-passed, heard-reading-ext, chunk-told}
+use Rattle.code_theory.proofs.Promise.{promise, plain-reading}
 use Rattle.linear_code.specs.FirstWithin.{unlikeBits, nearBits, firstWithin}
 
 -- ---- rows cut to the places heard
@@ -107,4 +108,4 @@ module _ (C : Code) (sound : Sound C) (x h : ℕ) (fits : x < 2 ^ C .n) (mask : 
       plain all =
           heard-reading-ext C {heard = heard} {heard′ = everywhere}
           (λ p b. eq-eqb (bit h p) 1 (ap (λ (m : ℕ). bit m p) all ∙ bit-all-ones (C .n) p b)) (λ p b. refl)
-          ∙ sym (plain-reading C (D-low C sound) (bit x))
+          ∙ sym (plain-reading C (promise C sound) (bit x))

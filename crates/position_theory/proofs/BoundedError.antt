@@ -83,7 +83,7 @@ module _ (C : Code) (promise : ChunkPromise C) {heard : ℕ → Bool} {x : ℕ �
       let walked : (p : ℕ) → p < wordBits C → u p ≡ walk (word C i) (word C (i + 1)) m p =
       λ p b. same p b ∙ word-in-block C promise i m inside room p b in
       let told =
-      whole-tell C promise sees next m
+      whole-tell C sees next m
       (λ c b whole. rw (wrong-in-ext C heard x walked c b) at (within c b (undivided-if-whole C promise i m c inside room b whole))) in
       true-allowed C promise s i m inside room (true-case (next .parities) told)
 
@@ -104,7 +104,7 @@ module _ (C : Code) (promise : ChunkPromise C) {heard : ℕ → Bool} {x : ℕ �
       × (residualOf answer ≤ residualHeard C heard x position)
   unfolding residualHeard
   error-of-seen position u h same within =
-      answer-near C promise s (reads-in-code C promise (sees .chunks)) (residualHeard C heard x) (lostBelow heard (wordBits C))
+      answer-near C promise s (reads-in-code C (sees .chunks)) (residualHeard C heard x) (lostBelow heard (wordBits C))
       (counted-residuals heard (wordBits C) (wordAt C) x) position (position-allowed position u h same within)
 
 -- a bound may be loosened

@@ -16,7 +16,7 @@ use Rattle.model.specs.Order.{codeword}
 use Rattle.model.specs.Words.{chunkSize, placesBefore, chunk₁, chunk₂, wordAt, wordBytes}
 use Rattle.model.specs.Reading.{chunkDistance, Seen, seen, ruleSeen, ruleNamed, namesFirst, namesSecond, numberBy}
 use Rattle.model.specs.Reading.{allowed, residual, bitsNeeded, nearest}
-use Rattle.model.specs.Levels.{withinLosses, heardReading}
+use Rattle.model.specs.Levels.{withinLosses}
 use Rattle.model.specs.Statuses.{bitsValue}
 use Rattle.model.specs.Answers.{readAnswer}
 use Rattle.model.specs.declared.Chunk.{Chunk}
@@ -26,7 +26,7 @@ use Rattle.model.specs.declared.ReadAnswer.the-variants.{At}
 use Rattle.code_theory.specs.Promise.{ChunkPromise}
 use Rattle.code_theory.proofs.ChunkReading.{plain-count}
 use Rattle.position_theory.specs.Damage.{turnedIn}
-use Rattle.position_theory.specs.SeenChunks.{SeesChunks, NamedReads}
+use Rattle.position_theory.specs.SeenChunks.{SeesChunk, SeesChunks, NamedReads}
 use Rattle.position_theory.specs.Nearest.{refusalOf, allowedBy}
 use Rattle.position_theory.specs.ChunkBits.{TellsBits, TellsWrong, BitsOfChunks, WrongOfChunks}
 use Rattle.position_theory.specs.ChunkBits.{TellsBitsOfChunks, NeededAsTurned}
@@ -38,16 +38,16 @@ use Rattle.position_theory.proofs.BoundedError.{all-within, turned-in-e
 use Rattle.position_theory.proofs.Demands.{card-promise, read-sound}
 use Rattle.position_theory.proofs.ReadWords.{read-if-served, read-shows}
 
-module _ (C : Code) (promise : ChunkPromise C) where
+module _ (C : Code) where
   -- the bits of a chunk that reads as codeword p where it is named
-  tells-wrong : (named : Bool) (heard : ℕ → Bool) (chunk : ℕ → ℕ) (read : Chunk) → read ≡ heardReading C heard chunk → (p : ℕ)
+  tells-wrong : (named : Bool) (heard : ℕ → Bool) (chunk : ℕ → ℕ) (read : Chunk) → SeesChunk C heard chunk read → (p : ℕ)
       → NamedReads named read p → TellsWrong C named heard chunk p (bitsNeeded named read)
   unfolding TellsWrong bitsNeeded withinLosses
-  tells-wrong true heard chunk read is p reads =
+  tells-wrong true heard chunk read sees p reads =
       let (e, reads-p) = reads refl in
-      let (_, near, counted) = promise .chunks heard .within chunk p e (sym is ∙ reads-p) in
+      let (_, near, counted) = sees .keeps .within chunk p e (sym (sees .answers) ∙ reads-p) in
       (e, rw reads-p, counted, rw counted (ltb-true _ _ near))
-  tells-wrong false heard chunk read is p reads = refl
+  tells-wrong false heard chunk read sees p reads = refl
 
   -- the reading of whatever is seen of a word of which no row holds, by any residual
   pub wrong-of-chunks : {heard : ℕ → Bool} {x : ℕ → ℕ} (s : Seen) → SeesChunks C heard x s → (residual : ℕ → ℕ) → refusalOf C s ≡ 0
@@ -55,7 +55,7 @@ module _ (C : Code) (promise : ChunkPromise C) where
       WrongOfChunks C heard x s (r .rule) (r .chunk1) (r .chunk2)
   unfolding nearest
   wrong-of-chunks s sees residual none =
-      let reads = word-reads C s (reads-in-code C promise sees) none in
+      let reads = word-reads C s (reads-in-code C sees) none in
       record {
         by-rule = refl;
         p = numberBy s (ruleSeen s);
@@ -73,10 +73,10 @@ module _ (C : Code) (promise : ChunkPromise C) where
       (count, told, (counted ∙ ap (λ (wrong : ℕ → ℕ). wrong p) (sym (plain-count C chunk)), omega arith))
   plain-tells false chunk p answered not-read = not-read
 
-  bits-of-chunks : (x : ℕ → ℕ) → refusalOf C (seen C x) ≡ 0
+  bits-of-chunks : ChunkPromise C → (x : ℕ → ℕ) → refusalOf C (seen C x) ≡ 0
       → let r : Reading = nearest (residual C x) (seen C x) (ruleSeen (seen C x)) (allowedBy C (seen C x)) in
       BitsOfChunks ChunkBits TellsBits C x (r .rule) (r .chunk1) (r .chunk2)
-  bits-of-chunks x none =
+  bits-of-chunks promise x none =
       let bits = wrong-of-chunks (seen C x) (plain-sees-chunks C promise x) (residual C x) none in
       record {
         by-rule = bits .by-rule;
@@ -112,7 +112,7 @@ module _ (C : Code) (promise : ChunkPromise C) where
   unfolding nearest turnedIn placesBefore chunkSize bits-of-chunks wrong-of-chunks
   unlike-allowed x none q within =
       let bits = bits-of-chunks C promise x none in
-      let hold = named-hold C promise (seen C x) (reads-in-code C promise (plain-sees-chunks C promise x)) none q within in (
+      let hold = named-hold C promise (seen C x) (reads-in-code C (plain-sees-chunks C promise x)) none q within in (
         needed-is C _ (chunk₁ C x) _ _ (bits .first) (chunk₁ C (wordAt C q)) (hold .0),
         needed-is C _ (chunk₂ C x) _ _ (bits .second) (chunk₂ C (wordAt C q)) (hold .1),
       )

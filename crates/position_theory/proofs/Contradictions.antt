@@ -20,7 +20,6 @@ use Rattle.model.specs.Reading.{rows9To12, rowsSeen, rowsOf, nearest}
 use Rattle.model.specs.Answers.{rowsOfWord, readRefusal, readAnswer}
 use Rattle.model.specs.declared.Reading.{Reading}
 use Rattle.model.specs.declared.ReadAnswer.the-variants.{At, Refused}
-use Rattle.code_theory.specs.Promise.{ChunkPromise}
 use Rattle.code_theory.proofs.Refusals.{numbered, rows-after, refused-if-some, refused-by-card, past-card}
 use Rattle.position_theory.specs.Damage.{ChunkBelowD}
 use Rattle.position_theory.specs.SeenChunks.{SeesChunks}
@@ -51,25 +50,25 @@ parity-agrees C s kinds none =
     }
 
 -- a separator from w(i), with 2 × wrong + lost below D, reads as the parity of i
-pub separator-from : (C : Code) → ChunkPromise C → {heard : ℕ → Bool} {x : ℕ → ℕ} {s : Seen} → Sees C heard x s → (i : ℕ) → i ≤ lastCodeword C
+pub separator-from : (C : Code) {heard : ℕ → Bool} {x : ℕ → ℕ} {s : Seen} → Sees C heard x s → (i : ℕ) → i ≤ lastCodeword C
     → ChunkBelowD C heard (word C i) x (separatorChunk (ruleSeen s)) → separatorBy s (ruleSeen s) ≡ i % 2
 unfolding Tells separatorOf
-separator-from C promise {heard} {x} {s} sees i in-code =
-    let tells : (c : ℕ) → c < 5 → ChunkBelowD C heard (word C i) x c → Tells s c i = λ c five. word-tells C promise sees c i five in-code in
+separator-from C {heard} {x} {s} sees i in-code =
+    let tells : (c : ℕ) → c < 5 → ChunkBelowD C heard (word C i) x c → Tells s c i = λ c five. word-tells C sees c i five in-code in
     of-every-rule (λ rule. ChunkBelowD C heard (word C i) x (separatorChunk rule) → separatorBy s rule ≡ i % 2)
     (tells 0 (omega arith)) (tells 0 (omega arith)) (tells 4 (omega arith)) (tells 0 (omega arith)) (s .s₁) (s .s₂) (s .s₃)
 
-module _ (C : Code) (promise : ChunkPromise C) {heard : ℕ → Bool} {x : ℕ → ℕ} {s : Seen} (sees : SeesChunks C heard x s) where
+module _ (C : Code) {heard : ℕ → Bool} {x : ℕ → ℕ} {s : Seen} (sees : SeesChunks C heard x s) where
   -- a code chunk from w(j), likewise, reads as codeword j; so where the rule names it and no row holds, j is the number that is read
   chunk-from : (j c : ℕ) → j ≤ lastCodeword C → NamedChunk (ruleSeen s) c → ChunkBelowD C heard (word C j) x c
       → WordReads C s (ruleSeen s) → numberBy s (ruleSeen s) ≡ j
   chunk-from j c in-code named below reads =
       ⊎-elim
       (λ (is, first).
-      let tells = first-tells C promise sees (word C j) j in-code (word-chunk C j 1 (omega arith)) (rw is at below) in
+      let tells = first-tells C sees (word C j) j in-code (word-chunk C j 1 (omega arith)) (rw is at below) in
       sym (number-of (s .read₁) (reads .first first)) ∙ number-of (s .read₁) tells)
       (λ (is, second).
-      let tells = second-tells C promise sees (word C j) j in-code (word-chunk C j 3 (omega arith)) (rw is at below) in
+      let tells = second-tells C sees (word C j) j in-code (word-chunk C j 3 (omega arith)) (rw is at below) in
       sym (number-of (s .read₂) (reads .second second)) ∙ number-of (s .read₂) tells)
       named
 
@@ -77,7 +76,7 @@ module _ (C : Code) (promise : ChunkPromise C) {heard : ℕ → Bool} {x : ℕ �
   pub pasted-refused : (i j c : ℕ) → j ≤ lastCodeword C → (i % 2 ≡ j % 2 → ⊥) → separatorBy s (ruleSeen s) ≡ i % 2
       → NamedChunk (ruleSeen s) c → ChunkBelowD C heard (word C j) x c → refusalOf C s ≡ 0 → ⊥
   pasted-refused i j c in-code differ reads-i named below none =
-      let reads = word-reads C s (reads-in-code C promise sees) none in
+      let reads = word-reads C s (reads-in-code C sees) none in
       differ (sym reads-i ∙ reads .parity ∙ ap (λ (p : ℕ). p % 2) (chunk-from j c in-code named below reads))
 
 -- ---- row 17 is the last
@@ -128,7 +127,7 @@ read-only-if-parity-agrees card received r answered =
     let C = codeOf card in
     let (sound, none, is) = read-shows card received r answered in
     let promise = card-promise card sound in
-    rw (← is) (parity-agrees C (seen C (place received)) (reads-in-code C promise (plain-sees-chunks C promise (place received))) none)
+    rw (← is) (parity-agrees C (seen C (place received)) (reads-in-code C (plain-sees-chunks C promise (place received))) none)
 
 pub pasted-never-read : (card received : List ℕ) → PastedNeverRead card received (readAnswer card received)
 unfolding PastedNeverRead ruleNamed
@@ -139,8 +138,8 @@ pasted-never-read card received i j c pasted r answered =
     let promise = card-promise card sound in
     let separator = within-radius-below C promise (word C i) x _ (pasted .separator) in
     let chunk = within-radius-below C promise (word C j) x _ (pasted .chunk) in
-    pasted-refused C promise (plain-sees-chunks C promise x) i j c (pasted .in-code′) (pasted .differ)
-    (separator-from C promise (plain-sees C promise (place-bit received)) i (pasted .in-code) separator) (pasted .named) chunk none
+    pasted-refused C (plain-sees-chunks C promise x) i j c (pasted .in-code′) (pasted .differ)
+    (separator-from C (plain-sees C promise (place-bit received)) i (pasted .in-code) separator) (pasted .named) chunk none
 
 pub as-before-unless-contradicted : (card received : List ℕ) → AsBeforeUnlessContradicted card received (readAnswer card received)
 unfolding AsBeforeUnlessContradicted answerBefore readAnswer readRefusal rowsOfWord rowsOf rowsSeen rows9To12 numbered ruleNamed

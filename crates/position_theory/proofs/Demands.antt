@@ -63,7 +63,7 @@ read-sound card received sound = past-card (cardRefusal card) _ _ _ sound
 -- demand 2, reading: of a plain word's bits, and of a card and a word as bytes
 plain-nearest : (C : Code) → ChunkPromise C → (x : ℕ → ℕ) → IsReading C x (reading C x)
 plain-nearest C promise x =
-    reading-is-nearest C promise (seen C x) (reads-in-code C promise (plain-sees-chunks C promise x)) (residual C x)
+    reading-is-nearest C promise (seen C x) (reads-in-code C (plain-sees-chunks C promise x)) (residual C x)
 
 pub nearest-of-allowed : (card received : List ℕ) → NearestOfAllowed card received (readAnswer card received)
 unfolding NearestOfAllowed

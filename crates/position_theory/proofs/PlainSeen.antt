@@ -14,12 +14,12 @@ use Rattle.bits.proofs.Distance.{distance-ext-left}
 use Rattle.bits.proofs.Heard.{all-heard, none-lost}
 use Rattle.model.specs.Card.{Code, radius}
 use Rattle.model.specs.Words.{chunkSize, placesBefore, chunkOf}
-use Rattle.model.specs.Reading.{majority, seen, residual}
+use Rattle.model.specs.Reading.{majority, chunkReading, seen, residual}
 use Rattle.model.specs.Levels.{residualHeard}
 use Rattle.code_theory.specs.Promise.{ChunkPromise}
-use Rattle.code_theory.proofs.ChunkReading.{plain-reading}
+use Rattle.code_theory.proofs.Promise.{plain-as-heard}
 use Rattle.position_theory.specs.Damage.{turnedIn, wrongIn, lostIn, ChunkBelowD}
-use Rattle.position_theory.specs.SeenChunks.{SeesChunks}
+use Rattle.position_theory.specs.SeenChunks.{SeesChunk, SeesChunks}
 use Rattle.position_theory.proofs.Telling.{TellsParity, Sees}
 
 -- the ones of a separator, counted as places unlike 0 or unlike 1
@@ -56,10 +56,14 @@ majority-tells D y hy =
     }
 
 module _ (C : Code) (promise : ChunkPromise C) where
+  -- by the promise of plain chunks alone
+  plain-sees-chunk : (chunk : ℕ → ℕ) → SeesChunk C everywhere chunk (chunkReading C chunk)
+  plain-sees-chunk chunk =
+      record { reader = chunkReading C; keeps = plain-as-heard C (promise .D-pos) (promise .plain); answers = refl }
+
   pub plain-sees-chunks : (x : ℕ → ℕ) → SeesChunks C everywhere x (seen C x)
   unfolding seen
-  plain-sees-chunks x =
-      record { first = plain-reading C (promise .D-pos) _; second = plain-reading C (promise .D-pos) _ }
+  plain-sees-chunks x = record { first = plain-sees-chunk _; second = plain-sees-chunk _ }
 
   pub plain-sees : {x : ℕ → ℕ} → ((p : ℕ) → x p < 2) → Sees C everywhere x (seen C x)
   unfolding seen placesBefore chunkSize

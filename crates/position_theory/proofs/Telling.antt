@@ -2,7 +2,7 @@
 -- lost is below D tells the number that it stands for: a separator if it is seen so that this holds, a code chunk by the chunk promise. So on
 -- the way from one codeword to the next every whole chunk tells; of the one that is divided nothing is asked and nothing said.
 -- Assumes nothing.
-use mathlib.Core.Path.{_≡_}
+use mathlib.Core.Path.{_≡_, _∙_}
 use mathlib.Core.Bool.{Bool}
 use mathlib.Core.Logic.{inl, inr}
 use Prim.Native.Nat.{ℕ, zero, suc, _+_, _*_, _%_, _≤_, _<_}
@@ -16,10 +16,10 @@ use Rattle.model.specs.Card.{Code}
 use Rattle.model.specs.Order.{codeword, lastCodeword}
 use Rattle.model.specs.Words.{chunkSize, placesBefore, chunkOf, word}
 use Rattle.model.specs.Reading.{Seen}
-use Rattle.model.specs.Levels.{chunkWrong, withinLosses, heardReading}
-use Rattle.code_theory.specs.Promise.{ChunkPromise}
+use Rattle.model.specs.Levels.{chunkWrong, withinLosses}
+use Rattle.model.specs.declared.Chunk.{Chunk}
 use Rattle.position_theory.specs.Damage.{wrongIn, lostIn, ChunkBelowD}
-use Rattle.position_theory.specs.SeenChunks.{SeesChunks, ReadsAs}
+use Rattle.position_theory.specs.SeenChunks.{SeesChunk, SeesChunks, ReadsAs}
 use Rattle.position_theory.proofs.Words.{content, word-chunk}
 use Rattle.position_theory.proofs.Between.{Next, WholeAt, chunk-ahead, chunk-passed}
 
@@ -55,34 +55,34 @@ pub record Sees (C : Code) (heard : ℕ → Bool) (x : ℕ → ℕ) (s : Seen) :
   pub separator₃ : TellsParity (C .D) (chunkOf C 4 heard) (chunkOf C 4 x) (s .s₃)
 
 -- a code chunk that holds c(j) reads j if 2 × wrong + lost is below D
-code-reads : (C : Code) → ChunkPromise C → (heard : ℕ → Bool) (j : ℕ) (u y : ℕ → ℕ) → j ≤ lastCodeword C
-    → ((p : ℕ) → p < C .n → u p ≡ bit (codeword C j) p) → 2 * distanceHeard heard (C .n) u y + lostBelow heard (C .n) < C .D
-    → ReadsAs (heardReading C heard y) j
+code-reads : (C : Code) {heard : ℕ → Bool} {y : ℕ → ℕ} {answer : Chunk} → SeesChunk C heard y answer → (j : ℕ) (u : ℕ → ℕ)
+    → j ≤ lastCodeword C → ((p : ℕ) → p < C .n → u p ≡ bit (codeword C j) p)
+    → 2 * distanceHeard heard (C .n) u y + lostBelow heard (C .n) < C .D → ReadsAs answer j
 unfolding withinLosses chunkWrong
-code-reads C promise heard j u y h hu d =
-    (_, promise .chunks heard .reads y j h (lt-ltb _ _ (rw (heard-ext-left heard (C .n) y hu) at d)))
+code-reads C {heard} {y} sees j u h hu d =
+    (_, sees .answers ∙ sees .keeps .reads y j h (lt-ltb _ _ (rw (heard-ext-left heard (C .n) y hu) at d)))
 
 -- so does what is seen of either code chunk of a word u that holds c(j) there
-module _ (C : Code) (promise : ChunkPromise C) {heard : ℕ → Bool} {x : ℕ → ℕ} {s : Seen} (sees : SeesChunks C heard x s) where
+module _ (C : Code) {heard : ℕ → Bool} {x : ℕ → ℕ} {s : Seen} (sees : SeesChunks C heard x s) where
   pub first-tells : (u : ℕ → ℕ) (j : ℕ) → j ≤ lastCodeword C
       → ((p : ℕ) → p < chunkSize (C .D) (C .n) 1 → chunkOf C 1 u p ≡ content C j 1 p) → ChunkBelowD C heard u x 1 → ReadsAs (s .read₁) j
   unfolding chunkSize placesBefore content wrongIn lostIn
-  first-tells u j h same d = rw (sees .first) (code-reads C promise _ j _ _ h same d)
+  first-tells u j h same d = code-reads C (sees .first) j _ h same d
 
   pub second-tells : (u : ℕ → ℕ) (j : ℕ) → j ≤ lastCodeword C
       → ((p : ℕ) → p < chunkSize (C .D) (C .n) 3 → chunkOf C 3 u p ≡ content C j 3 p) → ChunkBelowD C heard u x 3 → ReadsAs (s .read₂) j
   unfolding chunkSize placesBefore content wrongIn lostIn
-  second-tells u j h same d = rw (sees .second) (code-reads C promise _ j _ _ h same d)
+  second-tells u j h same d = code-reads C (sees .second) j _ h same d
 
-module _ (C : Code) (promise : ChunkPromise C) {heard : ℕ → Bool} {x : ℕ → ℕ} {s : Seen} (sees : Sees C heard x s) where
+module _ (C : Code) {heard : ℕ → Bool} {x : ℕ → ℕ} {s : Seen} (sees : Sees C heard x s) where
   -- chunk c of a word u that holds there what w(j) holds, with 2 × wrong + lost below D
   chunk-tells : (u : ℕ → ℕ) (c j : ℕ) → c < 5 → j ≤ lastCodeword C
       → ((p : ℕ) → p < chunkSize (C .D) (C .n) c → chunkOf C c u p ≡ content C j c p) → ChunkBelowD C heard u x c → Tells s c j
   unfolding Tells chunkSize placesBefore content wrongIn lostIn
   chunk-tells u zero j b h same d = sees .separator₁ .tells (j % 2) (fromPlace 0 u) (omega arith) same d
-  chunk-tells u (suc zero) j b h same d = first-tells C promise (sees .chunks) u j h same d
+  chunk-tells u (suc zero) j b h same d = first-tells C (sees .chunks) u j h same d
   chunk-tells u (suc (suc zero)) j b h same d = sees .separator₂ .tells (j % 2) _ (omega arith) same d
-  chunk-tells u (suc (suc (suc zero))) j b h same d = second-tells C promise (sees .chunks) u j h same d
+  chunk-tells u (suc (suc (suc zero))) j b h same d = second-tells C (sees .chunks) u j h same d
   chunk-tells u (suc (suc (suc (suc zero)))) j b h same d = sees .separator₃ .tells (j % 2) _ (omega arith) same d
   chunk-tells u (suc (suc (suc (suc (suc c))))) j b h same d = absurd (omega arith)
 

@@ -1,19 +1,26 @@
--- What both ways to see a word have in common, plain bits and levels: the code chunks are read over the places that are heard, all of them
--- in a plain word; and what it is for a chunk to read as a codeword. Assumes nothing.
+-- What both ways to see a word have in common, plain bits and levels: the code chunks are read as the chunk promise has it, over the places
+-- that are heard, all of them in a plain word; and what it is for a chunk to read as a codeword. Assumes nothing.
 use mathlib.Core.Path.{_≡_}
 use mathlib.Core.Bool.{Bool, true}
 use Prim.Native.Nat.{ℕ}
 use Rattle.model.specs.Card.{Code}
 use Rattle.model.specs.Words.{chunk₁, chunk₂}
 use Rattle.model.specs.Reading.{Seen}
-use Rattle.model.specs.Levels.{heardReading}
 use Rattle.model.specs.declared.Chunk.{Chunk}
 use Rattle.model.specs.declared.Chunk.the-variants.{Codeword}
+use Rattle.code_theory.specs.Promise.{ReadsHeard}
 
--- the code chunks of what is seen, s, are those of the word x of which these places are heard
+-- what is seen of a code chunk, of which these places are heard, is the answer of a reader, whichever, that keeps the chunk promise over
+-- them
+pub record SeesChunk (C : Code) (heard : ℕ → Bool) (chunk : ℕ → ℕ) (answer : Chunk) : Type 0 where
+  pub reader : (ℕ → ℕ) → Chunk
+  pub keeps : ReadsHeard C heard reader
+  pub answers : answer ≡ reader chunk
+
+-- the code chunks of what is seen, s, are seen so in the word x of which these places are heard
 pub record SeesChunks (C : Code) (heard : ℕ → Bool) (x : ℕ → ℕ) (s : Seen) : Type 0 where
-  pub first : s .read₁ ≡ heardReading C (chunk₁ C heard) (chunk₁ C x)
-  pub second : s .read₂ ≡ heardReading C (chunk₂ C heard) (chunk₂ C x)
+  pub first : SeesChunk C (chunk₁ C heard) (chunk₁ C x) (s .read₁)
+  pub second : SeesChunk C (chunk₂ C heard) (chunk₂ C x) (s .read₂)
 
 -- a code chunk reads as codeword number p; and it does if the rule names it
 abbrev pub ReadsAs : Chunk → (p : ℕ) → Type 0

@@ -20,10 +20,10 @@ use Rattle.model.specs.Words.{wordBits}
 use Rattle.model.specs.declared.ReadAnswer.{ReadAnswer}
 use Rattle.model.specs.declared.ReadAnswer.the-variants.{Refused}
 use Rattle.code_theory.specs.Promise.{Sound}
-use Rattle.code_theory.proofs.Promise.{promise}
+use Rattle.code_theory.proofs.Promise.{promise, plain-reading}
 use Rattle.code_theory.proofs.ChunkReading.{heard-reading-ext}
 use Rattle.code_theory.proofs.Starts.{word-bits-bound}
-use Rattle.position_theory.proofs.PlainSeen.{plain-sees-chunks, plain-residual}
+use Rattle.position_theory.proofs.PlainSeen.{plain-residual}
 use Rattle.position_theory.proofs.WordBytes.{readingOfSeen, read-if-whole}
 use Rattle.reader.specs.Received.{residualIn, SeesIn, AnswersRule, answerBy}
 
@@ -34,11 +34,12 @@ module _ (C : Code) (sound : Sound C) (x h : List ℕ) (all : (p : ℕ) → p < 
 
   -- what is seen of it is what is seen of the places marked, and so is the residual
   plain-in-array : SeesIn C x h (seen C (place x))
+  unfolding seen
   plain-in-array =
-      let sees = plain-sees-chunks C (promise C sound) (place x) in
+      let plain = plain-reading C (promise C sound) in
       record {
-        first = sees .first ∙ heard-reading-ext C (λ p b. sym (all-marked _ (omega arith))) (λ p b. refl);
-        second = sees .second ∙ heard-reading-ext C (λ p b. sym (all-marked _ (omega arith))) (λ p b. refl);
+        first = plain _ ∙ heard-reading-ext C (λ p b. sym (all-marked _ (omega arith))) (λ p b. refl);
+        second = plain _ ∙ heard-reading-ext C (λ p b. sym (all-marked _ (omega arith))) (λ p b. refl);
       }
 
   plain-residual-in : residualIn C x h ≡ residual C (place x)

@@ -9,14 +9,13 @@ use Rattle.bits.specs.Places.{place}
 use Rattle.model.specs.Refusals.{firstRefusal, unlessRefused}
 use Rattle.model.specs.Card.{Code}
 use Rattle.model.specs.Order.{lastCodeword, start}
-use Rattle.model.specs.Words.{wordBits, word}
+use Rattle.model.specs.Words.{wordBits, chunk₁, chunk₂, word}
 use Rattle.model.specs.Reading.{Seen, separatorBy, Range, twoEnds, rowsSeen, rangeSeen, nearest}
-use Rattle.model.specs.Levels.{residualHeard}
+use Rattle.model.specs.Levels.{heardReading, residualHeard}
 use Rattle.model.specs.declared.ChunkBits.{ChunkBits}
 use Rattle.model.specs.declared.ReadAnswer.{ReadAnswer}
 use Rattle.model.specs.declared.ReadAnswer.the-variants.{At, Refused}
 use Rattle.code_theory.specs.Promise.{Sound}
-use Rattle.position_theory.specs.SeenChunks.{SeesChunks}
 use Rattle.reader.specs.declared.scan.Scan.{Scan}
 use Rattle.reader.specs.Scanned.{Scanned}
 
@@ -25,8 +24,9 @@ abbrev pub residualIn : Code → (x h : List ℕ) (position : ℕ) → ℕ
 residualIn C x h = residualHeard C (marked (place h)) (place x)
 
 -- s is what is seen of the code chunks of the word in x, over these places
-abbrev pub SeesIn : Code → (x h : List ℕ) → Seen → Type 0
-SeesIn C x h s = SeesChunks C (marked (place h)) (place x) s
+pub record SeesIn (C : Code) (x h : List ℕ) (s : Seen) : Type 0 where
+  pub first : s .read₁ ≡ heardReading C (chunk₁ C (marked (place h))) (chunk₁ C (place x))
+  pub second : s .read₂ ≡ heardReading C (chunk₂ C (marked (place h))) (chunk₂ C (place x))
 
 -- what is answered of a search that has come to the last position that the rule allows, with the bits that either code chunk needed
 unfoldable pub foundAt : Scan → (rule : ℕ) (chunk1 chunk2 : ChunkBits) → ReadAnswer

@@ -23,7 +23,7 @@ use Rattle.model.specs.ReedMuller.{votedRows, votedNumber, votedDistance, voted
 use Rattle.model.specs.declared.Chunk.the-variants.{Codeword, Unreadable}
 use Rattle.code_theory.specs.Promise.{Sound, ReadsChunks}
 use Rattle.code_theory.proofs.Gray.{gray-below, gray-injective, gray-onto}
-use Rattle.code_theory.proofs.Promise.{promise, plain-keeps, readers-agree}
+use Rattle.code_theory.proofs.Promise.{promise, readers-agree}
 use Rattle.reed_muller_theory.proofs.Sets.{set-below, set-size}
 use Rattle.reed_muller_theory.proofs.Polynomials.{valueAt, coefficientOf, degree-of-codeword, codeword-is-polynomial}
 use Rattle.reed_muller_theory.proofs.LeastDistance.{coefficient-bit, coefficient-of-row, least-distance}
@@ -133,7 +133,7 @@ voting-keeps r m order =
 -- so on every chunk, readable or not, it answers as the search does
 pub votes-as-search : (r m : ℕ) → r ≤ m → Sound (reedMuller r m) → (x : ℕ → ℕ) → votedReading r m x ≡ chunkReading (reedMuller r m) x
 votes-as-search r m order sound =
-    readers-agree (votedReading r m) (chunkReading (reedMuller r m)) (voting-keeps r m order) (plain-keeps (reedMuller r m) (promise (reedMuller r m) sound))
+    readers-agree (votedReading r m) (chunkReading (reedMuller r m)) (voting-keeps r m order) (promise (reedMuller r m) sound .plain)
 
 -- where a vote is tied, the chunk is not read
 pub tied-is-unreadable : (r m : ℕ) → r ≤ m → (x : ℕ → ℕ) (S : ℕ) → S < 2 ^ m → weight m S ≤ r
