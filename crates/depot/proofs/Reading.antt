@@ -11,9 +11,9 @@ use Rattle.model.specs.declared.ReadAnswer.{ReadAnswer}
 use Rattle.model.specs.declared.ReadAnswer.the-variants.{Refused}
 use Rattle.code_theory.proofs.Refusals.{refused-by-card}
 use Rattle.position_theory.specs.Demands.{NearestOfAllowed, OffByAtMostTwiceTurned, OffByAtMostTurnedAndResidual}
-use Rattle.position_theory.specs.DividedChunks.{ReadWithDividedAtWill, BarHoldsPosition, AtMostOneDivided}
+use Rattle.position_theory.specs.DividedChunks.{ReadWithDividedAtWill, BarHoldsPosition}
 use Rattle.position_theory.proofs.Demands.{read-sound, nearest-of-allowed, off-by-at-most-twice-turned, off-by-at-most-turned-and-residual}
-use Rattle.position_theory.proofs.Demands.{read-with-divided-at-will, bar-holds-position, at-most-one-divided}
+use Rattle.position_theory.proofs.Demands.{read-with-divided-at-will, bar-holds-position}
 use Rattle.position_theory.specs.ChunkBits.{TellsBitsOfChunks, NeededAsTurned}
 use Rattle.position_theory.proofs.ChunkBits.{tells-bits-of-chunks, needed-as-turned}
 use Rattle.position_theory.specs.Contradictions.{ReadOnlyIfParityAgrees, PastedNeverRead, AsBeforeUnlessContradicted}
@@ -32,12 +32,11 @@ module _ (card received : List ℕ) where
       × (OffByAtMostTurnedAndResidual card received answer
       × (ReadWithDividedAtWill card received answer
       × (BarHoldsPosition card received answer
-      × (AtMostOneDivided card
       × (NearestOfAllowed card received answer
       × (TellsBitsOfChunks card received answer
       × (NeededAsTurned card received answer
       × (ReadOnlyIfParityAgrees card received answer
-      × (PastedNeverRead card received answer × AsBeforeUnlessContradicted card received answer))))))))))))
+      × (PastedNeverRead card received answer × AsBeforeUnlessContradicted card received answer)))))))))))
 
   read-meets : (answer : ReadAnswer) → answer ≡ readAnswer card received → ReadMeets answer
   read-meets answer e =
@@ -46,7 +45,6 @@ module _ (card received : List ℕ) where
       let sharper = off-by-at-most-turned-and-residual card received in
       let divided = read-with-divided-at-will card received in
       let bar = bar-holds-position card received in
-      let one = at-most-one-divided card in
       let nearest = nearest-of-allowed card received in
       let bits = tells-bits-of-chunks card received in
       let turned = needed-as-turned card received in
@@ -54,7 +52,7 @@ module _ (card received : List ℕ) where
       let pasted = pasted-never-read card received in
       let before = as-before-unless-contradicted card received in
       rw e
-      (refl, (status, (values, (demand-3, (sharper, (divided, (bar, (one, (nearest, (bits, (turned, (agrees, (pasted, before)))))))))))))
+      (refl, (status, (values, (demand-3, (sharper, (divided, (bar, (nearest, (bits, (turned, (agrees, (pasted, before))))))))))))
 
   module _ (decoded : Decoded) (from : DecodedFrom card decoded) where
     pub read-card-refused : (decoded .refusal ≡ 0 → ⊥) → ReadMeets (Refused (decoded .refusal))

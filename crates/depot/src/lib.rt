@@ -24,7 +24,7 @@ ghost use Rattle.position_theory.specs.Demands.{WrittenIfServable, UnchangedIfR
 ghost use Rattle.position_theory.specs.Demands.{NearestOfAllowed, OffByAtMostTwiceTurned, OffByAtMostTurnedAndResidual};
 ghost use Rattle.position_theory.specs.ChunkBits.{TellsBitsOfChunks, NeededAsTurned};
 ghost use Rattle.position_theory.specs.Contradictions.{ReadOnlyIfParityAgrees, PastedNeverRead, AsBeforeUnlessContradicted};
-ghost use Rattle.position_theory.specs.DividedChunks.{ReadWithDividedAtWill, BarHoldsPosition, AtMostOneDivided};
+ghost use Rattle.position_theory.specs.DividedChunks.{ReadWithDividedAtWill, BarHoldsPosition};
 ghost use Rattle.level_theory.specs.LevelPromises.{ChunksReadBelowD, NearestOverHeard, TellsWrongOfChunks, AsPlainReading};
 ghost use Rattle.level_theory.specs.LevelPromises.{OffByAtMostTwiceWrongAndLost};
 ghost use Rattle.level_theory.specs.LevelContradictions.{LevelsReadOnlyIfParityAgrees, PastedLevelsNeverRead};
@@ -100,7 +100,7 @@ pub fn write_word(card: &[u8], position: u32, word: &mut [u8]) -> WriteAnswer
 // read needed as many bits as are turned in it. The word is also read, and both distances hold, where the divided chunk of that position's
 // word is turned at will and each other one has at most t bits turned (`divided`). A chunk is divided if some, but not all, of the places
 // in which w(i) and w(i+1) differ in it are taken from w(i+1), i being the position's block: at most one is, and none at a block's start
-// and at the last position (`one_divided`, a law of the definition that `divided` names). If besides at most e bits are turned in all, the
+// and at the last position (the theorem `at-most-one-divided` of position_theory). If besides at most e bits are turned in all, the
 // position lies within the residual plus e steps of the answer, which is the bar about it, and the residual is at most e (`bar`).
 // Of any word that is read, the answer is the nearest of the positions that the rule allows, and how many bits a chunk needed is the count
 // of places in which that chunk of the received word and the codeword that it reads as differ, at most t; and separator 1, by rule 2
@@ -115,7 +115,6 @@ pub fn read_word(card: &[u8], word: &[u8]) -> ReadAnswer
     ensures sharper { λ r. ⌜ OffByAtMostTurnedAndResidual (now (card .entry)) (now (word .entry)) r ⌝ }
     ensures divided { λ r. ⌜ ReadWithDividedAtWill (now (card .entry)) (now (word .entry)) r ⌝ }
     ensures bar { λ r. ⌜ BarHoldsPosition (now (card .entry)) (now (word .entry)) r ⌝ }
-    ensures one_divided { λ r. ⌜ AtMostOneDivided (now (card .entry)) ⌝ }
     ensures nearest { λ r. ⌜ NearestOfAllowed (now (card .entry)) (now (word .entry)) r ⌝ }
     ensures bits { λ r. ⌜ TellsBitsOfChunks (now (card .entry)) (now (word .entry)) r ⌝ }
     ensures turned { λ r. ⌜ NeededAsTurned (now (card .entry)) (now (word .entry)) r ⌝ }

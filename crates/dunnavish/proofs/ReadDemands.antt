@@ -20,8 +20,7 @@ use Rattle.position_theory.specs.Damage.{Near, residualOf}
 use Rattle.position_theory.specs.Demands.{OffByAtMostTwiceTurned, OffByAtMostTurnedAndResidual}
 use Rattle.position_theory.specs.ChunkBits.{TellsBits, BitsOfChunks, TellsBitsOfChunks, NeededAsTurned}
 use Rattle.position_theory.specs.Contradictions.{ReadOnlyIfParityAgrees, PastedNeverRead}
-use Rattle.position_theory.specs.DividedChunks.{ReadWithDividedAtWill, BarHoldsPosition, AtMostOneDivided}
-use Rattle.position_theory.proofs.Demands.{at-most-one-divided}
+use Rattle.position_theory.specs.DividedChunks.{ReadWithDividedAtWill, BarHoldsPosition}
 use Rattle.depot.proofs.Reading as library
 use Rattle.dunnavish.specs.Crossing.{readCount, wrongCount, statusFor, leftBy, UnchangedUnlessZero}
 use Rattle.dunnavish.specs.Demands.{residualLeft, ServedNear, ServedWithinTwiceTurned, ServedWithinTurnedAndResidual}
@@ -106,10 +105,9 @@ module _ (card received lent : List ℕ) where
       × (ServedWithinTurnedAndResidual card received lent status left
       × (ServedWithDividedAtWill card received lent status left
       × (BarLeftHoldsPosition card received lent status left
-      × (AtMostOneDivided card
       × (LeavesBitsOfChunks card received status left
       × (LeavesBitsTurned card received status left
-      × (ServedOnlyIfParityAgrees card received status left × PastedNeverServed card received status))))))))))
+      × (ServedOnlyIfParityAgrees card received status left × PastedNeverServed card received status)))))))))
 
   pub wrong-count-claims-nothing : (length lent ≡ readCount → ⊥) → ReadMeets wrongCount lent
   unfolding ServedWithinTwiceTurned ServedWithinTurnedAndResidual LeavesBitsOfChunks LeavesBitsTurned ServedOnlyIfParityAgrees PastedNeverServed
@@ -124,8 +122,7 @@ module _ (card received lent : List ℕ) where
       let bits : LeavesBitsOfChunks card received wrongCount lent = λ zero. absurd (no-read zero) in
       let turned : LeavesBitsTurned card received wrongCount lent = λ position sound on-track within zero. absurd (no-read zero) in
       let agrees : ServedOnlyIfParityAgrees card received wrongCount lent = λ zero. absurd (no-read zero) in
-      let one = at-most-one-divided card in
-      (status, (left, (unchanged, (bounded, (sharper, (divided, (bar, (one, (bits, (turned, (agrees, λ i j c from. no-read)))))))))))
+      (status, (left, (unchanged, (bounded, (sharper, (divided, (bar, (bits, (turned, (agrees, λ i j c from. no-read))))))))))
 
   -- the clauses of the library's contract that the call for C has cross, one by one
   pub demands-cross : (answer : ReadAnswer) → library.ReadMeets card received answer
@@ -134,7 +131,7 @@ module _ (card received lent : List ℕ) where
   unfolding TellsBitsOfChunks NeededAsTurned LeavesBitsOfChunks LeavesBitsTurned readValues
       ReadOnlyIfParityAgrees PastedNeverRead ServedOnlyIfParityAgrees PastedNeverServed readFigures
   demands-cross answer
-      (is, (_, (values, (bounded, (sharper, (divided, (bar, (one, (_, (tells, (needed, (agrees, (pasted, _)))))))))))))
+      (is, (_, (values, (bounded, (sharper, (divided, (bar, (_, (tells, (needed, (agrees, (pasted, _))))))))))))
       status left (is-status, (is-left, unchanged)) =
       let leaves : ReadLeaves lent answer status left = record { told = _; values = values; is-status = is-status; is-left = is-left } in
       let crosses = reading-crosses lent answer status left leaves in
@@ -151,4 +148,4 @@ module _ (card received lent : List ℕ) where
       let pasted′ : PastedNeverServed card received status =
       λ i j c from. never-crosses lent answer status left leaves (pasted i j c from) in
       rw (← is)
-      (is-status, (is-left, (unchanged, (bounded′, (sharper′, (divided′, (bar′, (one, (bits, (turned, (agrees′, pasted′)))))))))))
+      (is-status, (is-left, (unchanged, (bounded′, (sharper′, (divided′, (bar′, (bits, (turned, (agrees′, pasted′))))))))))

@@ -11,7 +11,6 @@ ghost use Rattle.model.specs.Statuses.{cardStatus, cardValues, writeStatus, bit
 ghost use Rattle.model.specs.Statuses.{levelsStatus, levelsValues, strengthValues};
 ghost use Rattle.model.specs.Statuses.{millimetresStatus, millimetresValues, voteStatus, voteValues};
 ghost use Rattle.model.specs.declared.ReadAnswer.the-variants.{At};
-ghost use Rattle.position_theory.specs.DividedChunks.{AtMostOneDivided};
 ghost use Rattle.dunnavish.specs.Crossing.{cardCount, readCount, strengthCount, numberCount, voteCount, cardBytes};
 ghost use Rattle.dunnavish.specs.Crossing.{statusFor, leftBy, UnchangedUnlessZero};
 ghost use Rattle.dunnavish.specs.Demands.{CheckLeftAsBefore, DistanceLeftAsBefore};
@@ -124,7 +123,6 @@ pub extern "C" fn dunnavish_read_word(card: &[u8], word: &[u8], values: &mut [u3
     ensures sharper { λ r. ⌜ ServedWithinTurnedAndResidual (now (card .entry)) (now (word .entry)) (now (values .entry)) r (now (values .exit)) ⌝ }
     ensures divided { λ r. ⌜ ServedWithDividedAtWill (now (card .entry)) (now (word .entry)) (now (values .entry)) r (now (values .exit)) ⌝ }
     ensures bar { λ r. ⌜ BarLeftHoldsPosition (now (card .entry)) (now (word .entry)) (now (values .entry)) r (now (values .exit)) ⌝ }
-    ensures one_divided { λ r. ⌜ AtMostOneDivided (now (card .entry)) ⌝ }
     ensures bits { λ r. ⌜ LeavesBitsOfChunks (now (card .entry)) (now (word .entry)) r (now (values .exit)) ⌝ }
     ensures turned { λ r. ⌜ LeavesBitsTurned (now (card .entry)) (now (word .entry)) r (now (values .exit)) ⌝ }
     ensures agrees { λ r. ⌜ ServedOnlyIfParityAgrees (now (card .entry)) (now (word .entry)) r (now (values .exit)) ⌝ }

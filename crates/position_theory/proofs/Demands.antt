@@ -112,7 +112,7 @@ off-by-at-most-twice-turned card received position sound h within =
     near-loosen (readAnswer card received) position _ _ (omega arith)
     (read-with-divided-at-will card received position sound h (all-within (codeOf card) position received within) .1)
 
--- at most one chunk is divided
+-- at most one chunk is divided, and none at a block's start and at the last position: no clause of a call, but a law of what the clauses name
 pub at-most-one-divided : (card : List ℕ) → AtMostOneDivided card
 unfolding AtMostOneDivided
 at-most-one-divided card sound = divided-one-by-one (codeOf card) (card-promise card sound)

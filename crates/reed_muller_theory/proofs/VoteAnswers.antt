@@ -1,5 +1,5 @@
 -- What the call that votes answers is what the chunk reads as by voting, where r and m are within the limits and the chunk has n bits.
--- So the answer keeps the chunk promise, and is the answer of the search on the made card. Assumes nothing.
+-- So the answer keeps the promise of plain chunks, and is the answer of the search on the made card. Assumes nothing.
 use mathlib.Core.Path.{_≡_, refl, sym, ap, _∙_}
 use mathlib.Core.Bool.{Bool, true, false, cond, not}
 use mathlib.Core.List.{[], _∷_}

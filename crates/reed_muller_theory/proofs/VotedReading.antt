@@ -1,6 +1,6 @@
--- The reader that votes keeps the chunk promise: where a codeword lies within t of a chunk all votes find its coefficients, and what
--- is answered has been tested. So it answers every chunk as the search does. No vote on a chunk that it reads is tied. Assumes
--- nothing.
+-- The reader that votes keeps the chunk promise's half of plain chunks: where a codeword lies within t of a chunk all votes find its
+-- coefficients, and what is answered has been tested. So it answers every chunk as the search does. No vote on a chunk that it reads is
+-- tied. Assumes nothing.
 use mathlib.Core.Path.{_≡_, refl, sym, _∙_}
 use mathlib.Core.Bool.{Bool, true, false, cond}
 use Prim.Native.Nat.{ℕ, _+_, _-_, _*_, _%_, _^_, _≤_, _<_}
@@ -109,7 +109,7 @@ module _ (r m : ℕ) (order : r ≤ m) (x : ℕ → ℕ) (p : ℕ) (last : p ≤
   near-is-clear =
       voted-clear r m order H unlikeAt (coefficient-bit r m order (gray p)) (degree-of-codeword r m (gray p)) few x turned
 
--- ---- the promise
+-- ---- the promise of plain chunks
 
 -- what is read has been tested
 read-is-near : (r m : ℕ) (x : ℕ → ℕ) (p e : ℕ) → votedReading r m x ≡ Codeword p e
