@@ -21,3 +21,4 @@ pub mod ReadWords
 pub mod ChunkBits
 pub mod Contradictions
 pub mod Writing
+pub mod Witnesses

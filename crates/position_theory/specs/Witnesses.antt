@@ -1,0 +1,147 @@
+-- The promises of the writing and the reading call, held from below. Each row takes one promise of document 01's card A or B, a position or
+-- a damaged word, and whatever is answered, and says what the promise alone then gives, at the border of its premise or of its bound. So a
+-- premise that nobody can meet, or a bound looser than the documents', no longer gives its row. Assumes nothing.
+use mathlib.Core.Path.{_≡_}
+use mathlib.Core.Bool.{true, false}
+use mathlib.Core.List.{List, [], _∷_}
+use Prim.Native.Nat.{ℕ, _+_, _≤_, _<_}
+use Rattle.bits.specs.Places.{differingBits}
+use Rattle.model.specs.Card.{codeOf}
+use Rattle.model.specs.Words.{divided}
+use Rattle.model.specs.Cases.{cardA, cardB}
+use Rattle.model.specs.Statuses.{bitsValue}
+use Rattle.model.specs.declared.ChunkBits.the-variants.{Differing, NotRead}
+use Rattle.model.specs.declared.WriteAnswer.{WriteAnswer}
+use Rattle.model.specs.declared.WriteAnswer.the-variants.{Written, Refused as WriteRefused}
+use Rattle.model.specs.declared.Reading.{Reading}
+use Rattle.model.specs.declared.ReadAnswer.{ReadAnswer}
+use Rattle.model.specs.declared.ReadAnswer.the-variants.{At, Refused}
+use Rattle.position_theory.specs.Demands.{WrittenIfServable, UnchangedIfRefused, NeighboursDifferInOneBit, NoOtherPositionsWord}
+use Rattle.position_theory.specs.Demands.{NearestOfAllowed, OffByAtMostTwiceTurned, OffByAtMostTurnedAndResidual}
+use Rattle.position_theory.specs.DividedChunks.{ReadWithDividedAtWill, BarHoldsPosition, AtMostOneDivided}
+use Rattle.position_theory.specs.ChunkBits.{TellsBitsOfChunks, NeededAsTurned}
+use Rattle.position_theory.specs.Contradictions.{ReadOnlyIfParityAgrees, PastedNeverRead, AsBeforeUnlessContradicted}
+
+-- ---- what rows say of an answer
+
+-- it is read, with this position, residual and rule
+unfoldable pub ReadAs : (position residual rule : ℕ) → ReadAnswer → Type 0
+ReadAs position residual rule (At r) = (r .position ≡ position) × (r .residual ≡ residual) × (r .rule ≡ rule)
+ReadAs position residual rule (Refused refusal) = ⊥
+
+-- it is read, at most e steps from this position
+unfoldable pub ReadWithin : (e position : ℕ) → ReadAnswer → Type 0
+ReadWithin e position (At r) = (r .position ≤ position + e) × (position ≤ r .position + e)
+ReadWithin e position (Refused refusal) = ⊥
+
+-- it is read, at most e and its residual from this position
+unfoldable pub ReadInBar : (e position : ℕ) → ReadAnswer → Type 0
+ReadInBar e position (At r) = ReadWithin (e + r .residual) position (At r)
+ReadInBar e position (Refused refusal) = ⊥
+
+-- ---- words of card B: three bits in each of the chunks separator 1, chunk 1, separator 2, chunk 2, separator 3; t is 1
+
+-- 7 with one bit of chunk 1 turned: document 01 reads it as 5
+abbrev pub sevenDamaged : List ℕ
+sevenDamaged = 0b01011111 ∷ 0b0000000 ∷ []
+
+-- 15, the last position, with one bit of separator 3 turned; it reads as 13, by rule 3, which is just twice as far off
+abbrev pub lastDamaged : List ℕ
+lastDamaged = 0b11111111 ∷ 0b1011111 ∷ []
+
+-- 15 with one bit of each chunk turned
+abbrev pub lastAllDamaged : List ℕ
+lastAllDamaged = 0b10110110 ∷ 0b1101101 ∷ []
+
+-- 0 with one bit of chunk 1 turned
+abbrev pub zeroDamaged : List ℕ
+zeroDamaged = 0b00001000 ∷ 0b0000000 ∷ []
+
+-- w(0) with both code chunks from w(1); the same with one bit turned in separator 1 and one in chunk 1; and with chunk 2 alone from w(1)
+abbrev pub mixed : List ℕ
+mixed = 0b00111000 ∷ 0b0001110 ∷ []
+
+abbrev pub mixedDamaged : List ℕ
+mixedDamaged = 0b00110001 ∷ 0b0001110 ∷ []
+
+abbrev pub mixedInChunk2 : List ℕ
+mixedInChunk2 = 0b00000000 ∷ 0b0001110 ∷ []
+
+-- w(0) with chunk 1 and separator 3 from w(1), by rule 1; with separators 2 and 3 from w(1), by rule 2
+abbrev pub mixedByRule1 : List ℕ
+mixedByRule1 = 0b00111000 ∷ 0b1110000 ∷ []
+
+abbrev pub mixedByRule2 : List ℕ
+mixedByRule2 = 0b11000000 ∷ 0b1110001 ∷ []
+
+-- 4 with chunk 1, which is divided there, turned whole
+abbrev pub dividedTurned : List ℕ
+dividedTurned = 0b00110111 ∷ 0b0000000 ∷ []
+
+-- and of card A, whose t is 0: 00 100 00 000 00
+abbrev pub unreadable : List ℕ
+unreadable = 0b00000100 ∷ 0b0000 ∷ []
+
+-- ---- rows that recur
+
+-- of a position whose divided chunk is turned whole, and of each other chunk one bit, seven in all: the word is read, off by at most seven
+-- and the residual, and by at most fourteen
+abbrev pub SevenAtWill : (position : ℕ) (received : List ℕ) → Type 0
+SevenAtWill position received =
+    (answer : ReadAnswer) → ReadWithDividedAtWill cardB received answer → ReadInBar 7 position answer × ReadWithin 14 position answer
+
+-- the word is not read
+abbrev pub NoneReads : (Promised : ReadAnswer → Type 0) → Type 0
+NoneReads Promised = (r : Reading) → Promised (At r) → ⊥
+
+pub record Witnessed : Type 0 where
+  -- writing: at the last position the word is written, and a refusal leaves what was lent; neighbours are asked of 14 and 15 in either
+  -- order, and of 0; the last position's word is no other's
+  pub written : (answer : WriteAnswer) → WrittenIfServable cardB 15 (0xaa ∷ 0xaa ∷ []) answer → answer ≡ Written
+  pub unchanged : (left : List ℕ) → UnchangedIfRefused (0xaa ∷ 0xaa ∷ []) left (WriteRefused 7) → left ≡ 0xaa ∷ 0xaa ∷ []
+  pub last-is-next : (word : List ℕ) → NeighboursDifferInOneBit cardB 14 word → differingBits word (0xff ∷ 0x7f ∷ []) ≡ 1
+  pub before-last : (word : List ℕ) → NeighboursDifferInOneBit cardB 15 word → differingBits word (0xff ∷ 0x3f ∷ []) ≡ 1
+  pub zero-is-before : (word : List ℕ) → NeighboursDifferInOneBit cardB 1 word → differingBits word (0x00 ∷ 0x00 ∷ []) ≡ 1
+  pub alone : (position : ℕ) → NoOtherPositionsWord cardB position (0xff ∷ 0x7f ∷ []) → position ≡ 15
+  -- the nearest: 5 and 7 are as near, and the smaller is answered; a word pasted from two telegrams is refused by 17
+  pub smaller-of-two : (answer : ReadAnswer) → NearestOfAllowed cardB sevenDamaged answer → ReadAs 5 1 2 answer
+  pub by-17 : (answer : ReadAnswer) → NearestOfAllowed cardB mixed answer → answer ≡ Refused 17
+  -- demand 3: off by at most twice the bits turned, which 5 for 7 and 13 for 15 are; and t bits turned in every chunk
+  pub twice : (answer : ReadAnswer) → OffByAtMostTwiceTurned cardB sevenDamaged answer → ReadWithin 2 7 answer
+  pub twice-at-last : (answer : ReadAnswer) → OffByAtMostTwiceTurned cardB lastDamaged answer → ReadWithin 2 15 answer
+  pub twice-in-all : (answer : ReadAnswer) → OffByAtMostTwiceTurned cardB lastAllDamaged answer → ReadWithin 10 15 answer
+  pub sharper : (answer : ReadAnswer) → OffByAtMostTurnedAndResidual cardB sevenDamaged answer → ReadInBar 1 7 answer
+  pub sharper-at-last : (answer : ReadAnswer) → OffByAtMostTurnedAndResidual cardB lastDamaged answer → ReadInBar 1 15 answer
+  pub sharper-in-all : (answer : ReadAnswer) → OffByAtMostTurnedAndResidual cardB lastAllDamaged answer → ReadInBar 5 15 answer
+  -- each chunk in turn divided and turned whole, each other one with t bits turned; and the bar for just the bits turned
+  pub separator-1-at-will : SevenAtWill 2 (0b01001100 ∷ 0b0010010 ∷ [])
+  pub chunk-1-at-will : SevenAtWill 5 (0b01100110 ∷ 0b0010010 ∷ [])
+  pub separator-2-at-will : SevenAtWill 8 (0b00110110 ∷ 0b0010011 ∷ [])
+  pub chunk-2-at-will : SevenAtWill 11 (0b10110110 ∷ 0b0011001 ∷ [])
+  pub separator-3-at-will : SevenAtWill 14 (0b10110110 ∷ 0b1001101 ∷ [])
+  pub bar : (answer : ReadAnswer) → BarHoldsPosition cardB dividedTurned answer → ReadInBar 3 4 answer
+  pub bar-residual : (r : Reading) → BarHoldsPosition cardB dividedTurned (At r) → r .residual ≤ 3
+  pub one-divided : AtMostOneDivided cardB → (c : ℕ) → c < 5 → divided (codeOf cardB) 14 c ≡ true → c ≡ 4
+  -- bits of chunks: a count of just t, of a chunk that is not named none, and of a chunk with t + 1 bits turned, which is card A's 100, no
+  -- reading
+  pub just-t : (r : Reading) → TellsBitsOfChunks cardB zeroDamaged (At r) → (r .chunk1 ≡ Differing 1) × (r .chunk2 ≡ Differing 0)
+  pub not-named : (r : Reading) → TellsBitsOfChunks cardB sevenDamaged (At r) → (r .chunk1 ≡ NotRead) × (r .chunk2 ≡ Differing 0)
+  pub above-t : NoneReads (TellsBitsOfChunks cardA unreadable)
+  pub needed : (r : Reading) → r .rule ≡ 3 → NeededAsTurned cardB zeroDamaged (At r)
+      → (bitsValue (r .chunk1) ≡ 1) × (bitsValue (r .chunk2) ≡ 0)
+  pub needed-in-all : (r : Reading) → r .rule ≡ 3 → NeededAsTurned cardB lastAllDamaged (At r)
+      → (bitsValue (r .chunk1) ≡ 1) × (bitsValue (r .chunk2) ≡ 1)
+  -- separators that contradict the codeword, by each rule; and words pasted from two telegrams, by each rule and each chunk that it names,
+  -- with t bits turned in both parts
+  pub contradicts : NoneReads (ReadOnlyIfParityAgrees cardB mixed)
+  pub contradicts-by-rule-1 : NoneReads (ReadOnlyIfParityAgrees cardB mixedByRule1)
+  pub contradicts-by-rule-2 : NoneReads (ReadOnlyIfParityAgrees cardB mixedByRule2)
+  pub pasted : NoneReads (PastedNeverRead cardB mixed)
+  pub pasted-damaged : NoneReads (PastedNeverRead cardB mixedDamaged)
+  pub pasted-in-chunk-2 : NoneReads (PastedNeverRead cardB mixedInChunk2)
+  pub pasted-by-rule-1 : NoneReads (PastedNeverRead cardB mixedByRule1)
+  pub pasted-by-rule-2 : NoneReads (PastedNeverRead cardB mixedByRule2)
+  -- what 17 changes: a word that was read is refused by it, another is read as before, and a refusal stays
+  pub refused-now : (answer : ReadAnswer) → AsBeforeUnlessContradicted cardB mixed answer → answer ≡ Refused 17
+  pub read-as-before : (answer : ReadAnswer) → AsBeforeUnlessContradicted cardB sevenDamaged answer → ReadAs 5 1 2 answer
+  pub refused-as-before : (answer : ReadAnswer) → AsBeforeUnlessContradicted cardB mixedInChunk2 answer → answer ≡ Refused 11
