@@ -6,3 +6,4 @@ pub mod SeparatorsTell
 pub mod LevelsSeen
 pub mod LevelPromises
 pub mod LevelContradictions
+pub mod LevelWitnesses

@@ -1,3 +1,4 @@
 pub mod UnitLevels
 pub mod LevelPromises
 pub mod LevelContradictions
+pub mod LevelWitnesses

@@ -1,9 +1,9 @@
 -- Each row by its promise: the premise is computed of the damaged word, and what the promise then says is the row. Assumes nothing.
 use mathlib.Core.Path.{_≡_, refl, sym, ap, _∙_}
-use mathlib.Core.Bool.{Bool, true, false, not, _&&_}
-use mathlib.Core.List.{List, [], _∷_}
+use mathlib.Core.Bool.{true, false, not, _&&_}
+use mathlib.Core.List.{List}
 use mathlib.Core.Logic.{inl, inr, ⊎-elim}
-use Prim.Native.Nat.{ℕ, zero, suc, _+_, _*_, _%_, _≤_, _<_}
+use Prim.Native.Nat.{ℕ, zero, suc, _+_, _%_, _≤_, _<_}
 use native.Mathlib.Nat.{add-comm, eq-or-lt-of-le}
 use native.Mathlib.Omega.{arith}
 use lib.Dec.{leb, ltb, eqb}
@@ -49,7 +49,7 @@ use Rattle.position_theory.proofs.RuleReads.{number-of}
 
 -- ---- premises, as tests that are computed
 
-computed : {a b : ℕ} → leb a b ≡ true → a ≤ b
+pub computed : {a b : ℕ} → leb a b ≡ true → a ≤ b
 computed {a} {b} test = leb-true a b test
 
 -- no chunk has more than t bits turned
@@ -73,7 +73,7 @@ undivided C position received size spare none =
 
 -- ---- what a bound says of an answer
 
-near-within : (answer : ReadAnswer) (position e : ℕ) → Near answer position e → ReadWithin e position answer
+pub near-within : (answer : ReadAnswer) (position e : ℕ) → Near answer position e → ReadWithin e position answer
 unfolding Near ReadWithin
 near-within (At r) position e near = near
 near-within (Refused refusal) position e near = near
@@ -108,14 +108,14 @@ module _ (C : Code) (s : Seen) (residualAt : ℕ → ℕ) where
       (eq-or-lt-of-le up))
       (lt-or-le q q′)
 
-  read-as : (answer : ReadAnswer) → IsReadingOf C s residualAt answer → refusalOf C s ≡ 0
+  pub read-as : (answer : ReadAnswer) → IsReadingOf C s residualAt answer → refusalOf C s ≡ 0
       → let q = nearestIn residualAt (allowedBy C s) in ReadAs q (residualAt q) (ruleSeen s) answer
   unfolding IsReadingOf ReadAs
   read-as (At r) n none =
       let is = nearest-is-one (r .position) (r .residual) (r .rule) n in (is, rw is at (n .counted), n .by-rule)
   read-as (Refused refusal) (is, some) none = some (sym is ∙ none)
 
-  refused-as : (answer : ReadAnswer) → IsReadingOf C s residualAt answer → (refusal : ℕ) → refusalOf C s ≡ suc refusal
+  pub refused-as : (answer : ReadAnswer) → IsReadingOf C s residualAt answer → (refusal : ℕ) → refusalOf C s ≡ suc refusal
       → answer ≡ Refused (suc refusal)
   unfolding IsReadingOf
   refused-as (At r) n refusal some = let none = n .none-refuses in absurd (omega arith)
@@ -145,7 +145,7 @@ none-told C chunk p last bits none in-code (count, told, (counted, few)) =
     omega arith
 
 -- of two codewords, the one by whose number a rule allows positions from 0 on
-first-codeword : (range : ℕ → Range) (p : ℕ) → p ≤ 1 → 0 < range 1 .low → range 0 ≡ range p → range 0 .low ≡ 0 → p ≡ 0
+pub first-codeword : (range : ℕ → Range) (p : ℕ) → p ≤ 1 → 0 < range 1 .low → range 0 ≡ range p → range 0 .low ≡ 0 → p ≡ 0
 first-codeword range zero two far is from = refl
 first-codeword range (suc zero) two far is from = let low = ap (λ (r : Range). r .low) is in absurd (omega arith)
 first-codeword range (suc (suc p)) two far is from = absurd (omega arith)
@@ -154,12 +154,12 @@ first-codeword range (suc (suc p)) two far is from = absurd (omega arith)
 
 module _ (C : Code) (s : Seen) (rule : ℕ) (agrees : ParityAgrees C s rule) where
   -- the rule's separator reads as the parity of the number that a chunk reads, where the rule names this one
-  first-agrees : namesFirst (ruleSeen s) ≡ true → separatorBy s (ruleSeen s) ≡ numberRead (s .read₁) % 2
+  pub first-agrees : namesFirst (ruleSeen s) ≡ true → separatorBy s (ruleSeen s) ≡ numberRead (s .read₁) % 2
   first-agrees named =
       let is = number-of (s .read₁) (agrees .first (rw (agrees .by-rule) named)) in
       rw (agrees .by-rule) at (agrees .parity) ∙ ap (λ (p : ℕ). p % 2) (sym is)
 
-  second-agrees : namesSecond (ruleSeen s) ≡ true → separatorBy s (ruleSeen s) ≡ numberRead (s .read₂) % 2
+  pub second-agrees : namesSecond (ruleSeen s) ≡ true → separatorBy s (ruleSeen s) ≡ numberRead (s .read₂) % 2
   second-agrees named =
       let is = number-of (s .read₂) (agrees .second (rw (agrees .by-rule) named)) in
       rw (agrees .by-rule) at (agrees .parity) ∙ ap (λ (p : ℕ). p % 2) (sym is)
@@ -176,12 +176,12 @@ never-read received i j c in-code in-code′ differ named separator chunk r prom
     let pasted : Pasted (codeOf cardB) (place received) i j c = search (leb-true, eqb-false) in promise i j c pasted r refl
 
 -- card B is sound
-sound : SoundCard cardB
+pub card-B-sound : SoundCard cardB
 unfolding sumBelow weight anyBelow
     highFirst rowOf twosComplement offsetOf storedCheck computedCheck sumOfRows
     firstRefusal withinLimits rowTooWide unusedRowSet unusedByteSet misplaced offsetOutside dependent cardRefusal
     bytesOf rowBytes sealed cardOf cardB
-sound = refl
+card-B-sound = refl
 
 pub witnessed : Witnessed
 unfolding sumBelow distance joinAt walk weight place cut byteOf listOf pack differingBits
@@ -198,30 +198,30 @@ unfolding sumBelow distance joinAt walk weight place cut byteOf listOf pack diff
     unlessContradicted answerBefore AsBeforeUnlessContradicted ReadAs residualOf
 witnessed =
     record {
-      written = λ answer promise. promise sound (computed refl) refl;
+      written = λ answer promise. promise card-B-sound (computed refl) refl;
       unchanged = λ left promise. promise (λ is. let z : _≡_ {A = ℕ} 0 1 = cc in omega arith);
       last-is-next = λ word promise. promise 15 (computed refl) (inl refl);
       before-last = λ word promise. promise 14 (computed refl) (inr refl);
       zero-is-before = λ word promise. promise 0 (computed refl) (inr refl);
       alone = λ position promise. sym (promise 15 (computed refl) refl);
-      smaller-of-two = λ answer promise. read-as _ _ _ answer (promise sound refl refl .0) refl;
-      by-17 = λ answer promise. refused-as _ _ _ answer (promise sound refl refl .0) 16 refl;
-      twice = λ answer promise. near-within answer 7 2 (promise 7 sound (computed refl) (within _ 7 sevenDamaged refl refl refl));
-      twice-at-last = λ answer promise. near-within answer 15 2 (promise 15 sound (computed refl) (within _ 15 lastDamaged refl refl refl));
-      twice-in-all = λ answer promise. near-within answer 15 10 (promise 15 sound (computed refl) (within _ 15 lastAllDamaged refl refl refl));
-      sharper = λ answer promise. near-in-bar answer 7 1 (promise 7 sound (computed refl) (within _ 7 sevenDamaged refl refl refl));
-      sharper-at-last = λ answer promise. near-in-bar answer 15 1 (promise 15 sound (computed refl) (within _ 15 lastDamaged refl refl refl));
-      sharper-in-all = λ answer promise. near-in-bar answer 15 5 (promise 15 sound (computed refl) (within _ 15 lastAllDamaged refl refl refl));
-      separator-1-at-will = seven-at-will 2 _ sound (computed refl) (undivided _ 2 _ refl refl refl) refl;
-      chunk-1-at-will = seven-at-will 5 _ sound (computed refl) (undivided _ 5 _ refl refl refl) refl;
-      separator-2-at-will = seven-at-will 8 _ sound (computed refl) (undivided _ 8 _ refl refl refl) refl;
-      chunk-2-at-will = seven-at-will 11 _ sound (computed refl) (undivided _ 11 _ refl refl refl) refl;
-      separator-3-at-will = seven-at-will 14 _ sound (computed refl) (undivided _ 14 _ refl refl refl) refl;
+      smaller-of-two = λ answer promise. read-as _ _ _ answer (promise card-B-sound refl refl .0) refl;
+      by-17 = λ answer promise. refused-as _ _ _ answer (promise card-B-sound refl refl .0) 16 refl;
+      twice = λ answer promise. near-within answer 7 2 (promise 7 card-B-sound (computed refl) (within _ 7 sevenDamaged refl refl refl));
+      twice-at-last = λ answer promise. near-within answer 15 2 (promise 15 card-B-sound (computed refl) (within _ 15 lastDamaged refl refl refl));
+      twice-in-all = λ answer promise. near-within answer 15 10 (promise 15 card-B-sound (computed refl) (within _ 15 lastAllDamaged refl refl refl));
+      sharper = λ answer promise. near-in-bar answer 7 1 (promise 7 card-B-sound (computed refl) (within _ 7 sevenDamaged refl refl refl));
+      sharper-at-last = λ answer promise. near-in-bar answer 15 1 (promise 15 card-B-sound (computed refl) (within _ 15 lastDamaged refl refl refl));
+      sharper-in-all = λ answer promise. near-in-bar answer 15 5 (promise 15 card-B-sound (computed refl) (within _ 15 lastAllDamaged refl refl refl));
+      separator-1-at-will = seven-at-will 2 _ card-B-sound (computed refl) (undivided _ 2 _ refl refl refl) refl;
+      chunk-1-at-will = seven-at-will 5 _ card-B-sound (computed refl) (undivided _ 5 _ refl refl refl) refl;
+      separator-2-at-will = seven-at-will 8 _ card-B-sound (computed refl) (undivided _ 8 _ refl refl refl) refl;
+      chunk-2-at-will = seven-at-will 11 _ card-B-sound (computed refl) (undivided _ 11 _ refl refl refl) refl;
+      separator-3-at-will = seven-at-will 14 _ card-B-sound (computed refl) (undivided _ 14 _ refl refl refl) refl;
       bar = λ answer promise.
-          let (near, few) = promise 4 3 sound (computed refl) (undivided _ 4 dividedTurned refl refl refl) (computed refl) in
+          let (near, few) = promise 4 3 card-B-sound (computed refl) (undivided _ 4 dividedTurned refl refl refl) (computed refl) in
           near-in-bar answer 4 3 (rw (add-comm 3 (residualOf answer)) near);
-      bar-residual = λ r promise. promise 4 3 sound (computed refl) (undivided _ 4 dividedTurned refl refl refl) (computed refl) .1;
-      one-divided = λ promise c five is. sym (promise sound .at-most-one 14 4 c (computed refl) (computed refl) five refl is);
+      bar-residual = λ r promise. promise 4 3 card-B-sound (computed refl) (undivided _ 4 dividedTurned refl refl refl) (computed refl) .1;
+      one-divided = λ promise c five is. sym (promise card-B-sound .at-most-one 14 4 c (computed refl) (computed refl) five refl is);
       just-t = λ r promise.
           let B = codeOf cardB in
           let told = told-by-rule cardB zeroDamaged r promise in
@@ -239,10 +239,10 @@ witnessed =
           let told = told-by-rule cardA unreadable r promise in
           none-told A (chunk₁ A (place unreadable)) (told .p) 3 _ refl (told .in-code) (told .first);
       needed = λ r is promise.
-          let (first, second) = promise 0 sound (computed refl) (within _ 0 zeroDamaged refl refl refl) r refl in
+          let (first, second) = promise 0 card-B-sound (computed refl) (within _ 0 zeroDamaged refl refl refl) r refl in
           (first (rw is), second (rw is));
       needed-in-all = λ r is promise.
-          let (first, second) = promise 15 sound (computed refl) (within _ 15 lastAllDamaged refl refl refl) r refl in
+          let (first, second) = promise 15 card-B-sound (computed refl) (within _ 15 lastAllDamaged refl refl refl) r refl in
           (first (rw is), second (rw is));
       contradicts = λ r promise. eqb-false 0 1 refl (first-agrees _ _ _ (promise r refl) refl);
       contradicts-by-rule-1 = λ r promise. eqb-false 0 1 refl (first-agrees _ _ _ (promise r refl) refl);
@@ -252,7 +252,7 @@ witnessed =
       pasted-in-chunk-2 = never-read mixedInChunk2 0 1 3 refl refl refl (inr (refl, refl)) refl refl;
       pasted-by-rule-1 = never-read mixedByRule1 0 1 1 refl refl refl (inl (refl, refl)) refl refl;
       pasted-by-rule-2 = never-read mixedByRule2 1 0 3 refl refl refl (inr (refl, refl)) refl refl;
-      refused-now = λ answer promise. rw sound at promise;
-      read-as-before = λ answer promise. rw (promise, sound) (refl, refl, refl);
-      refused-as-before = λ answer promise. rw sound at promise;
+      refused-now = λ answer promise. rw card-B-sound at promise;
+      read-as-before = λ answer promise. rw (promise, card-B-sound) (refl, refl, refl);
+      refused-as-before = λ answer promise. rw card-B-sound at promise;
     }

@@ -2,7 +2,7 @@
 -- a damaged word, and whatever is answered, and says what the promise alone then gives, at the border of its premise or of its bound. So a
 -- premise that nobody can meet, or a bound looser than the documents', no longer gives its row. Assumes nothing.
 use mathlib.Core.Path.{_≡_}
-use mathlib.Core.Bool.{true, false}
+use mathlib.Core.Bool.{true}
 use mathlib.Core.List.{List, [], _∷_}
 use Prim.Native.Nat.{ℕ, _+_, _≤_, _<_}
 use Rattle.bits.specs.Places.{differingBits}

@@ -1,0 +1,193 @@
+-- Each row by its promise: the premise is computed of the damaged levels, and what the promise then says is the row. Assumes nothing.
+use mathlib.Core.Path.{_≡_, refl, ap, _∙_}
+use mathlib.Core.Bool.{Bool, true, false}
+use mathlib.Core.List.{List, [], _∷_}
+use mathlib.Core.Logic.{inl, inr}
+use Prim.Native.Nat.{ℕ, zero, suc, _+_, _*_, _%_, _≤_, _<_}
+use native.Mathlib.Omega.{arith}
+use borrow.Author.Tests.{leb-true, leb-false, ltb-false, eqb-false}
+use lib.Dec.{leb, ltb, eqb}
+use lib.Ieee.{Float, nan, span, climb, size, odd, units, round, neg, sum, add, lt, eq, isNan, ofInt}
+use lib.Count.{trailingZeros}
+use lib.ListN.{length, getD}
+use Rattle.bits.specs.Sums.{sumBelow, distance, distanceHeard, lostBelow, joinAt}
+use Rattle.bits.specs.Walk.{walk}
+use Rattle.bits.specs.Places.{weight, place, cut, byteOf, listOf, pack}
+use Rattle.bits.specs.Searches.{anyBelow, firstFrom, first, leastAt, greatest}
+use Rattle.bits.proofs.Searches.{none-of-any}
+use Rattle.model.specs.Refusals.{firstRefusal, unlessRefused}
+use Rattle.model.specs.Card.{Code, highFirst, rowOf, sumOfRows, leastWeight, codeOf}
+use Rattle.model.specs.CardBytes.{bytesOf, rowBytes, sealed, cardOf}
+use Rattle.model.specs.Order.{gray, lastCodeword, codeword, changedRow, changedWeight, start, lastPosition}
+use Rattle.model.specs.Words.{chunk₁, chunk₂, wordBits, chunkSize, placesBefore, fiveChunks, word, blockOf, wordAt, wordBytes}
+use Rattle.model.specs.Reading.{majority, chunkDistance, withinRadius, readFirst, chunkReading, unreadable, numberRead, seen}
+use Rattle.model.specs.Reading.{ruleSeen, ruleOf, numberBy, separatorOf, parityDiffers, twoEnds, rows9To12, rowsSeen, ruleNamed, rowsOf}
+use Rattle.model.specs.Reading.{allowed, residual, nearestIn, bitsNeeded, nearest}
+use Rattle.model.specs.Levels.{magnitude, infinite, outside, anyOutside, told, toldAt, isHeard, bitTold, plusLevel, sumOfLevels}
+use Rattle.model.specs.Levels.{separatorReading, chunkWrong, withinLosses, heardReading, seenTold, residualHeard}
+use Rattle.model.specs.Answers.{spareSet, rowsOfWord, readRefusal, readAnswer}
+use Rattle.model.specs.Cases.{cardB}
+use Rattle.model.specs.declared.ChunkBits.{ChunkBits}
+use Rattle.model.specs.declared.ChunkBits.the-variants.{Differing}
+use Rattle.model.specs.declared.Reading.{Reading}
+use Rattle.model.specs.declared.ReadAnswer.{ReadAnswer}
+use Rattle.model.specs.declared.ReadAnswer.the-variants.{At}
+use Rattle.position_theory.specs.Damage.{wrongIn, lostIn, ChunksBelowD, wrongInAll, lostInAll}
+use Rattle.position_theory.specs.ChunkBits.{TellsWrong, WrongOfChunks}
+use Rattle.position_theory.specs.Contradictions.{NamedChunk, unlessContradicted}
+use Rattle.position_theory.specs.Witnesses.{ReadAs, ReadWithin, NoneReads}
+use Rattle.position_theory.proofs.Witnesses.{computed, card-B-sound, near-within, read-as, refused-as, first-codeword, first-agrees, second-agrees}
+use Rattle.level_theory.specs.UnitLevels.{OneLevel, plus-one, minus-one, OneLevels, UnitLevel, one, zero-level, UnitLevels}
+use Rattle.level_theory.specs.LevelPromises.{ChunksReadBelowD, heardOf, bitsOf, NearestOverHeard, TellsWrongOfChunks}
+use Rattle.level_theory.specs.LevelPromises.{AsPlainReading, OffByAtMostTwiceWrongAndLost}
+use Rattle.level_theory.specs.LevelContradictions.{seenOf, LevelsReadOnlyIfParityAgrees, SeparatorFrom, PastedLevels}
+use Rattle.level_theory.specs.LevelContradictions.{PastedLevelsNeverRead, levelsAnswerBefore, LevelsAsBeforeUnlessContradicted}
+use Rattle.level_theory.specs.LevelWitnesses.{levelOf, levelsOf, sevenWrong, lastWrong, lastLost, allDamaged, zeroDamaged}
+use Rattle.level_theory.specs.LevelWitnesses.{wrongAndLost, threeLost, mixed, mixedLost, mixedWrong, LevelsWitnessed}
+
+-- ---- premises, as tests that are computed
+
+-- each level of a word is one of 1, -1 and 0; and of 1 and -1 where no bit is lost
+level-is : (bits : List ℕ) (p : ℕ) → p < length bits → getD (levelsOf bits) p nan ≡ levelOf (getD bits p 0)
+level-is [] p h = absurd (omega arith)
+level-is (b ∷ bits) zero h = refl
+level-is (b ∷ bits) (suc p) h = level-is bits p (omega arith)
+
+unit-level : (b : ℕ) → UnitLevel (levelOf b)
+unfolding levelOf
+unit-level zero = one plus-one
+unit-level (suc zero) = one minus-one
+unit-level (suc (suc zero)) = zero-level false
+unit-level (suc (suc (suc b))) = zero-level true
+
+one-level : (b : ℕ) → b ≤ 1 → OneLevel (levelOf b)
+unfolding levelOf
+one-level zero h = plus-one
+one-level (suc zero) h = minus-one
+one-level (suc (suc b)) h = absurd (omega arith)
+
+unit-levels : (bits : List ℕ) → UnitLevels (levelsOf bits) (length bits)
+unit-levels bits p h = rw (level-is bits p h) (unit-level (getD bits p 0))
+
+one-levels : (bits : List ℕ) → anyBelow (λ p. ltb 1 (getD bits p 0)) (length bits) ≡ false → OneLevels (levelsOf bits) (length bits)
+one-levels bits none p h = rw (level-is bits p h) (one-level (getD bits p 0) (ltb-false _ _ (none-of-any _ (length bits) none p h)))
+
+-- every chunk has 2 × wrong + lost below D
+below : (C : Code) (heard : ℕ → Bool) (u x : ℕ → ℕ)
+    → anyBelow (λ c. leb (C .D) (2 * wrongIn C heard c u x + lostIn C heard c)) 5 ≡ false → ChunksBelowD C heard u x
+unfolding ChunksBelowD
+below C heard u x none c five = leb-false _ _ (none-of-any _ 5 none c five)
+
+-- so the answer is as near as the damage says
+within-damage : (position e : ℕ) (bits : List ℕ)
+    → let C : Code = codeOf cardB in
+    let heard : ℕ → Bool = heardOf (levelsOf bits) in
+    let x : ℕ → ℕ = bitsOf (levelsOf bits) in
+    let u : ℕ → ℕ = place (wordBytes C position) in
+    length (levelsOf bits) ≡ wordBits C → length bits ≡ wordBits C → position ≤ lastPosition C → ChunksBelowD C heard u x
+    → 2 * wrongInAll C heard u x + lostInAll C heard ≡ e
+    → (answer : ReadAnswer) → OffByAtMostTwiceWrongAndLost cardB (levelsOf bits) answer → ReadWithin e position answer
+unfolding OffByAtMostTwiceWrongAndLost
+within-damage position e bits whole size on-track few is answer promise =
+    let near = promise position card-B-sound on-track whole (rw size at (unit-levels bits)) few in
+    near-within answer position e (rw is at near)
+
+-- ---- what is told of chunks
+
+-- the rule is the one that the separators name
+told-by-rule : (card : List ℕ) (levels : List Float) (r : Reading) → TellsWrongOfChunks card levels (At r)
+    → let C : Code = codeOf card in
+    let s = seenOf card levels in
+    WrongOfChunks C (heardOf levels) (bitsOf levels) s (ruleSeen s) (r .chunk1) (r .chunk2)
+unfolding TellsWrongOfChunks
+told-by-rule card levels r promise = let told = promise r refl in rw (told .by-rule) at told
+
+-- the count of a chunk that is named is that of its wrong places
+told-count : (C : Code) (heard : ℕ → Bool) (chunk : ℕ → ℕ) (p q : ℕ) (bits : ChunkBits) → p ≡ q → TellsWrong C true heard chunk p bits
+    → bits ≡ Differing (chunkWrong C heard chunk q)
+unfolding TellsWrong
+told-count C heard chunk p q bits is (count, told, counted, few) = told ∙ ap Differing (rw is at counted)
+
+-- and 2 × wrong + lost is below D: nothing is told of a chunk for which that holds of no codeword
+none-told : (C : Code) (heard : ℕ → Bool) (chunk : ℕ → ℕ) (p last : ℕ) (bits : ChunkBits)
+    → anyBelow (withinLosses C heard chunk) (suc last) ≡ false → p ≤ last → TellsWrong C true heard chunk p bits → ⊥
+unfolding TellsWrong withinLosses
+none-told C heard chunk p last bits none in-code (count, told, counted, few) =
+    let far = ltb-false _ (C .D) (none-of-any (withinLosses C heard chunk) (suc last) none p (omega arith)) in omega arith
+
+-- ---- levels pasted from two telegrams
+
+never-read : (levels : List Float) (i j c : ℕ)
+    → let C : Code = codeOf cardB in
+    let heard : ℕ → Bool = heardOf levels in
+    leb i (lastCodeword C) ≡ true → leb j (lastCodeword C) ≡ true → eqb (i % 2) (j % 2) ≡ false
+    → NamedChunk (ruleSeen (seenOf cardB levels)) c → SeparatorFrom cardB levels i
+    → ltb (2 * wrongIn C heard c (word C j) (bitsOf levels) + lostIn C heard c) (C .D) ≡ true
+    → NoneReads (PastedLevelsNeverRead cardB levels)
+unfolding PastedLevelsNeverRead
+never-read levels i j c in-code in-code′ differ named separator chunk r promise =
+    let pasted : PastedLevels cardB levels i j c = search (leb-true, eqb-false) in promise i j c pasted r refl
+
+-- ---- the rows
+
+pub levels-witnessed : LevelsWitnessed
+unfolding sumBelow distance distanceHeard lostBelow joinAt walk weight place cut byteOf listOf pack
+    anyBelow firstFrom first leastAt greatest
+    span climb size odd units round neg sum add lt eq isNan ofInt trailingZeros
+    highFirst rowOf sumOfRows leastWeight codeOf firstRefusal unlessRefused bytesOf rowBytes sealed cardOf cardB
+    gray lastCodeword codeword changedRow changedWeight start lastPosition
+    chunkSize placesBefore fiveChunks word blockOf wordAt wordBytes
+    majority chunkDistance withinRadius readFirst chunkReading unreadable numberRead seen
+    ruleOf numberBy separatorOf parityDiffers twoEnds rows9To12 rowsSeen ruleNamed rowsOf allowed residual nearestIn bitsNeeded nearest
+    spareSet rowsOfWord readRefusal readAnswer
+    magnitude infinite outside anyOutside told toldAt isHeard bitTold plusLevel sumOfLevels
+    separatorReading chunkWrong withinLosses heardReading seenTold residualHeard
+    wrongIn lostIn wrongInAll lostInAll TellsWrong unlessContradicted levelOf ReadAs
+    ChunksReadBelowD NearestOverHeard AsPlainReading LevelsReadOnlyIfParityAgrees levelsAnswerBefore LevelsAsBeforeUnlessContradicted
+levels-witnessed =
+    record {
+      two-lost = λ promise. promise card-B-sound (λ p. eqb p 1) (λ p. 1) .read 1 (computed refl, computed refl);
+      smaller-of-two = λ answer promise. read-as _ _ _ answer (promise card-B-sound refl refl) refl;
+      by-17 = λ answer promise. refused-as _ _ _ answer (promise card-B-sound refl refl) 16 refl;
+      below-D = λ r promise.
+          let B = codeOf cardB in
+          let levels = levelsOf zeroDamaged in
+          let told = told-by-rule cardB levels r promise in
+          let is = first-codeword (twoEnds B .range 3) (told .p) (told .in-code) (computed refl) (told .allows) refl in (
+            told-count B (chunk₁ B (heardOf levels)) (chunk₁ B (bitsOf levels)) _ 0 _ is (told .first),
+            told-count B (chunk₂ B (heardOf levels)) (chunk₂ B (bitsOf levels)) _ 0 _ is (told .second),
+          );
+      not-named = λ r promise.
+          let B = codeOf cardB in
+          let levels = levelsOf sevenWrong in
+          let told = told-by-rule cardB levels r promise in
+          let is = first-codeword (twoEnds B .range 2) (told .p) (told .in-code) (computed refl) (told .allows) refl in
+          (told .first, told-count B (chunk₂ B (heardOf levels)) (chunk₂ B (bitsOf levels)) _ 0 _ is (told .second));
+      wrong-and-lost = λ r promise.
+          let B = codeOf cardB in
+          let levels = levelsOf wrongAndLost in
+          let told = told-by-rule cardB levels r promise in
+          none-told B (chunk₁ B (heardOf levels)) (chunk₁ B (bitsOf levels)) (told .p) 1 _ refl (told .in-code) (told .first);
+      three-lost = λ r promise.
+          let B = codeOf cardB in
+          let levels = levelsOf threeLost in
+          let told = told-by-rule cardB levels r promise in
+          none-told B (chunk₁ B (heardOf levels)) (chunk₁ B (bitsOf levels)) (told .p) 1 _ refl (told .in-code) (told .first);
+      as-plain = λ answer promise. rw (promise refl (one-levels sevenWrong refl), card-B-sound) (refl, refl, refl);
+      refused-as-plain = λ answer promise. rw card-B-sound at (promise refl (one-levels mixed refl));
+      twice-wrong = within-damage 15 2 lastWrong refl refl (computed refl) (below _ _ _ _ refl) refl;
+      once-lost = within-damage 15 2 lastLost refl refl (computed refl) (below _ _ _ _ refl) refl;
+      in-all = within-damage 15 10 allDamaged refl refl (computed refl) (below _ _ _ _ refl) refl;
+      contradicts = λ r promise. eqb-false 0 1 refl (first-agrees _ _ _ (promise r refl) refl);
+      contradicts-by-rule-1 = λ r promise. eqb-false 0 1 refl (first-agrees _ _ _ (promise r refl) refl);
+      contradicts-by-rule-2 = λ r promise. eqb-false 1 0 refl (second-agrees _ _ _ (promise r refl) refl);
+      pasted-lost = never-read _ 0 1 1 refl refl refl (inl (refl, refl)) (inr (unit-levels mixedLost, computed refl)) refl;
+      pasted-wrong = never-read _ 0 1 1 refl refl refl (inl (refl, refl)) (inr (unit-levels mixedWrong, computed refl)) refl;
+      pasted-in-chunk-2 = never-read _ 0 1 3 refl refl refl (inr (refl, refl)) (inl refl) refl;
+      pasted-by-rule-1 = never-read _ 0 1 1 refl refl refl (inl (refl, refl)) (inl refl) refl;
+      pasted-by-rule-2 = never-read _ 1 0 3 refl refl refl (inr (refl, refl)) (inl refl) refl;
+      pasted-of-any-levels = never-read _ 0 1 1 refl refl refl (inl (refl, refl)) (inl refl) refl;
+      refused-now = λ answer promise. rw card-B-sound at promise;
+      read-as-before = λ answer promise. rw (promise, card-B-sound) (refl, refl, refl);
+      refused-as-before = λ answer promise. rw card-B-sound at promise;
+    }
