@@ -1,5 +1,5 @@
-//! Separators that contradict the codeword, request P6: cases worked by hand, every word of two small cards, and words pasted from
-//! two. In words place 0 stands leftmost.
+//! Separators that contradict the codeword, request P6: every word of two small cards, and words pasted from two. Single words
+//! stand in cases.txt.
 mod cards;
 mod codes;
 mod random;
@@ -19,46 +19,6 @@ fn card_a() -> Vec<u8> {
 /// Card B: n 3, row 7, so D 3, t 1 and d 15. c(0) is 000 and c(1) 111.
 fn card_b() -> Vec<u8> {
     card_of(3, 1, 14, &[7])
-}
-
-/// The answer to a word as bits, and as levels of 1 and -1, which must be the same.
-fn read(card: &[u8], word: &str) -> Result<Reading, Refusal> {
-    let bits: Vec<bool> = word.chars().filter(|bit| *bit != ' ').map(|bit| bit == '1').collect();
-    let levels: Vec<f32> = bits.iter().map(|bit| if *bit { -1.0 } else { 1.0 }).collect();
-    let answer = read_word(card, &packed(&bits));
-    assert_eq!(read_levels(card, &levels).map(|(reading, _)| reading), answer, "{word}");
-    answer
-}
-
-#[test]
-fn a_separator_that_contradicts_the_codeword() {
-    for (card, word) in [
-        // rule 3: p is 1 and all separators are 0, `38 0e`, which was read as 12; p is 0 and all are 1
-        (card_b(), "000 111 000 111 000"),
-        (card_b(), "111 000 111 000 111"),
-        // rule 1: p is 1 and separator 1 is 0; rule 2: p is 0 and separator 3 is 1
-        (card_b(), "000 111 000 000 111"),
-        (card_b(), "000 000 111 000 111"),
-        // rule 1: p is 2, and separator 3 has its parity; rule 2: p is 1, and separator 1 has its parity
-        (card_a(), "11 101 11 000 00"),
-        (card_a(), "11 000 00 110 00"),
-        // rule 3: p is 1, and separator 1 ties, which reads 0
-        (card_a(), "10 110 00 110 00"),
-    ] {
-        assert_eq!(read(&card, word), Err(Refusal::ParityDiffers), "{word}");
-    }
-}
-
-#[test]
-fn refusals_before_it() {
-    // 12: by rule 1 p is 0, `c7 01`, by rule 2 the last; each with the other parity in the separator
-    assert_eq!(read(&card_b(), "111 000 111 000 000"), Err(Refusal::NoBlock));
-    assert_eq!(read(&card_b(), "111 000 000 111 000"), Err(Refusal::NoBlock));
-    // 11: chunk 1 has the parity that the separators have not; 10: 100 is no codeword, and chunk 2 has the other parity
-    assert_eq!(read(&card_b(), "111 000 111 111 111"), Err(Refusal::ChunksDiffer));
-    assert_eq!(read(&card_a(), "11 100 11 101 11"), Err(Refusal::ChunkUnreadable));
-    // 9: 0 1 0 with the other parity in both chunks
-    assert_eq!(read(&card_b(), "000 111 111 111 000"), Err(Refusal::Separators));
 }
 
 /// Of all words of a card, how many are read, and how many refused by 9 to 12 and 17.

@@ -1,16 +1,16 @@
-//! Words whose divided chunk is turned at will, and the bar about the answer, request P7: cases worked by hand, every such word
-//! of two small cards, and many of larger ones. In words place 0 stands leftmost.
+//! Words whose divided chunk is turned at will, and the bar about the answer, request P7: every such word of two small cards, and
+//! many of larger ones. Single words, and where chunks are divided, stand in cases.txt.
 mod cards;
 mod codes;
+mod divided;
 mod random;
-mod readings;
 mod words;
 
 use cards::card_of;
 use codes::{golay, reed_muller};
-use dunnavish::{block_start, check_card, read_word, CardSummary, Refusal};
+use divided::divided;
+use dunnavish::{check_card, read_word};
 use random::Random;
-use readings::{rule_1, rule_2, rule_3};
 use std::ops::Range;
 use words::{chunks, packed, word_at};
 
@@ -24,32 +24,6 @@ fn card_a() -> Vec<u8> {
 /// so on.
 fn card_b() -> Vec<u8> {
     card_of(3, 1, 14, &[7])
-}
-
-#[test]
-fn the_divided_chunk_turned_at_will() {
-    let card = card_b();
-    // 8, with both ones of separator 2 turned, is the word of 6: off by 2, the bits turned, and no residual
-    assert_eq!(read_word(&card, &[0x3f, 0x00]), rule_2(6, 0, 0));
-    // 2 with its first bit turned, 010 000 000 000 000: separators 0 0 0, allowed are 0 to 3, and 0 and 2 have one bit unlike:
-    // off by 2, the bit turned and the residual
-    assert_eq!(read_word(&card, &[0x02, 0x00]), rule_3(0, 1, [0, 0]));
-    // 7 with separator 2 turned whole, 111 111 011 000 000: separators 1 1 0, allowed are 6 to 15, and 9 has one bit unlike
-    assert_eq!(read_word(&card, &[0xbf, 0x01]), rule_1(9, 1, 0));
-    // 5 with chunk 1 turned whole, 111 001 000 000 000: separators 1 0 0, allowed are 0 to 9, and 3 has one bit unlike
-    assert_eq!(read_word(&card, &[0x27, 0x00]), rule_2(3, 1, 0));
-    // the same with the first bit of each other chunk turned, 011 001 100 100 100: 3 and 7 have five bits unlike
-    assert_eq!(read_word(&card, &[0x66, 0x12]), rule_2(3, 5, 1));
-}
-
-#[test]
-fn what_is_not_divided_has_its_limit() {
-    let card = card_b();
-    // 5, at which chunk 1 is divided, with two bits turned in separator 3: separators 1 0 1
-    assert_eq!(read_word(&card, &[0x1f, 0x30]), Err(Refusal::Separators));
-    // none is divided at either end: 15 with two bits turned in separator 1, 0 with two in separator 3
-    assert_eq!(read_word(&card, &[0xfc, 0x7f]), Err(Refusal::NoBlock));
-    assert_eq!(read_word(&card, &[0x00, 0x60]), Err(Refusal::NoBlock));
 }
 
 /// The positions that the bar holds about an answer, where at most so many bits are assumed turned: as many steps and the
@@ -69,25 +43,6 @@ fn the_bar_about_an_answer() {
     // cut at both ends of the track
     assert_eq!(bar(&card_b(), &[0x00, 0x00], 2), (0, 2));
     assert_eq!(bar(&card_b(), &[0xff, 0x7f], 2), (13, 15));
-}
-
-/// Which chunk of the word of a position is divided, if one is: some of the places in which w(i) and w(i+1) differ there have
-/// the bit of w(i+1), and some have not, i being the position's block. After the last w(i) there is none, and it stands in for
-/// the next itself.
-fn divided(card: &[u8], summary: &CardSummary, position: u32) -> Option<usize> {
-    let blocks = 0..1u32 << summary.rows;
-    let i = blocks.clone().rev().find(|&i| block_start(card, i).unwrap() <= position).unwrap();
-    let whole = |i| word_at(card, summary, block_start(card, i).unwrap());
-    let (this, next) = (whole(i), whole(blocks.end.min(i + 2) - 1));
-    let word = word_at(card, summary, position);
-    let mut found = chunks(summary).into_iter().enumerate().filter(|(_, places)| {
-        let differ: Vec<usize> = places.clone().filter(|&place| this[place] != next[place]).collect();
-        let taken = differ.iter().filter(|&&place| word[place] == next[place]).count();
-        0 < taken && taken < differ.len()
-    });
-    let first = found.next().map(|(chunk, _)| chunk);
-    assert!(found.next().is_none(), "two chunks are divided at {position}");
-    first
 }
 
 /// Asserts that a word of a position is read, within both distances, and that the residual is at most the bits turned.

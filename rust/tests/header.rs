@@ -1,4 +1,5 @@
-//! The C header says the same as this crate: the version, the refusals' numbers and texts, the sizes, what stands for no count.
+//! The C header says the same as this crate: the version, the refusals' numbers and texts, the sizes, what stands for no count. And
+//! the refusals' numbers are the documents'.
 use dunnavish::{Refusal, CARD_BYTES, WIDEST_WORD_BYTES};
 
 const HEADER: &str = include_str!("../../include/dunnavish.h");
@@ -37,4 +38,16 @@ fn the_same_sizes() {
 fn a_chunk_that_is_not_read() {
     // the greatest number, which the crate's own tests show to be no count, and the only such
     assert!(declares(&format!("#define DUNNAVISH_NOT_READ {}u", u32::MAX)));
+}
+
+#[test]
+fn refusals_have_the_documents_numbers() {
+    assert_eq!(Refusal::ALL.len(), 17);
+    for (number, refusal) in (1..).zip(Refusal::ALL) {
+        assert_eq!(refusal.number(), Some(number));
+        assert_eq!(Refusal::from_number(number), Some(*refusal));
+    }
+    assert_eq!(Refusal::from_number(0), None);
+    assert_eq!(Refusal::from_number(18), None);
+    assert_eq!(Refusal::from_number(100), None);
 }
