@@ -59,10 +59,11 @@ search-block-requires : tie.Need-search-block-requires
 search-block-requires c κs =
     let laid = c .before .before .before in
     let at = laid .layout-of .ensures in
+    let started = c .before .before .block-start in
     let low = at-separator₂ (C laid) (sound laid) (i laid) (inside laid) in
     let block : i laid + 1 - 1 ≡ i laid = omega arith in
-    let begins : c .before .before .block-start .result + C laid .D + c .changed-weight .result ≡ positionAt (C laid) (i laid) (C laid .D + C laid .n) =
-    rw (c .before .before .block-start .ensures, c .changed-weight .ensures .0) (sym (low ∙ rw block)) in (
+    let begins : started .result + C laid .D + c .changed-weight .result ≡ positionAt (C laid) (i laid) (C laid .D + C laid .n) =
+    rw (started .ensures, c .changed-weight .ensures .0) (sym (low ∙ rw block)) in (
       (sound laid, laid .before .pre .1, inside laid, omega (arith, at .separator₂-at, at .bits-are), omega (arith, at .bits-are)),
       begins ∙ ap (positionAt (C laid) (i laid)) (sym (at .separator₂-at)),
     )
