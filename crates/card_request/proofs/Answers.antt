@@ -1,24 +1,30 @@
 -- What a request is answered, one law for each way out of the code: a text that is no number, a code outside the limits, and the card.
--- A card that the definition tells to be made is the one of document 02, P1. Assumes nothing.
+-- The status and the values are those of the answer that the definition gives, and a card that it tells to be made is the one of document
+-- 02, P1. Assumes nothing.
 use mathlib.Core.Path.{_≡_, refl, sym, ap, _∙_}
-use mathlib.Core.Bool.{Bool, true, false, cond, not, _&&_}
+use mathlib.Core.Bool.{Bool, true, false, cond, not, _&&_, true≢false}
 use mathlib.Core.List.{List}
+use mathlib.Core.Logic.{⊎-elim}
 use Prim.Native.Nat.{ℕ, _≤_}
 use native.Mathlib.Omega.{arith}
 use borrow.Author.Tests.{leb-true}
 use lib.Dec.{eqb}
 use lib.ListN.{length}
-use Rattle.bits.proofs.Numbers.{and-true-right}
+use Rattle.bits.proofs.Numbers.{eq-or-ne, and-true-right}
 use Rattle.model.specs.Refusals.{firstRefusal, unlessRefused}
 use Rattle.model.specs.ReedMuller.{reedMullerCard, orderWithinLimits}
 use Rattle.model.specs.Answers.{makeRefusal, makeAnswer}
+use Rattle.model.specs.Statuses.{ifServed}
 use Rattle.model.specs.declared.MadeCard.{MadeCard}
+use Rattle.code_theory.proofs.Refusals.{NoneHolds, numbered, none-holds, served-if-none, refused-if-some}
 use Rattle.reed_muller_theory.specs.MadeCards.{IsReedMullerCard}
 use Rattle.reed_muller_theory.proofs.MadeCards.{is-reed-muller-card}
 use Rattle.depot.proofs.MadeCards.{limits-refused, limits-passed}
-use Rattle.card_request.specs.Request.{allDigits, numberIn, isNumber, numberText, greatestTrack, greatestNumber, noCard, requestAnswer}
+use Rattle.depot.proofs.Statuses.{Told, told}
+use Rattle.card_request.specs.Request.{allDigits, numberIn, isNumber, numberText, greatestTrack, greatestNumber, noTrack, noOrder, noVariables}
+use Rattle.card_request.specs.Request.{noCard, requestRefusal, requestCard, requestAnswer, toldStatus, requestStatus, valuesTold, requestValues}
 use Rattle.card_request.specs.declared.NumberText.the-variants.{Number, NoNumber}
-use Rattle.card_request.specs.declared.Told.the-variants.{Made, OutsideLimits, NoTrack, NoOrder, NoVariables}
+use Rattle.card_request.specs.declared.Told.the-variants.{Made, Refused}
 use Rattle.card_request.specs.declared.Answer.{Answer}
 
 different : _≡_ {A = ℕ} 0 1 → ⊥
@@ -57,53 +63,55 @@ made-bytes track r m within = rw within
 
 -- ---- a card that is told to be made
 
--- the answer by what the tests say, of the three texts and of the limits
-abbrev answerBy : (track r m within : Bool) (card : List ℕ) → Answer
-answerBy track r m within card =
-    cond (not track) (noCard NoTrack)
-    (cond (not r) (noCard NoOrder)
-    (cond (not m) (noCard NoVariables) (cond (not within) (noCard OutsideLimits) (record { told = Made; card = card }))))
-
-tests-of-made : (track r m within : Bool) (card : List ℕ) → answerBy track r m within card .told ≡ Made
-    → (track ≡ true) × (r ≡ true) × (m ≡ true) × (within ≡ true)
-tests-of-made true true true true card _ = (refl, refl, refl, refl)
-tests-of-made false r m within card clash = absurd (different (cc))
-tests-of-made true false m within card clash = absurd (different (cc))
-tests-of-made true true false within card clash = absurd (different (cc))
-tests-of-made true true true false card clash = absurd (different (cc))
+passed : (test : Bool) → not test ≡ false → test ≡ true
+passed true _ = refl
+passed false clash = absurd (true≢false clash)
 
 module _ (track r m : List ℕ) where
   -- it is the code's, for the numbers that the texts give
   pub made-card : requestAnswer track r m .told ≡ Made
       → IsReedMullerCard (numberIn track) (numberIn r) (numberIn m) (requestAnswer track r m .card)
-  unfolding requestAnswer
+  unfolding requestAnswer requestRefusal NoneHolds numbered
   made-card made =
-      let (first, second, third, within) =
-      tests-of-made (isNumber greatestTrack track) (isNumber greatestNumber r) (isNumber greatestNumber m)
-      (orderWithinLimits (numberIn r) (numberIn m)) (reedMullerCard (numberIn track) (numberIn r) (numberIn m)) made in
-      rw (first, second, third, within) (is-reed-muller-card _ _ _ within (omega (arith, at-most greatestTrack track first)))
+      ⊎-elim
+      (λ (none : requestRefusal track r m ≡ 0).
+      let (first, (_, (_, (within, _)))) = none-holds _ refl none in
+      let fits = at-most greatestTrack track (passed _ first) in
+      rw (served-if-none _ noCard _ none) (is-reed-muller-card _ _ _ (passed _ within) (omega arith)))
+      (λ (some : requestRefusal track r m ≡ 0 → ⊥).
+      let clash : Refused (requestRefusal track r m) ≡ Made = rw (refused-if-some _ noCard _ some) at made in
+      absurd (different (cc)))
+      (eq-or-ne (requestRefusal track r m) 0)
 
   -- ---- the answer
 
   -- what the contract says of the answer
   abbrev Meets : Answer → Type 0
-  Meets a = (a ≡ requestAnswer track r m) × (a .told ≡ Made → IsReedMullerCard (numberIn track) (numberIn r) (numberIn m) (a .card))
+  Meets a =
+      (a ≡ requestAnswer track r m)
+      × ((requestStatus a ≡ requestRefusal track r m)
+      × ((requestValues a ≡ ifServed (requestStatus a) (requestCard track r m))
+      × (a .told ≡ Made → IsReedMullerCard (numberIn track) (numberIn r) (numberIn m) (a .card))))
+
+  status-and-values : Told requestStatus requestValues (requestRefusal track r m) (requestCard track r m) (requestAnswer track r m)
+  unfolding requestAnswer toldStatus valuesTold
+  status-and-values = told requestStatus requestValues _ (requestCard track r m) noCard _ (λ number. refl) (λ number. refl) refl refl
 
   meets : {a : Answer} → a ≡ requestAnswer track r m → Meets a
-  meets e = rw e (refl, made-card)
+  meets e = let (status, values) = status-and-values in rw e (refl, (status, (values, made-card)))
 
-  pub no-track : NoNumber ≡ numberText greatestTrack track → {a : Answer} → a ≡ noCard NoTrack → Meets a
-  unfolding requestAnswer
+  pub no-track : NoNumber ≡ numberText greatestTrack track → {a : Answer} → a ≡ noCard noTrack → Meets a
+  unfolding requestAnswer requestRefusal firstRefusal unlessRefused
   no-track none e = meets (e ∙ rw (no-number greatestTrack track none))
 
   module _ {t : ℕ} (is-track : Number t ≡ numberText greatestTrack track) where
-    pub no-order : NoNumber ≡ numberText greatestNumber r → {a : Answer} → a ≡ noCard NoOrder → Meets a
-    unfolding requestAnswer
+    pub no-order : NoNumber ≡ numberText greatestNumber r → {a : Answer} → a ≡ noCard noOrder → Meets a
+    unfolding requestAnswer requestRefusal firstRefusal unlessRefused
     no-order none e = meets (e ∙ rw (a-number greatestTrack track is-track .0, no-number greatestNumber r none))
 
     module _ {o : ℕ} (is-order : Number o ≡ numberText greatestNumber r) where
-      pub no-variables : NoNumber ≡ numberText greatestNumber m → {a : Answer} → a ≡ noCard NoVariables → Meets a
-      unfolding requestAnswer
+      pub no-variables : NoNumber ≡ numberText greatestNumber m → {a : Answer} → a ≡ noCard noVariables → Meets a
+      unfolding requestAnswer requestRefusal firstRefusal unlessRefused
       no-variables none e =
           meets
           (e ∙ rw (a-number greatestTrack track is-track .0, a-number greatestNumber r is-order .0, no-number greatestNumber m none))
@@ -117,13 +125,16 @@ module _ (track r m : List ℕ) where
           a-number greatestNumber m is-variables .0,
         )
 
-        pub outside-limits : (made .refusal ≡ 0 → ⊥) → {a : Answer} → a ≡ noCard OutsideLimits → Meets a
-        unfolding requestAnswer
-        outside-limits some e =
+        -- (the number told is compared with the refusal's as a number, so that another one is refused by a counterexample)
+        pub outside-limits : (made .refusal ≡ 0 → ⊥) → {a : Answer} {number : ℕ} → a ≡ noCard number → number ≡ made .refusal → Meets a
+        unfolding requestAnswer requestRefusal makeRefusal firstRefusal unlessRefused
+        outside-limits some {number = number} e is =
             let (first, second, third) = numbers-read in
             let outside : orderWithinLimits o v ≡ false = limits-refused o v (rw (← refusal) some) in
+            let thirteen : number ≡ 13 = is ∙ refusal ∙ rw outside in
             meets
             (e ∙ rw (
+              thirteen,
               first,
               second,
               third,
@@ -133,7 +144,7 @@ module _ (track r m : List ℕ) where
             ))
 
         pub card-made : made ≡ makeAnswer t o v → made .refusal ≡ 0 → Meets record { told = Made; card = made .bytes }
-        unfolding requestAnswer
+        unfolding requestAnswer requestRefusal firstRefusal unlessRefused
         card-made is none =
             let (first, second, third) = numbers-read in
             let within : orderWithinLimits o v ≡ true = limits-passed o v (sym refusal ∙ none) in

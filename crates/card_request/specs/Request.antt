@@ -1,15 +1,16 @@
--- What a request for a card means, three texts in decimal as they are typed: the number in a text, and the answer. A text is a list of
--- bytes. Assumes nothing.
+-- What a request for a card means, three texts in decimal as they are typed: the number in a text, the answer, and what an answer stands
+-- for, a status and values. A text is a list of bytes. Assumes nothing.
 use mathlib.Core.Bool.{Bool, true, cond, not, _&&_}
 use mathlib.Core.List.{List, [], _∷_}
 use Prim.Native.Nat.{ℕ, _+_, _-_, _*_}
 use lib.Dec.{leb, eqb}
 use lib.ListN.{length, replicate}
+use Rattle.model.specs.Refusals.{refuses, firstRefusal, unlessRefused}
 use Rattle.model.specs.ReedMuller.{reedMullerCard, orderWithinLimits}
 use Rattle.card_request.specs.declared.NumberText.{NumberText}
 use Rattle.card_request.specs.declared.NumberText.the-variants.{Number, NoNumber}
 use Rattle.card_request.specs.declared.Told.{Told}
-use Rattle.card_request.specs.declared.Told.the-variants.{Made, OutsideLimits, NoTrack, NoOrder, NoVariables}
+use Rattle.card_request.specs.declared.Told.the-variants.{Made, Refused}
 use Rattle.card_request.specs.declared.Answer.{Answer}
 
 -- ---- a number
@@ -48,15 +49,51 @@ greatestTrack = 65535
 abbrev pub greatestNumber : ℕ
 greatestNumber = 4294967295
 
--- no card is made, and this is told
-abbrev pub noCard : Told → Answer
-noCard told = record { told = told; card = replicate 512 0 }
+-- the refusals of a text that is no number that fits, which have no number in the documents' table: that of the track number, of r and of m
+abbrev pub noTrack : ℕ
+noTrack = 101
 
--- The first thing that is wrong is told: the track number, r, m, and then the code, refusal 13. Where nothing is, the card is made.
+abbrev pub noOrder : ℕ
+noOrder = 102
+
+abbrev pub noVariables : ℕ
+noVariables = 103
+
+-- the refusal of a request: the first text that is no number, and then 13, a code outside the limits
+unfoldable pub requestRefusal : (track r m : List ℕ) → ℕ
+requestRefusal track r m =
+    firstRefusal
+    (refuses noTrack (not (isNumber greatestTrack track))
+    ∷ refuses noOrder (not (isNumber greatestNumber r))
+    ∷ refuses noVariables (not (isNumber greatestNumber m))
+    ∷ refuses 13 (not (orderWithinLimits (numberIn r) (numberIn m)))
+    ∷ [])
+
+-- the card for the numbers in these texts
+abbrev pub requestCard : (track r m : List ℕ) → List ℕ
+requestCard track r m = reedMullerCard (numberIn track) (numberIn r) (numberIn m)
+
+-- no card is made: the refusal is told, and all bytes are zero
+abbrev pub noCard : (refusal : ℕ) → Answer
+noCard refusal = record { told = Refused refusal; card = replicate 512 0 }
+
 unfoldable pub requestAnswer : (track r m : List ℕ) → Answer
-requestAnswer track r m =
-    cond (not (isNumber greatestTrack track)) (noCard NoTrack)
-    (cond (not (isNumber greatestNumber r)) (noCard NoOrder)
-    (cond (not (isNumber greatestNumber m)) (noCard NoVariables)
-    (cond (not (orderWithinLimits (numberIn r) (numberIn m))) (noCard OutsideLimits)
-    (record { told = Made; card = reedMullerCard (numberIn track) (numberIn r) (numberIn m) }))))
+requestAnswer track r m = unlessRefused (requestRefusal track r m) noCard (record { told = Made; card = requestCard track r m })
+
+-- ---- what an answer stands for, for every case of what is told
+
+-- its status: 0 where the card is made, and the refusal's number otherwise
+unfoldable pub toldStatus : Told → ℕ
+toldStatus Made = 0
+toldStatus (Refused refusal) = refusal
+
+abbrev pub requestStatus : Answer → ℕ
+requestStatus a = toldStatus (a .told)
+
+-- its values: the card's bytes, and none of a refusal
+unfoldable pub valuesTold : Told → (card : List ℕ) → List ℕ
+valuesTold Made card = card
+valuesTold (Refused refusal) card = []
+
+abbrev pub requestValues : Answer → List ℕ
+requestValues a = valuesTold (a .told) (a .card)

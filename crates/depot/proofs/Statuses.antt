@@ -36,7 +36,7 @@ abbrev pub Told : {A B : Type 0} (status : A → ℕ) (values : A → List B) (r
 Told status values refusal figures answer = (status answer ≡ refusal) × (values answer ≡ ifServed (status answer) figures)
 
 -- an answer that is served where the refusal's number is 0, and is the refusal otherwise
-told : {A B : Type 0} (status : A → ℕ) (values : A → List B) (refusal : ℕ) (figures : List B) (refused : ℕ → A) (served : A)
+pub told : {A B : Type 0} (status : A → ℕ) (values : A → List B) (refusal : ℕ) (figures : List B) (refused : ℕ → A) (served : A)
     → ((number : ℕ) → status (refused number) ≡ number) → ((number : ℕ) → values (refused number) ≡ [])
     → status served ≡ 0 → values served ≡ figures
     → Told status values refusal figures (unlessRefused refusal refused served)

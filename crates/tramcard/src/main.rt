@@ -6,6 +6,9 @@ ghost use mathlib.Core.Path.{_≡_};
 ghost use lib.ListN.{length};
 ghost use Rattle.card_request.specs.Request.{requestAnswer};
 ghost use Rattle.card_request.specs.declared.Told.the-variants.{Made};
+use card_request::NO_ORDER;
+use card_request::NO_TRACK;
+use card_request::NO_VARIABLES;
 use card_request::Told;
 use libc::STDERR_FILENO;
 
@@ -19,6 +22,16 @@ fn argument_buffer() -> [u8; 131072]
 // Tells a line on standard error.
 fn tell(line: &[u8]) {
     io::write_all(STDERR_FILENO, line);
+}
+
+// Tells why no card is made, by the number of the refusal.
+fn tell_refusal(refusal: u32) {
+    match refusal {
+        NO_TRACK => tell(b"tramcard: TRACK is not a number from 0 to 65535\n"),
+        NO_ORDER => tell(b"tramcard: R is not a number from 0 to 4294967295\n"),
+        NO_VARIABLES => tell(b"tramcard: M is not a number from 0 to 4294967295\n"),
+        _ => tell(b"tramcard: refused 13: M is not 1 to 6, R is above M, or k is above 12\n"),
+    }
 }
 
 // Puts out the card that these three texts are answered: it is told to be made, and these are its bytes. Nothing else goes to standard
@@ -49,11 +62,6 @@ fn main() {
     let card = answer.card;
     match told {
         Told::Made => put_out(&track[..track_end], &r[..r_end], &m[..m_end], &card),
-        Told::OutsideLimits => tell(
-            b"tramcard: refused 13: M is not 1 to 6, R is above M, or k is above 12\n",
-        ),
-        Told::NoTrack => tell(b"tramcard: TRACK is not a number from 0 to 65535\n"),
-        Told::NoOrder => tell(b"tramcard: R is not a number from 0 to 4294967295\n"),
-        Told::NoVariables => tell(b"tramcard: M is not a number from 0 to 4294967295\n"),
+        Told::Refused(refusal) => tell_refusal(refusal),
     }
 }

@@ -54,7 +54,7 @@ returns-4 c =
     let made = c .before .before .before in
     let read = made .before in
     outside-limits _ _ _ (is-track (first (second read))) (is-order (second read)) (is-variables read) (made .make-card .result)
-    (made .make-card .ensures .1 .0) (c .before .if1 .taken) (c .no-card4 .ensures)
+    (made .make-card .ensures .1 .0) (c .before .if1 .taken) (c .no-card4 .ensures) (omega arith)
 
 returns-5 : tie.Need-returns-5
 returns-5 c =
