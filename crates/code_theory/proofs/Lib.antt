@@ -11,3 +11,4 @@ pub mod LeastDistance
 pub mod Starts
 pub mod ChunkReading
 pub mod Promise
+pub mod Witnesses

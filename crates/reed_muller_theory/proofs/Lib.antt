@@ -12,3 +12,4 @@ pub mod ClassSums
 pub mod FewerVariables
 pub mod MadeCards
 pub mod VoteAnswers
+pub mod Witnesses

@@ -1,2 +1,3 @@
 pub mod MadeCards
 pub mod Votes
+pub mod Witnesses
