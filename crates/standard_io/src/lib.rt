@@ -2,7 +2,7 @@
 // told in one line on standard error, the text `told` that the caller gives and the system's reason, and answered to the caller.
 // What a call reads or writes is the system's: no contract speaks of it.
 ghost use mathlib.Core.Path.{_≡_};
-ghost use Prim.Native.Nat.{_≤_};
+ghost use Prim.Native.Nat.{_+_, _≤_, _<_};
 ghost use lib.ListN.{length, take};
 use libc::EINTR;
 use libc::STDIN_FILENO;
@@ -12,19 +12,34 @@ use libc::STDOUT_FILENO;
 // uses up.
 const TRIES: u64 = 9007199254740992;
 
-// What was received: how many of the buffer's bytes are then in use, and whether the system failed.
+// What was received: how many bytes, and whether the system failed. The fields are this crate's own, so that no other makes one up:
+// a read that brought nothing and did not fail says that the input has ended.
 pub struct Received {
-    pub end: usize,
-    pub failed: bool,
+    count: usize,
+    failed: bool,
+}
+
+impl Received {
+    pub fn count(self) -> usize
+        ensures { λ r. ⌜ r ≡ self .count ⌝ }
+    {
+        self.count
+    }
+
+    pub fn failed(self) -> bool
+        ensures { λ r. ⌜ r ≡ self .failed ⌝ }
+    {
+        self.failed
+    }
 }
 
 // A read that failed brought nothing.
-fn read_failed(held: usize, told: &[u8]) -> Received
-    ensures { λ r. ⌜ r .end ≡ held ⌝ }
+fn read_failed(told: &[u8]) -> Received
+    ensures { λ r. ⌜ r .count ≡ 0 ⌝ }
 {
     os::fail(told);
     Received {
-        end: held,
+        count: 0,
         failed: true,
     }
 }
@@ -35,11 +50,11 @@ fn write_failed(told: &[u8]) -> bool {
     false
 }
 
-// Reads once, into the buffer's bytes from place `held` up to `full`. The bytes in use are as many as before, `held`, where the input
+// Reads once, into the buffer's bytes from place `held` up to `full`. There is room for one, so that nothing comes only where the input
 // has ended or the system failed. What is held stays as it is.
 pub fn receive(buffer: &mut [u8], held: usize, full: usize, told: &[u8]) -> Received
-    requires { ⌜ (held ≤ full) × (full ≤ length (now buffer)) ⌝ }
-    ensures { λ r. ⌜ (held ≤ r .end) × (r .end ≤ full) ⌝ }
+    requires { ⌜ (held < full) × (full ≤ length (now buffer)) ⌝ }
+    ensures { λ r. ⌜ held + r .count ≤ full ⌝ }
     ensures { λ r. ⌜ take held (now (buffer .exit)) ≡ take held (now (buffer .entry)) ⌝ }
 {
     let mut tries = TRIES;
@@ -47,34 +62,37 @@ pub fn receive(buffer: &mut [u8], held: usize, full: usize, told: &[u8]) -> Rece
         let got = libc::read(STDIN_FILENO, &mut buffer[held..full]);
         if got >= 0 {
             return Received {
-                end: held + io::count(got, &buffer[held..full]),
+                count: io::count(got, &buffer[held..full]),
                 failed: false,
             };
         }
         if os::errno() != EINTR {
-            return read_failed(held, told);
+            return read_failed(told);
         }
         tries -= 1;
     }
-    read_failed(held, told)
+    read_failed(told)
 }
 
-// Reads until the buffer is full or the input ends.
+// Reads until the buffer, which has room, is full or the input ends.
 pub fn receive_all(buffer: &mut [u8], told: &[u8]) -> Received
-    ensures { λ r. ⌜ r .end ≤ length (now (buffer .exit)) ⌝ }
+    requires { ⌜ 0 < length (now buffer) ⌝ }
+    ensures { λ r. ⌜ r .count ≤ length (now (buffer .exit)) ⌝ }
 {
     let full = buffer.len();
     let mut held: usize = 0;
     while held < full {
         let came = receive(buffer, held, full, told);
-        let end = came.end;
-        if end == held {
-            return came;
+        if came.count == 0 {
+            return Received {
+                count: held,
+                failed: came.failed,
+            };
         }
-        held = end;
+        held += came.count;
     }
     Received {
-        end: held,
+        count: held,
         failed: false,
     }
 }

@@ -1,3 +1,4 @@
+pub mod Behind
 pub mod Moving
 pub mod NextWord
 pub mod Pieces

@@ -6,6 +6,7 @@ use mathlib.Core.List.{List, _++_}
 use native.Mathlib.Nat.{add-assoc, add-sub-cancel-left}
 use native.Mathlib.Numerals.{add-one}
 use lib.ListN.{length, take, drop}
+use lib.Seq.{drop-drop}
 use Rattle.bits.specs.Sums.{sumBelow}
 use Rattle.model.specs.Card.{Code}
 use Rattle.model.specs.Answers.{wordLength, readWord}
@@ -13,14 +14,15 @@ use Rattle.report.specs.Lines.{wordLine, lineRoom}
 use Rattle.report.specs.Puts.{Puts}
 use Rattle.report.specs.Report.{answerAt, wordLines, readCount, wordsRead}
 
--- of `words` words of w bytes the lines of the first i have been put, at most `lineRoom` bytes each, and of these words those that were
--- read are counted; word i starts at place `from`
-pub record WordsPutSoFar (C : Code) (bytes : List ℕ) (met words w : ℕ) (out₀ : List ℕ) (at : ℕ) (out : List ℕ) (next read from i : ℕ) : Type 0 where
+-- of `words` words of w bytes, which stand from place `first` on, the lines of the first i have been put, at most `lineRoom` bytes each,
+-- and of these words those that were read are counted; word i starts at place `from`
+pub record WordsPutSoFar (C : Code) (bytes : List ℕ) (first met words w : ℕ)
+    (out₀ : List ℕ) (at : ℕ) (out : List ℕ) (next read from i : ℕ) : Type 0 where
   pub within : i ≤ words
-  pub start : from ≡ i * w
-  pub lines : Puts out₀ at (wordLines C bytes met i) out next
+  pub start : from ≡ first + i * w
+  pub lines : Puts out₀ at (wordLines C (drop first bytes) met i) out next
   pub room : next ≤ at + i * lineRoom
-  pub counted : read ≡ wordsRead C bytes i
+  pub counted : read ≡ wordsRead C (drop first bytes) i
   pub few : read ≤ i
   pub same-length : length out ≡ length out₀
 
@@ -33,6 +35,6 @@ module _ (C : Code) (bytes : List ℕ) (i : ℕ) where
   unfolding wordsRead sumBelow
   read-next = rw (add-one i)
 
-  pub part-is-word : (from w : ℕ) → w ≡ wordLength C → from ≡ i * w
-      → readWord C (take (from + w - from) (drop from bytes)) ≡ answerAt C bytes i
-  part-is-word from w is-length is-start = rw (add-sub-cancel-left, is-start, is-length)
+  pub part-is-word : (first from w : ℕ) → w ≡ wordLength C → from ≡ first + i * w
+      → readWord C (take (from + w - from) (drop from bytes)) ≡ answerAt C (drop first bytes) i
+  part-is-word first from w is-length is-start = rw (add-sub-cancel-left, is-start, is-length, drop-drop)

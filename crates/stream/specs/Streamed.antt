@@ -1,4 +1,5 @@
--- How tramread stands between two turns, as a function of all the bytes that have come in behind the card. Assumes nothing.
+-- How tramread stands between two turns, as a function of all the bytes that have come in behind the card. `input` is its buffer, from
+-- where the words start in it. Assumes nothing.
 use mathlib.Core.Path.{_≡_}
 use mathlib.Core.List.{List, _++_}
 use Prim.Native.Nat.{ℕ, _*_, _/_, _%_}

@@ -16,8 +16,8 @@ abbrev pub wholeWords : Code → List ℕ → ℕ
 wholeWords C bytes = length bytes / wordLength C
 
 -- `arrived` is the bytes held and those that came in behind them, and p says what came before them. `out` is the buffer of lines before
--- the turn, `out′` after it, and `input′` the buffer of bytes after it. The whole words have their lines at the front of `out′`
--- and are counted; the bytes short of a word are left at the front of `input′`.
+-- the turn, `out′` after it, and `input′` the buffer of bytes after it, from where the words start in it. The whole words have their
+-- lines at the front of `out′` and are counted; the bytes short of a word are left at the front of `input′`.
 pub record TakenIn (C : Code) (arrived : List ℕ) (p : Progress) (input′ out out′ : List ℕ) (r : Taken) : Type 0 where
   pub met : r .progress .met ≡ p .met + wholeWords C arrived
   pub read : r .progress .read ≡ p .read + wordsRead C arrived (wholeWords C arrived)

@@ -3,7 +3,7 @@
 ghost use mathlib.Core.Path.{_≡_};
 ghost use mathlib.Core.List.{_++_};
 ghost use Prim.Native.Nat.{_+_, _*_, _/_, _^_, _≤_, _<_};
-ghost use lib.ListN.{length, take};
+ghost use lib.ListN.{length, take, drop};
 ghost use Rattle.model.specs.Answers.{wordLength};
 ghost use Rattle.model.specs.Decoded.{meaning};
 ghost use Rattle.code_theory.specs.Promise.{Sound};
@@ -17,8 +17,8 @@ use model::DecodedCode;
 use position::layout;
 use report::lines;
 
-// How a reader of words stands between two turns: the bytes short of a word, which it holds at the front of its buffer, the words
-// that it met, and those of them that were read.
+// How a reader of words stands between two turns: the bytes short of a word, which it holds where the words start in its buffer, the
+// words that it met, and those of them that were read.
 pub struct Progress {
     pub held: usize,
     pub met: u64,
@@ -42,25 +42,29 @@ pub fn nothing_yet() -> Progress
     }
 }
 
-// Takes in the first `n` bytes of the buffer: those held, and behind them those that came in since the last turn.
+// Takes in the `n` bytes of the buffer from place `start` on: those held, and behind them those that came in since the last turn.
 pub fn take_in(
     out: &mut [u8],
     code: DecodedCode,
     input: &mut [u8],
+    start: usize,
     n: usize,
     before: Progress,
 ) -> Taken
     requires { ⌜ Sound (meaning code) ⌝ }
-    requires { ⌜ (before .held ≤ n) × (n ≤ length (now input)) × (before .read ≤ before .met) ⌝ }
+    requires { ⌜ (before .held ≤ n) × (start + n ≤ length (now input)) × (before .read ≤ before .met) ⌝ }
     requires { ⌜ n / wordLength (meaning code) * lineRoom ≤ length (now out) ⌝ }
     requires { ⌜ before .met + n / wordLength (meaning code) < 2 ^ 64 ⌝ }
-    ensures taken { λ r. ⌜ TakenIn (meaning code) (take n (now (input .entry))) before (now (input .exit)) (now (out .entry)) (now (out .exit)) r ⌝ }
-    ensures follows { λ r. ⌜ Follows (meaning code) (now (input .entry)) n before (take (r .next) (now (out .exit))) (now (input .exit)) (r .progress) ⌝ }
+    ensures taken { λ r. ⌜ TakenIn (meaning code) (take n (drop start (now (input .entry)))) before
+        (drop start (now (input .exit))) (now (out .entry)) (now (out .exit)) r ⌝ }
+    ensures follows { λ r. ⌜ Follows (meaning code) (drop start (now (input .entry))) n before
+        (take (r .next) (now (out .exit))) (drop start (now (input .exit))) (r .progress) ⌝ }
 {
     let w = layout::word_length(code);
     let m = n / w;
-    let put = words::put_words(out, 0, code, &input[..n], before.met, m);
-    let held = tail::keep_tail(input, m * w, n);
+    let end = start + n;
+    let put = words::put_words(out, 0, code, &input[..end], start, before.met, m);
+    let held = tail::keep_tail(&mut input[start..], m * w, n);
     let progress = Progress {
         held,
         met: before.met + m as u64,

@@ -12,6 +12,7 @@ use Rattle.model.specs.Answers.{cardAnswer}
 use Rattle.report.specs.Lines.{cardLine}
 use Rattle.report.specs.Report.{wordsReport, reportOf}
 use Rattle.stream.proofs.Whole.{report-of-sound, report-of-refused}
+use Rattle.standard_io.specs.declared.Received.{Received}
 use Rattle.word_loop.specs.declared.Ended.{Ended}
 use Rattle.word_loop.specs.declared.Ended.the-variants.{At, Failed}
 use Rattle.word_loop.specs.Parts.{PartOfReport, Completed, LastPart}
@@ -43,9 +44,9 @@ last-part card completed =
     }
 
 pub refused-card-line : (card : List ℕ) → length card ≤ 512 → (SoundCard card → ⊥) → (end : ℕ) (out : List ℕ) → end ≤ length out
-    → take end out ≡ cardLine (cardAnswer card) → LastPart (behind card) out (At end)
+    → take end out ≡ cardLine (cardAnswer card) → (last : Received) → LastPart (behind card) out (At end last)
 unfolding LastPart
-refused-card-line card short refused end out room line =
+refused-card-line card short refused end out room line last =
     let all : take 512 card ≡ card = take-all 512 card short in
     let whole : reportOf card ≡ cardLine (cardAnswer card) = rw all at (report-of-refused card (rw all refused)) in
     (room, record { came = []; text = []; whole = rw append-nil (whole ∙ sym line) })
@@ -53,7 +54,7 @@ refused-card-line card short refused end out room line =
 pub words-behind-card : (card : List ℕ) → SoundCard card → (C : Code) → C ≡ codeOf card → (out : List ℕ) (r : Ended)
     → LastPart (wordsReport C) out r → LastPart (behind card) out r
 unfolding LastPart
-words-behind-card card sound C is out (At end) last = (
+words-behind-card card sound C is out (At end read) last = (
   last .0,
   record {
     came = last .1 .came;

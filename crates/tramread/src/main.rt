@@ -3,11 +3,13 @@
 // The stored stdin is document 01's card B with the words of its example, and stdout is the document's text, with document 02's bits of
 // the chunks at the end of each line of a word that is read.
 ghost use mathlib.Core.Path.{_≡_};
+ghost use mathlib.Core.Bool.{false};
 ghost use mathlib.Core.List.{_++_};
 ghost use Prim.Native.Nat.{_≤_};
-ghost use lib.ListN.{length};
+ghost use lib.ListN.{length, take};
+ghost use Rattle.model.specs.Card.{SoundCard};
 ghost use Rattle.report.specs.Report.{reportOf};
-ghost use Rattle.word_loop.specs.Parts.{LastPart};
+ghost use Rattle.word_loop.specs.Parts.{LastPart, OnlyAtEnd};
 use libc::STDERR_FILENO;
 use linear_code::decode;
 use position::summary;
@@ -23,18 +25,19 @@ fn tell_usage() {
     );
 }
 
-// Reads the card: until its buffer is full or the input ends.
-fn receive_card(card: &mut [u8]) -> Received
-    ensures { λ r. ⌜ r .end ≤ length (now (card .exit)) ⌝ }
+// Reads the card into the front of the buffer: until all its 512 bytes have come or the input ends.
+fn receive_card(input: &mut [u8]) -> Received
+    requires { ⌜ length (now input) ≡ 64512 ⌝ }
+    ensures { λ r. ⌜ r .count ≤ 512 ⌝ }
 {
-    standard_io::receive_all(card, b"tramread: reading standard input")
+    standard_io::receive_all(&mut input[..512], b"tramread: reading standard input")
 }
 
-// A buffer for the bytes that come in.
-fn input_buffer() -> [u8; 64000]
-    ensures { λ r. ⌜ 64000 ≡ length r ⌝ }
+// A buffer for the bytes that come in: the card's 512, and behind them words, so that each word starts in its middle.
+fn input_buffer() -> [u8; 64512]
+    ensures { λ r. ⌜ 64512 ≡ length r ⌝ }
 {
-    [0; 64000]
+    [0; 64512]
 }
 
 // A buffer for the lines that go out.
@@ -44,17 +47,19 @@ fn line_buffer() -> [u8; 230400]
     [0; 230400]
 }
 
-// The report of a card and the words behind it: all but its last part is put out, and that part is left in `out`. The card is
-// checked and decoded once.
-fn report_on(card: &[u8], input: &mut [u8], out: &mut [u8]) -> Ended
-    requires { ⌜ length (now card) ≤ 512 ⌝ }
-    requires { ⌜ (length (now input) ≡ 64000) × (length (now out) ≡ 230400) ⌝ }
-    ensures { λ r. ⌜ LastPart (λ came. reportOf (now (card .entry) ++ came)) (now (out .exit)) r ⌝ }
+// The report of a card, of which `came` tells how many bytes stand at the front of `input`, and of the words behind it: all but its
+// last part is put out, and that part is left in `out`. The card is checked and decoded once. Of a refused card no word is read.
+fn report_on(came: Received, input: &mut [u8], out: &mut [u8]) -> Ended
+    requires { ⌜ (came .count ≤ 512) × (came .failed ≡ false) ⌝ }
+    requires { ⌜ (length (now input) ≡ 64512) × (length (now out) ≡ 230400) ⌝ }
+    ensures last { λ r. ⌜ LastPart (λ more. reportOf (take (came .count) (now (input .entry)) ++ more)) (now (out .exit)) r ⌝ }
+    ensures ended { λ r. ⌜ (SoundCard (take (came .count) (now (input .entry))) → OnlyAtEnd r) ⌝ }
 {
-    let decoded = decode::decode(card);
+    let n = came.count();
+    let decoded = decode::decode(&input[..n]);
     let end = lines::put_card_line(out, 0, summary::card_answer(decoded));
     if decoded.refusal != 0 {
-        return Ended::At(end);
+        return Ended::At(end, came);
     }
     if !word_loop::put_out(out, end) {
         return Ended::Failed;
@@ -68,17 +73,15 @@ fn main() {
         tell_usage();
         return;
     }
-    let mut card = [0u8; 512];
-    let came = receive_card(&mut card);
-    if came.failed {
+    let mut input = input_buffer();
+    let came = receive_card(&mut input);
+    if came.failed() {
         return;
     }
-    let n = came.end;
-    let mut input = input_buffer();
     let mut out = line_buffer();
-    let ended = report_on(&card[..n], &mut input, &mut out);
+    let ended = report_on(came, &mut input, &mut out);
     match ended {
-        Ended::At(end) => {
+        Ended::At(end, _) => {
             word_loop::put_out(&out, end);
         }
         Ended::Failed => {}

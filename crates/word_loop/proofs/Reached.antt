@@ -1,8 +1,9 @@
 -- How the reader of words can stand after some turns: for some bytes that came in, at least one with each turn, and some text that was
--- put out for them. It is so before the first turn, where bytes behind those held are written over, and after a turn.
+-- put out for them. It is so before the first turn, where bytes behind those held are written over, and after a turn. `input` is the
+-- buffer from where the words start in it.
 -- Assumes nothing.
 use Prim.Native.Nat.{ℕ, _+_, _≤_, _<_}
-use mathlib.Core.Path.{_≡_, _∙_}
+use mathlib.Core.Path.{_≡_, sym, ap, _∙_}
 use mathlib.Core.List.{List, [], _++_, append-assoc}
 use native.Mathlib.Omega.{arith}
 use lib.ListN.{length, take, drop, length-append, length-drop}
@@ -12,6 +13,7 @@ use Rattle.model.specs.Answers.{cardAnswer}
 use Rattle.report.specs.Lines.{cardLine, shortLine, lastLine}
 use Rattle.stream.specs.declared.turn.Progress.{Progress}
 use Rattle.stream.specs.Streamed.{Streamed, Follows}
+use Rattle.stream.proofs.Behind.{behind-of-front}
 use Rattle.stream.proofs.Streaming.{streamed-nothing, report-streamed}
 use Rattle.stream.proofs.Whole.{report-of-sound}
 use Rattle.word_loop.specs.Parts.{FromCard, PartOfReport}
@@ -26,14 +28,20 @@ pub reached-first : (C : Code) (input : List ℕ) {p : Progress} → p .held ≡
 reached-first C input held met read =
     record { all = []; text = []; streamed = streamed-nothing C input held met read; each-turn = omega arith }
 
-pub reached-still : {C : Code} {input input′ : List ℕ} {p : Progress} {turns : ℕ} → take (p .held) input′ ≡ take (p .held) input
-    → Reached C input p turns → Reached C input′ p turns
-reached-still same reached =
+-- the bytes up to those held stand in the buffer as they stood
+pub reached-still : {C : Code} (start : ℕ) (buffer buffer′ : List ℕ) {p : Progress} {turns : ℕ} → start ≤ length buffer → start ≤ length buffer′
+    → take (start + p .held) buffer′ ≡ take (start + p .held) buffer
+    → Reached C (drop start buffer) p turns → Reached C (drop start buffer′) p turns
+reached-still start buffer buffer′ {p} inside inside′ same reached =
     let s = reached .streamed in
+    let front : take (p .held) (drop start buffer′) ≡ take (p .held) (drop start buffer) =
+    sym (behind-of-front start buffer′ (p .held) inside′)
+    ∙ ap (drop start) same
+    ∙ behind-of-front start buffer (p .held) inside in
     record {
       all = reached .all;
       text = reached .text;
-      streamed = record { met = s .met; read = s .read; held = s .held; kept = same ∙ s .kept; lines = s .lines };
+      streamed = record { met = s .met; read = s .read; held = s .held; kept = front ∙ s .kept; lines = s .lines };
       each-turn = reached .each-turn;
     }
 

@@ -1,6 +1,7 @@
 -- The parts in which a report is put out: the card's line, the lines of each turn's words, and the last part. Which bytes came in, no
 -- contract can say: each statement is of some input. Assumes nothing.
 use mathlib.Core.Path.{_≡_}
+use mathlib.Core.Bool.{false}
 use mathlib.Core.List.{List, _++_}
 use Prim.Native.Nat.{ℕ, _≤_}
 use lib.ListN.{length, take}
@@ -28,7 +29,12 @@ pub record Completed (report : List ℕ → List ℕ) (last : List ℕ) : Type 0
   pub text : List ℕ
   pub whole : report came ≡ text ++ last
 
--- where all the input was read, the last part of its report is at the front of `out`; nothing is said where the system failed
+-- where all the input was read, the last part of its report is at the front of `out`; nothing is said where it failed
 unfoldable pub LastPart : (report : List ℕ → List ℕ) (out : List ℕ) → Ended → Type 0
-LastPart report out (At end) = (end ≤ length out) × Completed report (take end out)
+LastPart report out (At end last) = (end ≤ length out) × Completed report (take end out)
 LastPart report out Failed = Unit {0}
+
+-- a report is completed only at the end of the input: there the last read brought nothing, and did not fail
+unfoldable pub OnlyAtEnd : Ended → Type 0
+OnlyAtEnd (At end last) = (last .count ≡ 0) × (last .failed ≡ false)
+OnlyAtEnd Failed = Unit {0}

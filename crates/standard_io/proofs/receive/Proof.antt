@@ -34,16 +34,16 @@ returns c =
     let read = c .before .before .before .before .before .before in
     let args = read .before .before .before .before .before .before .args in
     let came : c .count .result ≤ args .full - args .held = omega (arith, simp length-take at (c .count .ensures .0 .0)) in
-    ((omega arith, omega arith), kept read .1)
+    (omega arith, kept read .1)
 
 loop-again : tie.Need-loop-again Inv-loop μ-loop
 loop-again c = kept (c .before .before .before .before .before)
 
 returns-2 : tie.Need-returns-2 Inv-loop μ-loop
-returns-2 c = ((omega arith, omega arith), kept (c .before .before .before .before .before .before) .1)
+returns-2 c = (omega arith, kept (c .before .before .before .before .before .before) .1)
 
 returns-3 : tie.Need-returns-3 Inv-loop μ-loop
-returns-3 c = ((omega arith, omega arith), c .before .before .loop .inv .1)
+returns-3 c = (omega arith, c .before .before .loop .inv .1)
 
 pub receive-spec : {M : Type 1} → statement M
 receive-spec =
@@ -60,7 +60,6 @@ receive-spec =
     (λ c. search needs)
     (λ c. search needs)
     (λ c κs. search needs)
-    (λ c. search needs)
     (λ c. search needs)
     returns
     (λ c κs. search needs)

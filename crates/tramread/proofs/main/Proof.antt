@@ -1,24 +1,20 @@
 -- `tramread::main` is safe and ends: the card has at most the 512 bytes of its buffer, the buffers are as long as they are made, and
 -- the last part of the report stands within its own. Assumes nothing.
-use mathlib.Core.Path.{sym}
+use mathlib.Core.Path.{sym, _∙_}
 use native.Mathlib.Omega.{arith}
 use borrow.Author.Needs.{needs}
 use lib.ListN.{take}
-use lib.Seq.{length-take-le}
 use Rattle.word_loop.specs.Parts.{LastPart}
 use Rattle.tramread.proofs.Parts.{last-part}
 use Rattle.tramread.proofs.main.Statement.{statement}
 use Rattle.tramread.proofs.main.Tie as tie
 
-slice-aggregate-report-on : tie.Need-slice-aggregate-report-on
-slice-aggregate-report-on c = sym (length-take-le _ _ (c .before .before .before .before .before .receive-card .ensures))
-
 report-on-requires : tie.Need-report-on-requires
 report-on-requires c κs =
-    let card = c .before .before .before .before .before .before .before in
-    let made = c .before .before .before in (
-      rw (length-take-le (card .receive-card .result .end) (card .receive-card .last .0) (card .receive-card .ensures)) (omega arith),
-      (sym (made .before .input-buffer .ensures), sym (made .line-buffer .ensures)),
+    let passed = c .before .before .before in
+    let read = passed .before .before .before in (
+      (read .receive-card .ensures, sym (passed .before .failed .ensures) ∙ passed .if2 .left),
+      (omega (arith, read .receive-card .kept .0), sym (c .before .before .line-buffer .ensures)),
     )
 
 put-out-requires : tie.Need-put-out-requires
@@ -26,9 +22,9 @@ unfolding LastPart
 put-out-requires c κs =
     let known = c .before .before in
     let report = known .before .before .before .before in
-    let last = rw (known .ended .given .1) at (report .report-on .ensures) in
-    let card = report .before .before .before .before .before .before .before .before in
-    (last .0, last-part (take (card .receive-card .result .end) (card .receive-card .last .0)) (last .1))
+    let last = rw (known .ended .given .1) at (report .report-on .ensures .0) in
+    let card = report .before .before .before .before .before .before .before in
+    (last .0, last-part (take (card .receive-card .result .count) (card .receive-card .last .0)) (last .1))
 
 pub main-spec : {M : Type 1} → statement M
 main-spec =
@@ -37,13 +33,12 @@ main-spec =
     (λ c κs. search needs)
     (λ c κs. search needs)
     (λ c. search needs)
-    (λ c. search needs)
     (λ c κs. search needs)
     (λ c. search needs)
     (λ c κs. search needs)
     (λ c κs. search needs)
     (λ c. search needs)
-    slice-aggregate-report-on
+    (λ c κs. search needs)
     (λ c. search needs)
     (λ c. search needs)
     report-on-requires

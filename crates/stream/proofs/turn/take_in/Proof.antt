@@ -1,15 +1,17 @@
 -- `stream::turn::take_in` meets its contract: n / w words of w bytes are whole, and their lines are those that are put; the n % w
 -- bytes that are left are those behind the whole words, and these are kept. So the turn follows what came before it (`follows`).
 -- Assumes nothing.
-use Prim.Native.Nat.{ℕ, _+_, _/_, _^_, _<_}
+use Prim.Native.Nat.{ℕ, _+_, _/_, _^_, _≤_, _<_}
 use mathlib.Core.Path.{_≡_, sym, ap, _∙_}
+use mathlib.Core.List.{List}
 use native.Mathlib.Nat.{zero-add, div-mul-le-self, mod-eq-sub-div-mul}
 use native.Mathlib.Omega.{arith}
 use borrow.Author.Needs.{needs}
-use lib.ListN.{length, take}
+use lib.ListN.{length, take, drop, length-drop}
 use lib.Seq.{length-take-le}
 use Rattle.model.specs.Decoded.{meaning}
 use Rattle.model.specs.Answers.{wordLength}
+use Rattle.stream.proofs.Behind.{behind-of-front, rest-lent, rest-put-back}
 use Rattle.stream.proofs.Pieces.{tail-behind-words}
 use Rattle.stream.proofs.Streaming.{follows}
 use Rattle.stream.proofs.turn.take_in.Statement.{statement}
@@ -25,9 +27,16 @@ measured c = c .before .before .before
 abbrev first : tie.After-word-length → tie.Start
 first c = c .before .before .before
 
+-- the buffer from where the words start
+abbrev words-of : tie.After-word-length → List ℕ
+words-of c = drop (first c .args .start) (first c .args .input .now)
+
 -- n bytes have come in
-arrived : (c : tie.After-word-length) → length (take (first c .args .n) (first c .args .input .now)) ≡ first c .args .n
-arrived c = length-take-le _ _ (first c .pre .1 .0 .1)
+room : (c : tie.After-word-length) → first c .args .n ≤ length (words-of c)
+room c = rw length-drop (omega arith)
+
+arrived : (c : tie.After-word-length) → length (take (first c .args .n) (words-of c)) ≡ first c .args .n
+arrived c = length-take-le _ _ (room c)
 
 -- the measured length is that of the code's words
 each : (c : tie.After-word-length) → wordLength (meaning (first c .args .code)) ≡ c .word-length .result
@@ -38,7 +47,7 @@ met-fits : (c : tie.After-word-length) → first c .args .before .met + first c 
 met-fits c = rw (each c) at (first c .pre .1 .1 .1)
 
 slice-aggregate-put-words : tie.Need-slice-aggregate-put-words
-slice-aggregate-put-words c = sym (arrived (c .before .before))
+slice-aggregate-put-words c = sym (length-take-le _ _ (first (c .before .before) .pre .1 .0 .1))
 
 put-words-requires : tie.Need-put-words-requires
 put-words-requires c κs =
@@ -48,7 +57,8 @@ put-words-requires c κs =
     let w = length-of .word-length .result in (
       pre .0,
       (
-        rw (each length-of, arrived length-of) (div-mul-le-self (args .n) w),
+        rw (each length-of, length-take-le (args .start + args .n) (args .input .now) (pre .1 .0 .1))
+            (omega (arith, div-mul-le-self (args .n) w)),
         rw (zero-add, ← (each length-of)) (pre .1 .1 .0),
         omega (arith, met-fits length-of),
       ),
@@ -62,13 +72,14 @@ mul-keep-tail c =
 keep-tail-requires : tie.Need-keep-tail-requires
 keep-tail-requires c κs =
     let length-of = c .before .before .before .before .before .before in
-    (div-mul-le-self _ _, first length-of .pre .1 .0 .1)
+    let args = first length-of .args in
+    (div-mul-le-self _ _, rw (rest-lent (args .start) (args .input .now)) (room length-of))
 
-add-t19 : tie.Need-add-t19
-add-t19 c = omega (arith, met-fits (measured (put (c .before .before .before))))
+add-t23 : tie.Need-add-t23
+add-t23 c = omega (arith, met-fits (measured (put (c .before .before .before))))
 
-add-t20 : tie.Need-add-t20
-add-t20 c =
+add-t24 : tie.Need-add-t24
+add-t24 c =
     let words = put (c .before .before .before .before .before) in
     let length-of = measured words in
     omega (arith, met-fits length-of, first length-of .pre .1 .0 .2, words .put-words .ensures .1 .1 .1)
@@ -83,15 +94,20 @@ returns c =
     let w = length-of .word-length .result in
     let is-length = length-of .word-length .ensures .0 in
     let within = first length-of .pre .1 .0 in
-    follows (meaning (args .code)) (args .input .now) n (rw (each length-of) (length-of .word-length .ensures .1)) (within .0)
+    let start : args .start ≤ length (args .input .now) = omega arith in
+    let front = behind-of-front (args .start) (args .input .now) n start in
+    follows (meaning (args .code)) (words-of length-of) n (rw (each length-of) (length-of .word-length .ensures .1)) (within .0)
     record {
       met = rw (arrived length-of, ← is-length);
-      read = rw (arrived length-of, ← is-length) (ap (λ (more : ℕ). args .before .read + more) (words .put-words .ensures .1 .1 .0));
+      read =
+          rw (arrived length-of, ← is-length)
+          (ap (λ (more : ℕ). args .before .read + more) (rw front at (words .put-words .ensures .1 .1 .0)));
       held = rw (arrived length-of, ← is-length) (kept .keep-tail .ensures .0 ∙ sym (mod-eq-sub-div-mul n w));
       kept =
-          rw (arrived length-of, ← is-length)
-          (kept .keep-tail .ensures .1 ∙ tail-behind-words (args .input .now) n w (within .1));
-      lines = rw (arrived length-of, ← is-length) (words .put-words .ensures .0);
+          rw (arrived length-of, ← is-length, rest-put-back (args .start) (args .input .now) (kept .keep-tail .last .0) start)
+          (rw (rest-lent (args .start) (args .input .now)) at (kept .keep-tail .ensures .1)
+          ∙ tail-behind-words (words-of length-of) n w (room length-of));
+      lines = rw (arrived length-of, ← is-length) (rw front at (words .put-words .ensures .0));
       room = rw (arrived length-of, ← is-length) (rw zero-add at (words .put-words .ensures .1 .0));
     }
 
@@ -102,12 +118,16 @@ take-in-spec =
     (λ c κs. search needs)
     (λ c. search needs)
     (λ c. search needs)
+    (λ c. search needs)
     slice-aggregate-put-words
     put-words-requires
+    (λ c. search needs)
+    (λ c. search needs)
+    (λ c. search needs)
     mul-keep-tail
     keep-tail-requires
-    add-t19
-    add-t20
+    add-t23
+    add-t24
     (λ c. search needs)
     (λ c. search needs)
     returns)

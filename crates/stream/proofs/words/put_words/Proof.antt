@@ -3,7 +3,7 @@
 use Prim.Native.Nat.{_+_, _-_, _*_, _≤_}
 use mathlib.Core.Path.{_≡_, refl, sym, _∙_}
 use native.Mathlib.Nat.{zero-mul, add-mul, one-mul}
-use lib.ListN.{length}
+use lib.ListN.{length, drop}
 use Rattle.bits.specs.Sums.{sumBelow}
 use Rattle.model.specs.Decoded.{meaning}
 use Rattle.report.specs.Report.{answerAt, wordLines, wordsRead}
@@ -16,11 +16,11 @@ use Rattle.stream.proofs.words.put_words.Statement.{statement}
 use Rattle.stream.proofs.words.put_words.Tie as tie
 
 abbrev Inv-loop : tie.InvT-loop
-Inv-loop out₀ at code bytes met words w next₀ read₀ from₀ i₀ out next read from i =
-    WordsPutSoFar (meaning code) bytes met words w out₀ at out next read from i
+Inv-loop out₀ at code bytes start met words w next₀ read₀ from₀ i₀ out next read from i =
+    WordsPutSoFar (meaning code) bytes start met words w out₀ at out next read from i
 
 abbrev μ-loop : tie.MeasureT-loop
-μ-loop out₀ at code bytes met words w next₀ read₀ from₀ i₀ out next read from i = words - i
+μ-loop out₀ at code bytes start met words w next₀ read₀ from₀ i₀ out next read from i = words - i
 
 word-length-requires : tie.Need-word-length-requires Inv-loop μ-loop
 word-length-requires c κs = search needs
@@ -31,7 +31,7 @@ loop-holds c =
     let args = c .before .before .before .args in
     record {
       within = omega arith;
-      start = sym (zero-mul (c .word-length .result));
+      start = omega (arith, zero-mul (c .word-length .result));
       lines = puts-nothing (args .out .now) (args .at);
       room = omega arith;
       counted = refl;
@@ -51,7 +51,7 @@ lent c =
     let w = measured .word-length .result in
     let i = c .before .loop .i in
     let inside : i * w + w ≤ args .words * w = within w i (args .words) (c .loop-test .taken) in
-    let whole : args .words * w ≤ length (args .bytes .now) = rw (measured .word-length .ensures .0) (first .pre .1 .0) in
+    let whole : args .start + args .words * w ≤ length (args .bytes .now) = rw (measured .word-length .ensures .0) (first .pre .1 .0) in
     omega arith
 
 add-to : tie.Need-add-to Inv-loop μ-loop
@@ -98,16 +98,18 @@ loop-again c =
     let length-of = measured .word-length in
     let i = loop .i in
     let C = meaning (args .code) in
-    let answer : heard .read .result ≡ answerAt C (args .bytes .now) i =
-    heard .read .ensures ∙ part-is-word C (args .bytes .now) i (loop .from) (length-of .result) (length-of .ensures .0) (loop .inv .start) in
+    let bytes = drop (args .start) (args .bytes .now) in
+    let answer : heard .read .result ≡ answerAt C bytes i =
+    heard .read .ensures
+    ∙ part-is-word C (args .bytes .now) i (args .start) (loop .from) (length-of .result) (length-of .ensures .0) (loop .inv .start) in
     record {
       within = omega arith;
       start = omega (arith, add-mul i 1 (length-of .result), one-mul (length-of .result));
       lines =
-          rw (lines-next C (args .bytes .now) i (args .met), ← answer)
+          rw (lines-next C bytes i (args .met), ← answer)
           (puts-then (omega arith) (loop .inv .lines) (line .put-word-line .ensures .0));
       room = omega arith;
-      counted = rw (read-next C (args .bytes .now) i, ← answer, c .read-count .ensures .0, loop .inv .counted);
+      counted = rw (read-next C bytes i, ← answer, c .read-count .ensures .0, loop .inv .counted);
       few = omega arith;
       same-length = line .put-word-line .kept .0 ∙ loop .inv .same-length;
     }
