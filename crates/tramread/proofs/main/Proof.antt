@@ -1,5 +1,5 @@
--- `tramread::main` is safe and ends: the card has at most the 512 bytes of its buffer, the buffers are as long as they are made, and
--- the last part of the report stands within its own. Assumes nothing.
+-- `tramread::main` is safe and ends: the card has at most 512 bytes and no read of it failed, the buffers are as long as they are made,
+-- and the last part of the report stands within its own. Assumes nothing.
 use mathlib.Core.Path.{sym, _∙_}
 use native.Mathlib.Omega.{arith}
 use borrow.Author.Needs.{needs}

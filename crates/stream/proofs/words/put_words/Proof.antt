@@ -1,7 +1,7 @@
 -- `stream::words::put_words` meets its contract. The loop keeps what `WordsPutSoFar` says of the first `i` words; the part that is lent
 -- is word `i`, so its line follows. The measure is the words that are left. Assumes nothing.
 use Prim.Native.Nat.{_+_, _-_, _*_, _≤_}
-use mathlib.Core.Path.{_≡_, refl, sym, _∙_}
+use mathlib.Core.Path.{_≡_, refl, _∙_}
 use native.Mathlib.Nat.{zero-mul, add-mul, one-mul}
 use lib.ListN.{length, drop}
 use Rattle.bits.specs.Sums.{sumBelow}
