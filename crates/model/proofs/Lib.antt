@@ -1,1 +1,2 @@
 pub mod StarredCases
+pub mod InnerCases

@@ -18,10 +18,6 @@ rowBytes row (suc z) = rowBytes row z ++ bytesOf 8 (row z)
 unfoldable pub sealed : List ℕ → List ℕ
 sealed body = body ++ bytesOf 2 (computedCheck body)
 
--- a card: n, k, the track number, rows 0 to 11, then the bytes 100 to 509, and the check
-abbrev pub cardEnding : (n k track : ℕ) (row : ℕ → ℕ) (rest : List ℕ) → List ℕ
-cardEnding n k track row rest = sealed (n ∷ k ∷ (bytesOf 2 track ++ (rowBytes row 12 ++ rest)))
-
--- a card with offset 0: the bytes 100 to 509 are zero
+-- a card with offset 0: n, k, the track number, rows 0 to 11, zero in the bytes 100 to 509, and the check
 unfoldable pub cardOf : (n k track : ℕ) (row : ℕ → ℕ) → List ℕ
-cardOf n k track row = cardEnding n k track row (replicate 410 0)
+cardOf n k track row = sealed (n ∷ k ∷ (bytesOf 2 track ++ (rowBytes row 12 ++ replicate 410 0)))

@@ -10,3 +10,4 @@ pub mod ReedMuller
 pub mod Statuses
 pub mod Answers
 pub mod Cases
+pub mod InnerCases

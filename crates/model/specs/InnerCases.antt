@@ -1,0 +1,70 @@
+-- Figures of document 02's P1, P2 and P4 that no call answers, so that no program can try them: an offset at the ends of the numbers of
+-- 32 bits (such a card is refused by 14), a distance at the greatest position that the definitions bound, the bytes beside a refusal, and
+-- the sums on the way to a block's start. That the definitions give them is one theorem, `inner-cases`. Assumes nothing.
+use mathlib.Core.List.{List, [], _∷_, _++_, map}
+use Prim.Native.Nat.{ℕ}
+use lib.IntN.{ℤ, pos, negℤ}
+use lib.ListN.{replicate}
+use Rattle.bits.specs.Places.{listOf}
+use Rattle.model.specs.Card.{Code, offsetOf, codeOf}
+use Rattle.model.specs.Order.{rowShare, sumAfterRow, sumBeforeRow}
+use Rattle.model.specs.Words.{millimetresOf}
+use Rattle.model.specs.Answers.{makeAnswer}
+use Rattle.model.specs.Cases.{cardWith, cardA, cardB}
+use Rattle.model.specs.declared.MadeCard.{MadeCard}
+
+-- four rows, of weights 4, 3, 2 and 1, and D 1
+abbrev fourRowCard : List ℕ
+fourRowCard = cardWith 4 4 0 (0b1111 ∷ 0b0111 ∷ 0b0011 ∷ 0b0001 ∷ [])
+
+-- the offset in these bytes 100 to 103
+abbrev offsetIn : List ℕ → List ℤ
+offsetIn bytes = offsetOf (replicate 100 0 ++ bytes) ∷ []
+
+-- the refusal of a card that is to be made, and the bytes beside it
+abbrev made : MadeCard → List ℤ
+made card = map pos (card .refusal ∷ card .bytes)
+
+-- the shares of rows 0 to k - 1 in the start of a block
+abbrev rowShares : (card : List ℕ) (block : ℕ) → List ℤ
+rowShares card i = map pos (listOf (codeOf card .k) (rowShare (codeOf card) i))
+
+-- the sum for the start of a block, before row 0 and after each row
+abbrev rowSums : (card : List ℕ) (block : ℕ) → List ℤ
+rowSums card i = map pos (sumBeforeRow (codeOf card) i 0 ∷ listOf (codeOf card .k) (sumAfterRow (codeOf card) i))
+
+-- figures of the definitions, and what the document says
+pub record Figures : Type 0 where
+  pub given : List ℤ
+  pub expected : List ℤ
+
+abbrev signed : List ℤ → List ℤ → Figures
+signed given expected = record { given = given; expected = expected }
+
+abbrev figures : List ℤ → List ℕ → Figures
+figures given expected = signed given (map pos expected)
+
+unfoldable pub innerCases : List Figures
+innerCases =
+    -- P1: m 0 is 13, and all 512 bytes are zero
+    figures (made (makeAnswer 14 0 0)) (13 ∷ replicate 512 0)
+    -- P2: -2^31 and 2^31 - 1
+    ∷ signed (offsetIn (0x80 ∷ 0x00 ∷ 0x00 ∷ 0x00 ∷ [])) (negℤ (pos 2147483648) ∷ [])
+    ∷ figures (offsetIn (0x7f ∷ 0xff ∷ 0xff ∷ 0xff ∷ [])) (2147483647 ∷ [])
+    -- both ends of the range; no sound card has a position above 1,310,400
+    ∷ figures (millimetresOf (negℤ (pos 20000)) 1310400 ∷ []) (65500000 ∷ [])
+    ∷ figures (millimetresOf (pos 20000) 1310400 ∷ []) (65540000 ∷ [])
+    -- P4, with 3D × i first: card B's one row, of weight 3, is added at codeword 1
+    ∷ figures (rowSums cardB 0) (0 ∷ 0 ∷ [])
+    ∷ figures (rowSums cardB 1) (9 ∷ 15 ∷ [])
+    -- card A's two rows, of weight 2, are first added at codewords 1 and 2, and row 0 again at 3
+    ∷ figures (rowSums cardA 0) (0 ∷ 0 ∷ 0 ∷ [])
+    ∷ figures (rowSums cardA 1) (6 ∷ 10 ∷ 10 ∷ [])
+    ∷ figures (rowSums cardA 2) (12 ∷ 16 ∷ 20 ∷ [])
+    ∷ figures (rowSums cardA 3) (18 ∷ 26 ∷ 30 ∷ [])
+    -- of four rows, just before row 3 is added, where it is, and at the last codeword
+    ∷ figures (rowShares fourRowCard 7) (32 ∷ 12 ∷ 4 ∷ 0 ∷ [])
+    ∷ figures (rowShares fourRowCard 8) (32 ∷ 12 ∷ 4 ∷ 2 ∷ [])
+    ∷ figures (rowShares fourRowCard 15) (64 ∷ 24 ∷ 8 ∷ 2 ∷ [])
+    ∷ figures (rowSums fourRowCard 15) (45 ∷ 109 ∷ 133 ∷ 141 ∷ 143 ∷ [])
+    ∷ []
