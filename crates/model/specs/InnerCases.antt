@@ -1,6 +1,6 @@
--- Figures of document 02's P1, P2 and P4 that no call answers, so that no program can try them: an offset at the ends of the numbers of
--- 32 bits (such a card is refused by 14), a distance at the greatest position that the definitions bound, the bytes beside a refusal, and
--- the sums on the way to a block's start. That the definitions give them is one theorem, `inner-cases`. Assumes nothing.
+-- Figures of document 02's P1, P2 and P4 that no call answers, so that no program can try them: the bytes beside refusal 13, an offset at the
+-- ends of the numbers of 32 bits (such a card is refused by 14), a distance at a position that no sound card reaches, and the sums on the
+-- way to a block's start. That the definitions give them is one theorem, `inner-cases`. Assumes nothing.
 use mathlib.Core.List.{List, [], _∷_, _++_, map}
 use Prim.Native.Nat.{ℕ}
 use lib.IntN.{ℤ, pos, negℤ}
