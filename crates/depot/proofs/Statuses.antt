@@ -17,15 +17,17 @@ use Rattle.model.specs.Answers.{summaryOf, cardAnswer, cardFigures, writeRefusa
 use Rattle.model.specs.Answers.{readRefusal, readAnswer, readFigures}
 use Rattle.model.specs.Answers.{readingTold, levelsAnswered, levelsAnswer, levelsRefusal, levelsFigures, strengthFigures}
 use Rattle.model.specs.Answers.{startRefusal, startAnswer, millimetresRefusal, millimetresAnswer, voteRefusal, voteAnswer, voteFigures}
-use Rattle.model.specs.Levels.{toldAt, noStrength, strengthOf}
+use Rattle.model.specs.Levels.{toldAt, strengthOf}
 use Rattle.model.specs.ReedMuller.{votedNumber, votedDistance}
 use Rattle.model.specs.Statuses.{ifServed, cardStatus, cardValues, writeStatus, writeValues}
 use Rattle.model.specs.Statuses.{readStatus, readValues, numberStatus, numberValues, millimetresStatus, millimetresValues}
-use Rattle.model.specs.Statuses.{levelsStatus, levelsValues, strengthValues, voteStatus, voteValues}
+use Rattle.model.specs.Statuses.{positionAnswer, levelsStatus, levelsValues, strengthValues, voteStatus, voteValues}
 use Rattle.model.specs.declared.CardAnswer.the-variants.{Sound, Refused as CardRefused}
 use Rattle.model.specs.declared.WriteAnswer.{WriteAnswer}
 use Rattle.model.specs.declared.WriteAnswer.the-variants.{Written, Refused as WriteRefused}
 use Rattle.model.specs.declared.ReadAnswer.the-variants.{At, Refused as ReadRefused}
+use Rattle.model.specs.declared.LevelsAnswer.{LevelsAnswer}
+use Rattle.model.specs.declared.LevelsAnswer.the-variants.{At as LevelsAt, Refused as LevelsRefused}
 use Rattle.model.specs.declared.NumberAnswer.the-variants.{Number, Refused as NumberRefused}
 use Rattle.model.specs.declared.MillimetresAnswer.the-variants.{Millimetres, Refused as MillimetresRefused}
 use Rattle.model.specs.declared.VoteAnswer.the-variants.{Voted, Refused as VoteRefused}
@@ -66,24 +68,24 @@ read-told card received =
     told readStatus readValues (readRefusal card received) (readFigures card received) ReadRefused (At (readingOf (codeOf card) received))
     (λ number. refl) (λ number. refl) refl refl
 
+-- a word of levels that is read: the reading, with the strength of all levels
+abbrev levelsServed : (card : List ℕ) (levels : List Float) → LevelsAnswer
+levelsServed card levels = LevelsAt (readingTold (codeOf card) (toldAt levels)) (strengthOf (toldAt levels) (wordBits (codeOf card)))
+
 pub levels-told : (card : List ℕ) (levels : List Float)
     → Told levelsStatus levelsValues (levelsRefusal card levels) (levelsFigures card levels) (levelsAnswer card levels)
-unfolding levelsAnswer levelsAnswered readStatus readValues levelsFigures
+unfolding levelsAnswer levelsAnswered positionAnswer readStatus readValues levelsFigures
 levels-told card levels =
-    told readStatus readValues (levelsRefusal card levels) (levelsFigures card levels) ReadRefused
-    (At (readingTold (codeOf card) (toldAt levels))) (λ number. refl) (λ number. refl) refl refl
+    told levelsStatus levelsValues (levelsRefusal card levels) (levelsFigures card levels) LevelsRefused (levelsServed card levels)
+    (λ number. refl) (λ number. refl) refl refl
 
--- the strength of a word that is read
+-- and the strength of a word that is read
 pub strength-told : (card : List ℕ) (levels : List Float)
-    → strengthValues (levelsAnswer card levels) ≡ ifServed (levelsStatus (levelsAnswer card levels)) (strengthFigures card levels)
-unfolding strengthValues ifServed strengthFigures levelsAnswer levelsAnswered
+    → Told levelsStatus strengthValues (levelsRefusal card levels) (strengthFigures card levels) (levelsAnswer card levels)
+unfolding levelsAnswer levelsAnswered positionAnswer readStatus strengthValues strengthFigures
 strength-told card levels =
-    let refusal = levelsRefusal card levels in
-    ⊎-elim
-    (λ (none : refusal ≡ 0).
-    rw (served-if-none refusal (λ refusal. noStrength) (strengthOf (toldAt levels) (wordBits (codeOf card))) none))
-    (λ (some : refusal ≡ 0 → ⊥). rw (levels-told card levels .0, ne-eqb refusal 0 some))
-    (eq-or-ne refusal 0)
+    told levelsStatus strengthValues (levelsRefusal card levels) (strengthFigures card levels) LevelsRefused (levelsServed card levels)
+    (λ number. refl) (λ number. refl) refl refl
 
 pub start-told : (card : List ℕ) (block : ℕ)
     → Told numberStatus numberValues (startRefusal card block) (start (codeOf card) block ∷ []) (startAnswer card block)

@@ -17,7 +17,7 @@ ghost use Rattle.model.specs.Answers.{levelsAnswer, levelsRefusal, levelsFigure
 ghost use Rattle.model.specs.Answers.{makeRefusal, makeAnswer, voteRefusal, voteAnswer, voteFigures};
 ghost use Rattle.model.specs.Statuses.{ifServed, cardStatus, cardValues, writeStatus, writeValues};
 ghost use Rattle.model.specs.Statuses.{readStatus, readValues, numberStatus, numberValues, millimetresStatus, millimetresValues};
-ghost use Rattle.model.specs.Statuses.{levelsStatus, levelsValues, strengthValues, voteStatus, voteValues};
+ghost use Rattle.model.specs.Statuses.{positionAnswer, levelsStatus, levelsValues, strengthValues, voteStatus, voteValues};
 ghost use Rattle.model.specs.declared.WriteAnswer.the-variants.{Written};
 ghost use Rattle.code_theory.specs.Offsets.{CheckedAsBefore, DistanceAsBefore};
 ghost use Rattle.position_theory.specs.Demands.{WrittenIfServable, UnchangedIfRefused, NeighboursDifferInOneBit, NoOtherPositionsWord};
@@ -25,7 +25,7 @@ ghost use Rattle.position_theory.specs.Demands.{NearestOfAllowed, OffByAtMostTw
 ghost use Rattle.position_theory.specs.ChunkBits.{TellsBitsOfChunks, NeededAsTurned};
 ghost use Rattle.position_theory.specs.Contradictions.{ReadOnlyIfParityAgrees, PastedNeverRead, AsBeforeUnlessContradicted};
 ghost use Rattle.position_theory.specs.DividedChunks.{ReadWithDividedAtWill, BarHoldsPosition};
-ghost use Rattle.level_theory.specs.LevelPromises.{ChunksReadBelowD, NearestOverHeard, TellsWrongOfChunks, AsPlainReading};
+ghost use Rattle.level_theory.specs.LevelPromises.{NearestOverHeard, TellsWrongOfChunks, AsPlainReading};
 ghost use Rattle.level_theory.specs.LevelPromises.{OffByAtMostTwiceWrongAndLost};
 ghost use Rattle.level_theory.specs.LevelContradictions.{LevelsReadOnlyIfParityAgrees, PastedLevelsNeverRead};
 ghost use Rattle.level_theory.specs.LevelContradictions.{LevelsAsBeforeUnlessContradicted};
@@ -129,32 +129,32 @@ pub fn read_word(card: &[u8], word: &[u8]) -> ReadAnswer
     reading::read(decoded.code, word)
 }
 
-// Reads a word from a receiver that gives levels, negative for 1: what a plain read answers, over the bits that aren't lost, and beside the
-// answer the receiver's strength, the sum of the magnitudes and the greatest. A level that is zero, of either sign, is a lost bit. Refused:
+// Reads a word from a receiver that gives levels, negative for 1: what a plain read answers, over the bits that aren't lost, and beside a
+// reading the receiver's strength, the sum of the magnitudes and the greatest. A level that is zero, of either sign, is a lost bit. Refused:
 // the card, 1 to 5 or 14; not exactly d levels, 15; any of them not a number, infinite, or above 1,000,000 in magnitude, 16; and then 9 to
-// 12 and 17 as a plain word. The strength of a refused word is two zeros.
-// A code chunk reads as the codeword for which 2 × wrong + lost is below D, one at most (`chunks`, a law of the definition that the other
-// clauses name), and how many bits it needed is the count of its wrong places. Of d levels of 1 and -1 the answer is that of the plain
-// reading of the word of these bits. Of d levels of 1, -1 and 0 that have, against the word of any position on the track, 2 × wrong + lost
-// below D in every chunk, the answer is a position, and it is off by at most 2 × wrong + lost, counted over the whole word. What 17 changes
-// is as in a plain word (`agrees`, `pasted`, `before`), a separator being what its levels sum to.
+// 12 and 17 as a plain word.
+// A code chunk reads as the codeword for which 2 × wrong + lost is below D, one at most (the theorem `chunks-read-below-D` of crate
+// level_theory), and how many bits it needed is the count of its wrong places. What follows is said of the position answer, the answer but for
+// the strength. Of d levels of 1 and -1 it is that of the plain reading of the word of these bits. Of d levels of 1, -1 and 0 that have,
+// against the word of any position on the track, 2 × wrong + lost below D in every chunk, it is a position, and off by at most
+// 2 × wrong + lost, counted over the whole word. What 17 changes is as in a plain word (`agrees`, `pasted`, `before`), a separator being what
+// its levels sum to.
 pub fn read_levels(card: &[u8], levels: &[f32]) -> LevelsAnswer
     ensures answer { λ r. ⌜ r ≡ levelsAnswer (now (card .entry)) (now (levels .entry)) ⌝ }
     ensures status { λ r. ⌜ levelsStatus r ≡ levelsRefusal (now (card .entry)) (now (levels .entry)) ⌝ }
     ensures values { λ r. ⌜ levelsValues r ≡ ifServed (levelsStatus r) (levelsFigures (now (card .entry)) (now (levels .entry))) ⌝ }
     ensures strength { λ r. ⌜ strengthValues r ≡ ifServed (levelsStatus r) (strengthFigures (now (card .entry)) (now (levels .entry))) ⌝ }
-    ensures chunks { λ r. ⌜ ChunksReadBelowD (now (card .entry)) ⌝ }
-    ensures nearest { λ r. ⌜ NearestOverHeard (now (card .entry)) (now (levels .entry)) (r .answer) ⌝ }
-    ensures bits { λ r. ⌜ TellsWrongOfChunks (now (card .entry)) (now (levels .entry)) (r .answer) ⌝ }
-    ensures plain { λ r. ⌜ AsPlainReading (now (card .entry)) (now (levels .entry)) (r .answer) ⌝ }
-    ensures bounded { λ r. ⌜ OffByAtMostTwiceWrongAndLost (now (card .entry)) (now (levels .entry)) (r .answer) ⌝ }
-    ensures agrees { λ r. ⌜ LevelsReadOnlyIfParityAgrees (now (card .entry)) (now (levels .entry)) (r .answer) ⌝ }
-    ensures pasted { λ r. ⌜ PastedLevelsNeverRead (now (card .entry)) (now (levels .entry)) (r .answer) ⌝ }
-    ensures before { λ r. ⌜ LevelsAsBeforeUnlessContradicted (now (card .entry)) (now (levels .entry)) (r .answer) ⌝ }
+    ensures nearest { λ r. ⌜ NearestOverHeard (now (card .entry)) (now (levels .entry)) (positionAnswer r) ⌝ }
+    ensures bits { λ r. ⌜ TellsWrongOfChunks (now (card .entry)) (now (levels .entry)) (positionAnswer r) ⌝ }
+    ensures plain { λ r. ⌜ AsPlainReading (now (card .entry)) (now (levels .entry)) (positionAnswer r) ⌝ }
+    ensures bounded { λ r. ⌜ OffByAtMostTwiceWrongAndLost (now (card .entry)) (now (levels .entry)) (positionAnswer r) ⌝ }
+    ensures agrees { λ r. ⌜ LevelsReadOnlyIfParityAgrees (now (card .entry)) (now (levels .entry)) (positionAnswer r) ⌝ }
+    ensures pasted { λ r. ⌜ PastedLevelsNeverRead (now (card .entry)) (now (levels .entry)) (positionAnswer r) ⌝ }
+    ensures before { λ r. ⌜ LevelsAsBeforeUnlessContradicted (now (card .entry)) (now (levels .entry)) (positionAnswer r) ⌝ }
 {
     let decoded = decode::decode(card);
     if decoded.refusal != 0 {
-        return level_reader::refused(decoded.refusal);
+        return LevelsAnswer::Refused(decoded.refusal);
     }
     level_reader::read(decoded.code, levels)
 }

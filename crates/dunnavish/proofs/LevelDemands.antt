@@ -9,7 +9,7 @@ use borrow.Author.Tests.{eq-eqb, ne-eqb}
 use lib.Ieee.{Float}
 use lib.ListN.{length}
 use Rattle.model.specs.Answers.{levelsAnswer, levelsFigures}
-use Rattle.model.specs.Statuses.{ifServed, levelsStatus, levelsValues, strengthValues}
+use Rattle.model.specs.Statuses.{ifServed, positionAnswer, levelsStatus, levelsValues, strengthValues}
 use Rattle.model.specs.declared.LevelsAnswer.{LevelsAnswer}
 use Rattle.level_theory.specs.LevelPromises.{AsPlainReading, OffByAtMostTwiceWrongAndLost}
 use Rattle.level_theory.specs.LevelContradictions.{LevelsReadOnlyIfParityAgrees, PastedLevelsNeverRead}
@@ -65,8 +65,8 @@ module _ (card : List ℕ) (levels : List Float) (lent : List ℕ) (lentStrength
     -- the right counts: what the library answered
     module _ (floats : length lentStrength ≡ strengthCount) (r : LevelsAnswer) (is : r ≡ answered)
         (values : levelsValues r ≡ ifServed (levelsStatus r) (levelsFigures card levels))
-        (plain : AsPlainReading card levels (r .answer)) (bounded : OffByAtMostTwiceWrongAndLost card levels (r .answer))
-        (agrees : LevelsReadOnlyIfParityAgrees card levels (r .answer)) (pasted : PastedLevelsNeverRead card levels (r .answer)) where
+        (plain : AsPlainReading card levels (positionAnswer r)) (bounded : OffByAtMostTwiceWrongAndLost card levels (positionAnswer r))
+        (agrees : LevelsReadOnlyIfParityAgrees card levels (positionAnswer r)) (pasted : PastedLevelsNeverRead card levels (positionAnswer r)) where
       pub levels-cross : (status : ℕ) (left : List ℕ) (strengthLeft : List Float) → status ≡ levelsStatus r
           → left ≡ leftBy status (levelsValues r) lent → strengthLeft ≡ leftBy status (strengthValues r) lentStrength
           → LevelsMeet status left strengthLeft
@@ -74,7 +74,7 @@ module _ (card : List ℕ) (levels : List Float) (lent : List ℕ) (lentStrength
           LevelsReadOnlyIfParityAgrees PastedLevelsNeverRead LevelsServedOnlyIfParityAgrees PastedLevelsNeverServed
       levels-cross status left strengthLeft is-status is-left is-strength =
           let crosses : status ≡ statusFor readCount lent (levelsStatus r) = is-status ∙ rw (eq-eqb (length lent) readCount alike) in
-          let leaves : ReadLeaves lent (r .answer) status left =
+          let leaves : ReadLeaves lent (positionAnswer r) status left =
           record { told = _; values = values; is-status = crosses; is-left = is-left } in
           rw (← is) (
             is-status ∙ rw (eq-eqb (length lent) readCount alike, eq-eqb (length lentStrength) strengthCount floats),
@@ -90,11 +90,11 @@ module _ (card : List ℕ) (levels : List Float) (lent : List ℕ) (lentStrength
                       λ _ _ whole ones. rw (← plain whole ones) (is-status, is-left),
                       (
                         λ _ _ position sound on-track whole units below.
-                            near-crosses lent alike (r .answer) status left crosses is-left position _
+                            near-crosses lent alike (positionAnswer r) status left crosses is-left position _
                             (bounded position sound on-track whole units below) .0,
                         (
-                          agreement-crosses lent (r .answer) status left leaves _ _ agrees,
-                          λ i j c from. never-crosses lent (r .answer) status left leaves (pasted i j c from),
+                          agreement-crosses lent (positionAnswer r) status left leaves _ _ agrees,
+                          λ i j c from. never-crosses lent (positionAnswer r) status left leaves (pasted i j c from),
                         ),
                       ),
                     ),

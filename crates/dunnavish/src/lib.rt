@@ -23,6 +23,7 @@ ghost use Rattle.dunnavish.specs.DividedChunks.{ServedWithDividedAtWill,
 ghost use Rattle.dunnavish.specs.Demands.{MadeWithinLimits, VotedAsPromised, VotedAsSearch};
 use model::CardAnswer;
 use model::ChunkBits;
+use model::LevelsAnswer;
 use model::MillimetresAnswer;
 use model::NumberAnswer;
 use model::ReadAnswer;
@@ -170,13 +171,14 @@ pub extern "C" fn dunnavish_read_levels(
     if strength.len() != 2 {
         return WRONG_COUNT;
     }
-    let levels_answer = depot::read_levels(card, levels);
-    let answer = levels_answer.answer;
-    let kept = levels_answer.strength;
+    let answer = depot::read_levels(card, levels);
     match answer {
-        ReadAnswer::Refused(refusal_of_levels) => refusal_of_levels,
-        ReadAnswer::At(read) => {
-            put_reading(read, values);
+        LevelsAnswer::Refused(refusal) => refusal,
+        LevelsAnswer::At {
+            reading,
+            strength: kept,
+        } => {
+            put_reading(reading, values);
             strength[0] = kept.sum;
             strength[1] = kept.greatest;
             0

@@ -14,43 +14,58 @@ use Rattle.bits.specs.Sums.{marked}
 use Rattle.bits.specs.Places.{place}
 use Rattle.bits.proofs.Numbers.{eq-or-ne}
 use Rattle.bits.proofs.Heard.{heard-ext}
+use Rattle.bits.proofs.Places.{cut-below, cut-above}
 use Rattle.model.specs.Refusals.{firstRefusal, unlessRefused}
 use Rattle.model.specs.Card.{Code}
 use Rattle.model.specs.Words.{wordBits}
 use Rattle.model.specs.Reading.{ruleSeen, separatorBy, rows9To12, rowsSeen}
-use Rattle.model.specs.Levels.{anyOutside, toldAt, isHeard, heardIn, bitsIn, seenTold, residualHeard, noStrength, strengthOf}
+use Rattle.model.specs.Levels.{anyOutside, toldAt, heardIn, bitsIn, separatorReading, seenTold, residualHeard, strengthOf}
 use Rattle.model.specs.Answers.{rowsOfLevels, levelsAnswered, readLevels}
 use Rattle.model.specs.declared.Reading.{Reading}
 use Rattle.model.specs.declared.ReadAnswer.{ReadAnswer}
 use Rattle.model.specs.declared.ReadAnswer.the-variants.{At, Refused}
+use Rattle.model.specs.declared.LevelsAnswer.the-variants.{At as LevelsAt, Refused as LevelsRefused}
+use Rattle.model.specs.declared.Told.{Told}
 use Rattle.code_theory.proofs.Refusals.{served-if-none, refused-if-some}
 use Rattle.code_theory.proofs.ChunkReading.{heard-reading-ext}
 use Rattle.position_theory.specs.Nearest.{refusalOf}
 use Rattle.position_theory.proofs.ReadWords.{read-if-served}
-use Rattle.levels.specs.declared.heard.HeardWord.{HeardWord}
-use Rattle.levels.specs.Heard.{HeardWordOf}
+use Rattle.levels.specs.ToldChunks.{heardBits, readBySum}
+use Rattle.reader.specs.Naming.{Names, NamesOf}
+use Rattle.reader.specs.declared.naming.NamedRule.{NamedRule}
 use Rattle.reader.specs.Received.{residualIn, SeesIn, AnswersRule, answerBy, NothingSpare}
-use Rattle.level_reader.specs.Answered.{levelsRefused, answerTold}
+use Rattle.level_reader.specs.ToldWords.{ToldWordOf}
+use Rattle.level_reader.specs.declared.telling.ToldWord.{ToldWord}
 
--- ---- the arrays that hold the word of told bits
+-- what the rule with this number answers of a word of told bits
+abbrev pub answerTold : Code → (word : ℕ → Told) (rule : ℕ) → ReadAnswer
+answerTold C word rule = answerBy C (seenTold C word) (residualHeard C (heardIn word) (bitsIn word)) rule
 
-module _ (C : Code) (levels : List Float) (whole : length levels ≡ wordBits C) (w : HeardWord) (holds : HeardWordOf levels w) where
+-- ---- the struct that holds the word of told bits
+
+module _ (C : Code) (word : ℕ → Told) (w : ToldWord) (holds : ToldWordOf C word w) where
   mark : (t : Bool) (m : ℕ) → m ≡ cond t 1 0 → eqb m 1 ≡ t
   mark true m e = rw e
   mark false m e = rw e
 
-  heard-marked : (p : ℕ) → p < wordBits C → heardIn (toldAt levels) p ≡ marked (place (w .heard)) p
-  heard-marked p b = sym (mark (isHeard (toldAt levels p)) (place (w .heard) p) (holds .heard-told p (omega arith)))
+  heard-marked : (p : ℕ) → p < wordBits C → heardIn word p ≡ marked (place (w .heard)) p
+  heard-marked p b = sym (mark (heardIn word p) (place (w .heard) p) (holds .heard-told p ∙ cut-below (wordBits C) (heardBits word) p b))
 
-  bits-placed : (p : ℕ) → p < wordBits C → bitsIn (toldAt levels) p ≡ place (w .bits) p
-  bits-placed p b = sym (holds .bits-told p (omega arith))
+  bits-placed : (p : ℕ) → p < wordBits C → bitsIn word p ≡ place (w .bits) p
+  bits-placed p b = sym (holds .bits-told p ∙ cut-below (wordBits C) (bitsIn word) p b)
 
   pub nothing-past : NothingSpare C (w .bits) (w .heard)
   unfolding NothingSpare
-  nothing-past p l heard = holds .bits-past p (omega arith)
+  nothing-past p l heard = holds .bits-told p ∙ cut-above (wordBits C) (bitsIn word) p l
 
-  -- what is seen of them is what is seen of the levels, and so is the residual
-  told-in-arrays : SeesIn C (w .bits) (w .heard) (seenTold C (toldAt levels))
+  -- the separators read by their sums name what they name by their levels
+  pub named-by-levels : (named : NamedRule) → Names (readBySum (w .sum1)) (readBySum (w .sum2)) (readBySum (w .sum3)) named
+      → NamesOf (seenTold C word) named
+  unfolding seenTold separatorReading
+  named-by-levels named names = rw (holds .sum₁, holds .sum₂, holds .sum₃) at names
+
+  -- what is seen of its arrays is what is seen of the levels, and so is the residual
+  told-in-arrays : SeesIn C (w .bits) (w .heard) (seenTold C word)
   unfolding seenTold
   told-in-arrays =
       record {
@@ -58,17 +73,16 @@ module _ (C : Code) (levels : List Float) (whole : length levels ≡ wordBits C)
         second = heard-reading-ext C (λ p b. heard-marked _ (omega arith)) (λ p b. bits-placed _ (omega arith));
       }
 
-  residual-in-arrays : residualIn C (w .bits) (w .heard) ≡ residualHeard C (heardIn (toldAt levels)) (bitsIn (toldAt levels))
+  residual-in-arrays : residualIn C (w .bits) (w .heard) ≡ residualHeard C (heardIn word) (bitsIn word)
   unfolding residualHeard
   residual-in-arrays =
       fun-ext (λ q. heard-ext (wordBits C) (λ p b. sym (heard-marked p b)) (λ p b. refl) (λ p b. sym (bits-placed p b)))
 
-  pub rule-of-told : (rule : ℕ) (answer : ReadAnswer)
-      → AnswersRule C (w .bits) (w .heard) rule (separatorBy (seenTold C (toldAt levels)) rule) answer
-      → answer ≡ answerTold C (toldAt levels) rule
+  pub rule-of-told : (rule : ℕ) (answer : ReadAnswer) → AnswersRule C (w .bits) (w .heard) rule (separatorBy (seenTold C word) rule) answer
+      → answer ≡ answerTold C word rule
   rule-of-told rule answer by-rule =
-      by-rule (seenTold C (toldAt levels)) told-in-arrays refl
-      ∙ ap (λ (residual : ℕ → ℕ). answerBy C (seenTold C (toldAt levels)) residual rule) residual-in-arrays
+      by-rule (seenTold C word) told-in-arrays refl
+      ∙ ap (λ (residual : ℕ → ℕ). answerBy C (seenTold C word) residual rule) residual-in-arrays
 
 -- ---- the ways out
 
@@ -85,18 +99,18 @@ refused-if-answered refusal reading number answered =
     let is : refusal ≡ number = cc in (λ e. some (is ∙ e), is))
     (eq-or-ne refusal 0)
 
-pub refused-15 : (C : Code) (levels : List Float) → (length levels ≡ wordBits C → ⊥) → levelsRefused 15 ≡ readLevels C levels
-unfolding readLevels levelsAnswered rowsOfLevels firstRefusal unlessRefused levelsRefused
+pub refused-15 : (C : Code) (levels : List Float) → (length levels ≡ wordBits C → ⊥) → LevelsRefused 15 ≡ readLevels C levels
+unfolding readLevels levelsAnswered rowsOfLevels firstRefusal unlessRefused
 refused-15 C levels unlike = rw (ne-eqb (length levels) (wordBits C) unlike)
 
 module _ (C : Code) (levels : List Float) (whole : length levels ≡ wordBits C) where
-  pub refused-16 : anyOutside (wordBits C) levels ≡ true → levelsRefused 16 ≡ readLevels C levels
-  unfolding readLevels levelsAnswered rowsOfLevels firstRefusal unlessRefused levelsRefused
+  pub refused-16 : anyOutside (wordBits C) levels ≡ true → LevelsRefused 16 ≡ readLevels C levels
+  unfolding readLevels levelsAnswered rowsOfLevels firstRefusal unlessRefused
   refused-16 some = rw (eq-eqb (length levels) (wordBits C) whole, some)
 
   module _ (inside : anyOutside (wordBits C) levels ≡ false) where
-    pub refused-9 : ruleSeen (seenTold C (toldAt levels)) ≡ 0 → levelsRefused 9 ≡ readLevels C levels
-    unfolding readLevels levelsAnswered rowsOfLevels rowsSeen rows9To12 firstRefusal unlessRefused levelsRefused
+    pub refused-9 : ruleSeen (seenTold C (toldAt levels)) ≡ 0 → LevelsRefused 9 ≡ readLevels C levels
+    unfolding readLevels levelsAnswered rowsOfLevels rowsSeen rows9To12 firstRefusal unlessRefused
     refused-9 unnamed = rw (eq-eqb (length levels) (wordBits C) whole, inside, unnamed)
 
     -- by the rule that is named
@@ -108,15 +122,14 @@ module _ (C : Code) (levels : List Float) (whole : length levels ≡ wordBits C)
     unfolding rowsOfLevels firstRefusal
     refusal-is = rw (eq-eqb (length levels) (wordBits C) whole, inside)
 
-    pub word-read : (r : Reading) → answered ≡ At r
-        → record { answer = At r; strength = strengthOf (toldAt levels) (length levels) } ≡ readLevels C levels
+    pub word-read : (r : Reading) → answered ≡ At r → LevelsAt r (strengthOf (toldAt levels) (wordBits C)) ≡ readLevels C levels
     unfolding readLevels levelsAnswered unlessRefused answerBy
     word-read r is =
         let (none, same) = read-if-served (refusalOf C (seenTold C (toldAt levels))) _ r is in
-        rw (refusal-is, none, whole, same)
+        rw (refusal-is, none, same)
 
-    pub rule-refused : (refusal : ℕ) → answered ≡ Refused refusal → levelsRefused refusal ≡ readLevels C levels
-    unfolding readLevels levelsAnswered levelsRefused answerBy
+    pub rule-refused : (refusal : ℕ) → answered ≡ Refused refusal → LevelsRefused refusal ≡ readLevels C levels
+    unfolding readLevels levelsAnswered answerBy
     rule-refused refusal is =
         let (some, same) = refused-if-answered (refusalOf C (seenTold C (toldAt levels))) _ refusal is in
-        rw (refusal-is, same, refused-if-some refusal Refused _ some, refused-if-some refusal (λ n. noStrength) _ some)
+        rw (refusal-is, same, refused-if-some refusal LevelsRefused _ some)

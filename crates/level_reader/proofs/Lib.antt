@@ -1,1 +1,2 @@
 pub mod LevelAnswers
+pub mod ToldParts

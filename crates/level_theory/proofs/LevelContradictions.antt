@@ -1,6 +1,6 @@
 -- P6 of cards and levels: what holds of whatever is seen of a word holds of what its levels tell, and the theorems of plain words follow for
 -- levels. Assumes nothing.
-use mathlib.Core.Path.{_≡_, refl}
+use mathlib.Core.Path.{_≡_, refl, _∙_}
 use mathlib.Core.List.{List}
 use mathlib.Core.Logic.{⊎-elim}
 use Prim.Native.Nat.{ℕ, _%_}
@@ -8,7 +8,8 @@ use lib.Ieee.{Float}
 use Rattle.model.specs.Card.{codeOf, cardRefusal}
 use Rattle.model.specs.Reading.{ruleSeen, separatorBy, rows9To12, rowsSeen, nearest}
 use Rattle.model.specs.Levels.{toldAt}
-use Rattle.model.specs.Answers.{rowsOfLevels, levelsRefusal, levelsAnswered, levelsAnswer}
+use Rattle.model.specs.Answers.{rowsOfLevels, levelsRefusal, levelsAnswer}
+use Rattle.model.specs.Statuses.{positionAnswer}
 use Rattle.code_theory.proofs.Refusals.{numbered}
 use Rattle.code_theory.proofs.SoundCard.{sound-card}
 use Rattle.position_theory.specs.Contradictions.{contradicted}
@@ -19,10 +20,10 @@ use Rattle.level_theory.specs.LevelContradictions.{seenOf, LevelsReadOnl
 use Rattle.level_theory.specs.LevelContradictions.{levelsAnswerBefore, LevelsAsBeforeUnlessContradicted}
 use Rattle.level_theory.proofs.UnitsTold.{unit-told}
 use Rattle.level_theory.proofs.LevelsSeen.{told-sees-chunks, told-sees}
-use Rattle.level_theory.proofs.LevelPromises.{levels-show}
+use Rattle.level_theory.proofs.LevelPromises.{position-answered, levels-show}
 
 module _ (card : List ℕ) (levels : List Float) where
-  pub levels-read-only-if-parity-agrees : LevelsReadOnlyIfParityAgrees card levels (levelsAnswer card levels .answer)
+  pub levels-read-only-if-parity-agrees : LevelsReadOnlyIfParityAgrees card levels (positionAnswer (levelsAnswer card levels))
   unfolding LevelsReadOnlyIfParityAgrees nearest
   levels-read-only-if-parity-agrees r answered =
       let C = codeOf card in
@@ -30,7 +31,7 @@ module _ (card : List ℕ) (levels : List Float) where
       rw (← is)
       (parity-agrees C (seenOf card levels) (reads-in-code C (told-sees-chunks C (card-promise card sound) (toldAt levels))) none)
 
-  pub pasted-levels-never-read : PastedLevelsNeverRead card levels (levelsAnswer card levels .answer)
+  pub pasted-levels-never-read : PastedLevelsNeverRead card levels (positionAnswer (levelsAnswer card levels))
   unfolding PastedLevelsNeverRead toldAt
   pasted-levels-never-read i j c pasted r answered =
       let C = codeOf card in
@@ -44,6 +45,7 @@ module _ (card : List ℕ) (levels : List Float) where
       pasted-refused C (told-sees-chunks C (card-promise card sound) (toldAt levels)) i j c (pasted .in-code′) (pasted .differ) reads
       (pasted .named) (pasted .chunk) none
 
-  pub levels-as-before-unless-contradicted : LevelsAsBeforeUnlessContradicted card levels (levelsAnswer card levels .answer)
-  unfolding LevelsAsBeforeUnlessContradicted levelsAnswerBefore levelsAnswer levelsAnswered levelsRefusal rowsOfLevels rowsSeen rows9To12 numbered
-  levels-as-before-unless-contradicted = seventeen-past-card (cardRefusal card) _ refl (contradicted (seenOf card levels)) _
+  pub levels-as-before-unless-contradicted : LevelsAsBeforeUnlessContradicted card levels (positionAnswer (levelsAnswer card levels))
+  unfolding LevelsAsBeforeUnlessContradicted levelsAnswerBefore levelsAnswer levelsRefusal rowsOfLevels rowsSeen rows9To12 numbered
+  levels-as-before-unless-contradicted =
+      position-answered (codeOf card) levels _ ∙ seventeen-past-card (cardRefusal card) _ refl (contradicted (seenOf card levels)) _

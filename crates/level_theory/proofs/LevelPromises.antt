@@ -14,17 +14,20 @@ use Rattle.bits.proofs.Numbers.{eq-or-ne}
 use Rattle.bits.proofs.Heard.{heard-ext-left}
 use Rattle.bits.proofs.Searches.{any-none}
 use Rattle.bits.proofs.Places.{length-pack, place-packed, place-spare}
-use Rattle.model.specs.Refusals.{firstRefusal}
+use Rattle.model.specs.Refusals.{firstRefusal, unlessRefused}
 use Rattle.model.specs.Card.{Code, cardRefusal, codeOf, SoundCard}
 use Rattle.model.specs.Words.{wordBits, wordBytes}
 use Rattle.model.specs.Reading.{rows9To12, rowsSeen}
 use Rattle.model.specs.Levels.{anyOutside, toldAt, withinLosses, seenTold, residualHeard}
 use Rattle.model.specs.Answers.{spareSet, readWord, readRefusal, readAnswer, rowsTold, rowsOfLevels, levelsAnswered, readLevels}
 use Rattle.model.specs.Answers.{readingTold, levelsRefusal, levelsAnswer}
+use Rattle.model.specs.Statuses.{positionAnswer}
 use Rattle.model.specs.declared.Reading.{Reading}
-use Rattle.model.specs.declared.ReadAnswer.the-variants.{At}
+use Rattle.model.specs.declared.ReadAnswer.the-variants.{At, Refused}
+use Rattle.model.specs.declared.LevelsAnswer.the-variants.{Refused as LevelsRefused}
 use Rattle.code_theory.proofs.Promise.{one-near}
-use Rattle.code_theory.proofs.Refusals.{NoneHolds, numbered, none-refuses, none-holds, refused-by-card, none-past-card}
+use Rattle.code_theory.proofs.Refusals.{NoneHolds, numbered, none-refuses, none-holds, served-if-none, refused-if-some, refused-by-card}
+use Rattle.code_theory.proofs.Refusals.{none-past-card}
 use Rattle.code_theory.proofs.SoundCard.{sound-card}
 use Rattle.position_theory.specs.Damage.{wrongInAll}
 use Rattle.position_theory.specs.Nearest.{refusalOf}
@@ -58,11 +61,24 @@ chunks-read-below-D card sound heard chunk =
 
 -- ---- what levels are answered, for the code of a sound card
 
+-- ---- the position answer
+
+-- it is the refusal, or what the levels read as
+pub position-answered : (C : Code) (levels : List Float) (refusal : ℕ)
+    → positionAnswer (levelsAnswered C levels refusal) ≡ unlessRefused refusal Refused (At (readingTold C (toldAt levels)))
+unfolding levelsAnswered positionAnswer
+position-answered C levels refusal =
+    ⊎-elim (λ (none : refusal ≡ 0). rw (served-if-none refusal LevelsRefused _ none, served-if-none refusal Refused _ none))
+    (λ (some : refusal ≡ 0 → ⊥). rw (refused-if-some refusal LevelsRefused _ some, refused-if-some refusal Refused _ some))
+    (eq-or-ne refusal 0)
+
 -- d levels, none of them outside the limits, are answered by what is seen of them
 pub read-if-inside : (C : Code) (levels : List Float) → length levels ≡ wordBits C → anyOutside (wordBits C) levels ≡ false
-    → readLevels C levels .answer ≡ readingOfSeen C (seenTold C (toldAt levels)) (residualHeard C (heardOf levels) (bitsOf levels))
-unfolding readLevels levelsAnswered rowsOfLevels firstRefusal readingOfSeen
-read-if-inside C levels whole inside = rw (eq-eqb (length levels) (wordBits C) whole, inside)
+    → positionAnswer (readLevels C levels)
+    ≡ readingOfSeen C (seenTold C (toldAt levels)) (residualHeard C (heardOf levels) (bitsOf levels))
+unfolding readLevels rowsOfLevels firstRefusal readingOfSeen
+read-if-inside C levels whole inside =
+    position-answered C levels (firstRefusal (rowsOfLevels C levels)) ∙ rw (eq-eqb (length levels) (wordBits C) whole, inside)
 
 -- of a sound card, the public call's answer is that of the inner call, which is handed the card's code
 pub levels-sound : (card : List ℕ) (levels : List Float) → SoundCard card → levelsAnswer card levels ≡ readLevels (codeOf card) levels
@@ -71,7 +87,7 @@ levels-sound card levels sound = rw (eq-eqb (cardRefusal card) 0 sound)
 
 -- ---- the nearest allowed position over bits that aren't lost
 
-pub nearest-over-heard : (card : List ℕ) (levels : List Float) → NearestOverHeard card levels (levelsAnswer card levels .answer)
+pub nearest-over-heard : (card : List ℕ) (levels : List Float) → NearestOverHeard card levels (positionAnswer (levelsAnswer card levels))
 unfolding NearestOverHeard
 nearest-over-heard card levels sound whole inside =
     let C = codeOf card in
@@ -81,19 +97,19 @@ nearest-over-heard card levels sound whole inside =
     (reading-is-nearest C promised (seenTold C word) (reads-in-code C (told-sees-chunks C promised word)) _)
 
 -- a word that is read shows that its card is sound and that no row holds of what its levels tell, and the answer is its reading
-pub levels-show : (card : List ℕ) (levels : List Float) (r : Reading) → levelsAnswer card levels .answer ≡ At r
+pub levels-show : (card : List ℕ) (levels : List Float) (r : Reading) → positionAnswer (levelsAnswer card levels) ≡ At r
     → (cardRefusal card ≡ 0) × (refusalOf (codeOf card) (seenTold (codeOf card) (toldAt levels)) ≡ 0)
     × (readingTold (codeOf card) (toldAt levels) ≡ r)
-unfolding levelsAnswer levelsAnswered levelsRefusal rowsOfLevels rowsSeen rows9To12 NoneHolds numbered
+unfolding levelsAnswer levelsRefusal rowsOfLevels rowsSeen rows9To12 NoneHolds numbered
 levels-show card levels r answered =
     let C = codeOf card in
-    let (none, is) = read-if-served _ _ _ answered in
+    let (none, is) = read-if-served _ _ _ (sym (position-answered C levels _) ∙ answered) in
     let (sound, none-of-levels) = none-past-card (cardRefusal card) (rowsOfLevels C levels) none in
     let (_, (_, none-of-rows)) = none-holds (rowsOfLevels C levels) refl none-of-levels in
     (sound, none-refuses (rowsTold C (toldAt levels)) none-of-rows, is)
 
 -- and the wrong places of the chunks that the rule names
-pub tells-wrong-of-chunks : (card : List ℕ) (levels : List Float) → TellsWrongOfChunks card levels (levelsAnswer card levels .answer)
+pub tells-wrong-of-chunks : (card : List ℕ) (levels : List Float) → TellsWrongOfChunks card levels (positionAnswer (levelsAnswer card levels))
 unfolding TellsWrongOfChunks
 tells-wrong-of-chunks card levels r answered =
     let C = codeOf card in
@@ -124,7 +140,7 @@ module _ (card : List ℕ) (levels : List Float) where
   plain-read = read-if-whole C (wordOfBits card levels) (length-pack (wordBits C) (bitsOf levels)) none-spare
 
   sound-as-plain : SoundCard card → length levels ≡ wordBits C → OneLevels levels (wordBits C)
-      → levelsAnswer card levels .answer ≡ readAnswer card (wordOfBits card levels)
+      → positionAnswer (levelsAnswer card levels) ≡ readAnswer card (wordOfBits card levels)
   unfolding toldAt
   sound-as-plain sound whole ones =
       let x = place (wordOfBits card levels) in
@@ -141,17 +157,18 @@ module _ (card : List ℕ) (levels : List Float) where
       )
 
   -- the answer is that of the plain reading, of a refused card too
-  pub as-plain-reading : AsPlainReading card levels (levelsAnswer card levels .answer)
-  unfolding AsPlainReading levelsAnswer levelsAnswered levelsRefusal readAnswer readRefusal
+  pub as-plain-reading : AsPlainReading card levels (positionAnswer (levelsAnswer card levels))
+  unfolding AsPlainReading levelsAnswer levelsRefusal readAnswer readRefusal
   as-plain-reading whole ones =
       ⊎-elim (λ (sound : cardRefusal card ≡ 0). sound-as-plain sound whole ones)
       (λ (refused : cardRefusal card ≡ 0 → ⊥).
-      refused-by-card (cardRefusal card) _ _ _ refused ∙ sym (refused-by-card (cardRefusal card) _ _ _ refused))
+      position-answered C levels _
+      ∙ refused-by-card (cardRefusal card) _ _ _ refused ∙ sym (refused-by-card (cardRefusal card) _ _ _ refused))
       (eq-or-ne (cardRefusal card) 0)
 
   -- ---- levels of 1, -1 and 0 with 2 × wrong + lost below D in every chunk
 
-  pub off-by-at-most-twice-wrong-and-lost : OffByAtMostTwiceWrongAndLost card levels (levelsAnswer card levels .answer)
+  pub off-by-at-most-twice-wrong-and-lost : OffByAtMostTwiceWrongAndLost card levels (positionAnswer (levelsAnswer card levels))
   unfolding OffByAtMostTwiceWrongAndLost residualHeard toldAt
   off-by-at-most-twice-wrong-and-lost position sound h whole units below =
       let word = toldAt levels in

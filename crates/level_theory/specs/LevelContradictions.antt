@@ -70,7 +70,7 @@ levelsAnswerBefore card levels =
     Refused (At (readingTold C (toldAt levels)))
 
 -- The words that were read and no longer are: those in which that separator differs, each refused by 17. Every other word, on every card,
--- is answered as before, with the same values or the same refusal. (The strength goes with the answer: that of the word, or two zeros.)
+-- is answered as before, with the same values or the same refusal. (The strength goes with the reading.)
 unfoldable pub LevelsAsBeforeUnlessContradicted : (card : List ℕ) (levels : List Float) → ReadAnswer → Type 0
 LevelsAsBeforeUnlessContradicted card levels answer =
     answer ≡ unlessContradicted (contradicted (seenOf card levels)) (levelsAnswerBefore card levels)

@@ -1,6 +1,6 @@
-// A word from a receiver that gives levels, document 02, P5: what each level is told as, whether one is outside the limit, the receiver's
-// strength, the reading of a separator, and the bits with those that are heard.
-pub mod heard;
+// A word from a receiver that gives levels, document 02, P5: whether a level is outside the limit; what each level is told as, once; what is
+// told of a chunk, folded level by level into one struct, with the receiver's strength; and the reading of a separator by its sum.
+pub mod chunks;
 pub mod limits;
 pub mod magnitudes;
 pub mod separators;

@@ -15,7 +15,7 @@ use Rattle.model.specs.Card.{Code, cardRefusal, codeOf, offsetOf, radius
 use Rattle.model.specs.Order.{lastCodeword, lastPosition, start}
 use Rattle.model.specs.Words.{wordBits, wordBytes, millimetresOf}
 use Rattle.model.specs.Reading.{Seen, seen, ruleSeen, twoEnds, rowsSeen, rangeSeen, ruleNamed, rowsOf, allowed, residual, nearest}
-use Rattle.model.specs.Levels.{anyOutside, toldAt, heardIn, bitsIn, seenTold, residualHeard, noStrength, strengthOf}
+use Rattle.model.specs.Levels.{anyOutside, toldAt, heardIn, bitsIn, seenTold, residualHeard, strengthOf}
 use Rattle.model.specs.ReedMuller.{reedMullerCard, orderWithinLimits, votedNumber, votedDistance, votedWithin}
 use Rattle.model.specs.Statuses.{bitsValue}
 use Rattle.model.specs.declared.Reading.{Reading}
@@ -29,6 +29,7 @@ use Rattle.model.specs.declared.ReadAnswer.the-variants.{At, Refused as 
 use Rattle.model.specs.declared.Told.{Told}
 use Rattle.model.specs.declared.Strength.{Strength}
 use Rattle.model.specs.declared.LevelsAnswer.{LevelsAnswer}
+use Rattle.model.specs.declared.LevelsAnswer.the-variants.{At as LevelsAt, Refused as LevelsRefused}
 use Rattle.model.specs.declared.NumberAnswer.{NumberAnswer}
 use Rattle.model.specs.declared.NumberAnswer.the-variants.{Number, Refused as NumberRefused}
 use Rattle.model.specs.declared.MillimetresAnswer.{MillimetresAnswer}
@@ -134,13 +135,10 @@ rowsOfLevels C levels =
     ∷ refuses 16 (anyOutside (wordBits C) levels)
     ∷ rowsTold C (toldAt levels)
 
--- what is answered of levels whose refusal has this number: the refusal, with no strength; or the reading, with the strength of all levels
+-- what is answered of levels whose refusal has this number: the refusal; or the reading, with the strength of all levels
 unfoldable pub levelsAnswered : Code → (levels : List Float) (refusal : ℕ) → LevelsAnswer
 levelsAnswered C levels refusal =
-    record {
-      answer = unlessRefused refusal ReadRefused (At (readingTold C (toldAt levels)));
-      strength = unlessRefused refusal (λ refusal. noStrength) (strengthOf (toldAt levels) (wordBits C));
-    }
+    unlessRefused refusal LevelsRefused (LevelsAt (readingTold C (toldAt levels)) (strengthOf (toldAt levels) (wordBits C)))
 
 -- read levels, for the code of a sound card
 unfoldable pub readLevels : Code → (levels : List Float) → LevelsAnswer

@@ -1,8 +1,8 @@
 -- Document 02, P5: words from a receiver that gives levels. What an arriving level is told as, how separators and code chunks read, the
 -- residual over bits that aren't lost, and the receiver's strength. A lost bit is an erasure, and a bit that is heard one that is not
 -- erased: 2 × wrong + lost below D is the bound of errors-and-erasures decoding. A word is seen as `Seen` again, so that rules, rows and
--- ranges are those of Reading.antt; a level is a float of single precision, in the toolchain's own account of IEEE 754 (lib.Ieee). What
--- the documents leave open is fixed here too: the strength of a word that is refused. Assumes nothing.
+-- ranges are those of Reading.antt; a level is a float of single precision, in the toolchain's own account of IEEE 754 (lib.Ieee).
+-- Assumes nothing.
 use mathlib.Core.Bool.{Bool, true, false, cond, _||_}
 use mathlib.Core.List.{List}
 use Prim.Native.Nat.{ℕ, zero, suc, _+_, _*_, _^_}
@@ -114,7 +114,7 @@ seenTold C word =
 unfoldable pub residualHeard : Code → (heard : ℕ → Bool) (x : ℕ → ℕ) (position : ℕ) → ℕ
 residualHeard C heard x position = distanceHeard heard (wordBits C) (wordAt C position) x
 
--- the strength of no levels, which is that of a word that is refused too: two zeros
+-- the strength of no levels: two zeros
 abbrev pub noStrength : Strength
 noStrength = record { sum = zeroLevel; greatest = zeroLevel }
 

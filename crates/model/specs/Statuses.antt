@@ -19,6 +19,7 @@ use Rattle.model.specs.declared.WriteAnswer.the-variants.{Written, Refus
 use Rattle.model.specs.declared.ReadAnswer.{ReadAnswer}
 use Rattle.model.specs.declared.ReadAnswer.the-variants.{At, Refused as ReadRefused}
 use Rattle.model.specs.declared.LevelsAnswer.{LevelsAnswer}
+use Rattle.model.specs.declared.LevelsAnswer.the-variants.{At as LevelsAt, Refused as LevelsRefused}
 use Rattle.model.specs.declared.NumberAnswer.{NumberAnswer}
 use Rattle.model.specs.declared.NumberAnswer.the-variants.{Number, Refused as NumberRefused}
 use Rattle.model.specs.declared.MillimetresAnswer.{MillimetresAnswer}
@@ -75,15 +76,21 @@ unfoldable pub readValues : ReadAnswer → List ℕ
 readValues (At r) = r .position ∷ r .residual ∷ r .rule ∷ bitsValue (r .chunk1) ∷ bitsValue (r .chunk2) ∷ []
 readValues (ReadRefused refusal) = []
 
--- a read of levels: the status and the values of its answer, and the strength's two floats, none of a refusal
+-- a read of levels: the position answer, which is the answer but for the strength; its status and its values, as those of a plain read; and
+-- the strength's two floats
+unfoldable pub positionAnswer : LevelsAnswer → ReadAnswer
+positionAnswer (LevelsAt reading strength) = At reading
+positionAnswer (LevelsRefused refusal) = ReadRefused refusal
+
 abbrev pub levelsStatus : LevelsAnswer → ℕ
-levelsStatus a = readStatus (a .answer)
+levelsStatus a = readStatus (positionAnswer a)
 
 abbrev pub levelsValues : LevelsAnswer → List ℕ
-levelsValues a = readValues (a .answer)
+levelsValues a = readValues (positionAnswer a)
 
 unfoldable pub strengthValues : LevelsAnswer → List Float
-strengthValues a = ifServed (levelsStatus a) (a .strength .sum ∷ a .strength .greatest ∷ [])
+strengthValues (LevelsAt reading strength) = strength .sum ∷ strength .greatest ∷ []
+strengthValues (LevelsRefused refusal) = []
 
 -- a block's start
 unfoldable pub numberStatus : NumberAnswer → ℕ

@@ -1,6 +1,6 @@
 // What a code chunk reads as, what a card decodes to, and what the public calls answer. The definitions of specs/ give these
 // values their meaning. A refusal carries its number in documents 01 and 02 and nothing else, but that of a card that is not made,
-// beside which stand 512 zero bytes, and that of a word of levels, beside which stands a strength of two zeros.
+// beside which stand 512 zero bytes.
 
 // What a code chunk reads as: the number p of the codeword c(p) within the radius, and in how many places the two differ. Of a chunk with
 // lost bits, the codeword for which 2 × wrong + lost is below D, and how many places are wrong.
@@ -82,10 +82,13 @@ pub struct Strength {
     pub greatest: f32,
 }
 
-// The answer to a read of levels: what a plain read is answered with, and beside it the strength.
-pub struct LevelsAnswer {
-    pub answer: ReadAnswer,
-    pub strength: Strength,
+// The answer to a read of levels: what a plain word that is read is answered with, and beside it the strength; or the refusal.
+pub enum LevelsAnswer {
+    At {
+        reading: Reading,
+        strength: Strength,
+    },
+    Refused(u32),
 }
 
 // The answer to a call that asks for a number: a block's start.

@@ -30,7 +30,7 @@ fn moved_up(value: u64, q: u32) -> u8
 }
 
 // The word with one more chunk: the `len` bits of `value` from place `at` on. Each turn fills the rest of a byte.
-fn put_chunk(before: [u8; 40], at: u32, len: u32, value: u64) -> [u8; 40]
+pub fn put_chunk(before: [u8; 40], at: u32, len: u32, value: u64) -> [u8; 40]
     requires { ⌜ (at + len ≤ 320) × (len ≤ 64) × (value < 2 ^ len) × ((p : ℕ) → at ≤ p → place before p ≡ 0) ⌝ }
     ensures { λ r. ⌜ ((p : ℕ) → place r p ≡ joinAt at (place before) (cut len (bit value)) p) ⌝ }
 {

@@ -7,9 +7,8 @@ use Rattle.depot.proofs.read_levels.Tie as tie
 
 returns : tie.Need-returns
 returns c =
-    let past = c .before in
-    let first = past .before .before .before .before .before in
-    levels-card-refused _ (first .args .levels .now) _ (past .before .before .decode .ensures) (past .if1 .taken) _ (c .refused .ensures)
+    let first = c .before .before .before .before .before in
+    levels-card-refused _ (first .args .levels .now) _ (c .before .before .decode .ensures) (c .if1 .taken)
 
 read-requires : tie.Need-read-requires
 read-requires c κs = c .before .before .decode .ensures .sound (c .if1 .left)
@@ -21,4 +20,4 @@ returns-2 c =
     levels-read _ (first .args .levels .now) _ (passed .before .before .decode .ensures) (passed .if1 .left) _ (c .read .ensures)
 
 pub read-levels-spec : {M : Type 1} → statement M
-read-levels-spec = tie.close (tie.spec (λ c κs. search needs) (λ c κs. search needs) returns read-requires returns-2)
+read-levels-spec = tie.close (tie.spec (λ c κs. search needs) returns read-requires returns-2)

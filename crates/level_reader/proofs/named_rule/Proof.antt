@@ -1,31 +1,19 @@
--- `level_reader::named_rule` meets its contract: the three separators are read, each where the layout says, the first at place 0, and name
--- the rule. Assumes nothing.
-use mathlib.Core.Path.{_≡_, ap, _∙_}
+-- `level_reader::named_rule` meets its contract: each separator reads by its sum, and the three name the rule. Assumes nothing.
 use borrow.Author.Needs.{needs}
-use Rattle.bits.proofs.Sums.{from-place-zero}
-use Rattle.model.specs.Levels.{toldAt, separatorReading, seenTold}
 use Rattle.level_reader.proofs.named_rule.Statement.{statement}
 use Rattle.level_reader.proofs.named_rule.Tie as tie
 
 returns : tie.Need-returns
-unfolding seenTold
 returns c =
     let third = c .before in
     let second = third .before in
     let first = second .before in
-    let at = first .before .layout-of .ensures in
-    let args = first .before .before .before .args in
-    let s₁ : first .separator-at .result ≡ separatorReading (args .code .distance) (toldAt (args .levels .now)) =
-    first .separator-at .ensures .0 ∙ ap (separatorReading (args .code .distance)) (from-place-zero (toldAt (args .levels .now))) in
-    let s₂ = rw (at .separator₂-at) at (second .separator-at2 .ensures .0) in
-    let s₃ = rw (at .separator₃-at) at (third .separator-at3 .ensures .0) in
-    rw (s₁, s₂, s₃) at (c .named-by .ensures)
+    rw (first .read-by .ensures, second .read-by2 .ensures, third .read-by3 .ensures) at (c .named-by .ensures)
 
 pub named-rule-spec : {M : Type 1} → statement M
 named-rule-spec =
     tie.close
     (tie.spec
-    (λ c κs. search needs)
     (λ c κs. search needs)
     (λ c κs. search needs)
     (λ c κs. search needs)

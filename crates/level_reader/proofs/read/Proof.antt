@@ -1,5 +1,5 @@
--- `level_reader::read` meets its contract: 15, 16 and 9, and then what the named rule answers, with the strength where the word is read.
--- Assumes nothing.
+-- `level_reader::read` meets its contract: 15 and 16; then the levels are told, and 9 or what the named rule answers, with the strength where
+-- the word is read. Assumes nothing.
 use mathlib.Core.Path.{_≡_, sym, ap, _∙_}
 use mathlib.Core.Bool.{false}
 use mathlib.Core.List.{List}
@@ -13,20 +13,20 @@ use Rattle.model.specs.Decoded.{meaning}
 use Rattle.model.specs.Words.{wordBits}
 use Rattle.model.specs.Levels.{anyOutside, toldAt, seenTold}
 use Rattle.model.specs.Reading.{ruleSeen}
-use Rattle.level_reader.specs.Answered.{answerTold}
+use Rattle.reader.specs.Naming.{NamesOf}
+use Rattle.level_reader.proofs.LevelAnswers.{answerTold, nothing-past, named-by-levels, rule-of-told}
 use Rattle.level_reader.proofs.LevelAnswers.{refused-15, refused-16, refused-9, word-read, rule-refused}
 use Rattle.level_reader.proofs.read.Statement.{statement}
 use Rattle.level_reader.proofs.read.Tie as tie
 
 returns : tie.Need-returns
 returns c =
-    let laid = c .before .before .before in
-    c .refused .ensures ∙ refused-15 _ _ (λ e. c .before .if1 .taken (e ∙ sym (laid .layout-of .ensures .bits-are)))
+    let laid = c .before .before in refused-15 _ _ (λ e. c .if1 .taken (e ∙ sym (laid .layout-of .ensures .bits-are)))
 
 -- the way back: from the test of the levels to the call
 module _ (c : tie.After-any-outside) where
   abbrev first : tie.Start
-  first = c .before .before .before .before .before .before
+  first = c .before .before .before .before .before
 
   abbrev C : Code
   C = meaning (first .args .code)
@@ -34,70 +34,72 @@ module _ (c : tie.After-any-outside) where
   abbrev levels : List Float
   levels = first .args .levels .now
 
-  bits-are : c .before .before .before .before .layout-of .result .bits ≡ wordBits C
-  bits-are = c .before .before .before .before .layout-of .ensures .bits-are
+  bits-are : c .before .before .before .layout-of .result .bits ≡ wordBits C
+  bits-are = c .before .before .before .layout-of .ensures .bits-are
 
   whole : length levels ≡ wordBits C
-  whole = c .before .before .if1 .left ∙ bits-are
+  whole = c .before .if1 .left ∙ bits-are
 
   tested : c .any-outside .result ≡ anyOutside (wordBits C) levels
   tested = c .any-outside .ensures ∙ ap (λ (d : ℕ). anyOutside d levels) bits-are
 
 any-outside-requires : tie.Need-any-outside-requires
-any-outside-requires c κs = omega (arith, c .before .if1 .left)
-
-named-rule-requires : tie.Need-named-rule-requires
-named-rule-requires c κs = (first c .pre, whole c)
+any-outside-requires c κs = omega (arith, c .if1 .left)
 
 returns-2 : tie.Need-returns-2
-returns-2 c =
-    let test = c .before .before .before in
-    c .refused2 .ensures ∙ refused-16 _ _ (whole test) (sym (tested test) ∙ c .before .if2 .taken)
+returns-2 c = let test = c .before in refused-16 _ _ (whole test) (sym (tested test) ∙ c .if2 .taken)
 
--- none is outside, and the rule is that of the levels
-module _ (c : tie.Else2) where
+tell-word-requires : tie.Need-tell-word-requires
+tell-word-requires c κs = let test = c .before in (first test .pre, whole test)
+
+-- none is outside, and what is told names the rule of the levels
+module _ (c : tie.After-named-rule) where
   abbrev test : tie.After-any-outside
-  test = c .before .before
+  test = c .before .before .before
 
   inside : anyOutside (wordBits (C test)) (levels test) ≡ false
-  inside = sym (tested test) ∙ c .if2 .left
+  inside = sym (tested test) ∙ c .before .before .if2 .left
 
-  rule : c .before .named-rule .result .rule ≡ ruleSeen (seenTold (C test) (toldAt (levels test)))
-  rule = c .before .named-rule .ensures .rule
+  names : NamesOf (seenTold (C test) (toldAt (levels test))) (c .named-rule .result)
+  names = named-by-levels (C test) (toldAt (levels test)) _ (c .before .tell-word .ensures) _ (c .named-rule .ensures)
 
 returns-3 : tie.Need-returns-3
 returns-3 c =
-    let named = c .before .before in
-    c .refused3 .ensures ∙ refused-9 _ _ (whole (test named)) (inside named) (sym (rule named) ∙ c .before .if3 .taken)
+    let named = c .before in refused-9 _ _ (whole (test named)) (inside named) (sym (names named .rule) ∙ c .if3 .taken)
 
 by-rule-requires : tie.Need-by-rule-requires
 by-rule-requires c κs =
-    let named = c .before in
-    (first (test named) .pre, whole (test named), named .before .named-rule .ensures, omega (arith, c .if3 .left))
+    let named = c .before .before .before .before in (
+      first (test named) .pre,
+      nothing-past (C (test named)) (toldAt (levels (test named))) _ (named .before .tell-word .ensures),
+      omega (arith, c .before .before .before .if3 .left),
+      names named .at-most-three,
+    )
 
 -- what the rule answers
 answered : (c : tie.After-by-rule)
-    → let named = c .before .before in
+    → let named = c .before .before .before .before .before in
     let C′ = C (test named) in
     let word = toldAt (levels (test named)) in
     answerTold C′ word (ruleSeen (seenTold C′ word)) ≡ c .by-rule .result
 answered c =
-    let named = c .before .before in
+    let named = c .before .before .before .before .before in
     let word = toldAt (levels (test named)) in
-    ap (answerTold (C (test named)) word) (sym (rule named)) ∙ sym (c .by-rule .ensures)
+    ap (answerTold (C (test named)) word) (sym (names named .rule))
+    ∙ sym (rule-of-told (C (test named)) word _ (named .before .tell-word .ensures) _ _ (rw (names named .separator) at (c .by-rule .ensures)))
 
 returns-4 : tie.Need-returns-4
 returns-4 c =
-    let by-rule = c .before .before .before .before in
-    let named = by-rule .before .before in
-    rw (c .strength-of .ensures)
-    (word-read _ _ (whole (test named)) (inside named) _ (answered by-rule ∙ c .before .before .reading .given .1))
+    let by-rule = c .before .before .before in
+    let named = by-rule .before .before .before .before .before in
+    rw (named .before .tell-word .ensures .strength-told)
+    (word-read _ _ (whole (test named)) (inside named) _ (answered by-rule ∙ c .before .reading .given .1))
 
 returns-5 : tie.Need-returns-5
 returns-5 c =
-    let by-rule = c .before .before .before .before in
-    let named = by-rule .before .before in
-    c .refused4 .ensures ∙ rule-refused _ _ (whole (test named)) (inside named) _ (answered by-rule ∙ c .before .before .refusal .given .1)
+    let by-rule = c .before .before .before in
+    let named = by-rule .before .before .before .before .before in
+    rule-refused _ _ (whole (test named)) (inside named) _ (answered by-rule ∙ c .before .refusal .given .1)
 
 pub read-spec : {M : Type 1} → statement M
 read-spec =
@@ -105,19 +107,14 @@ read-spec =
     (tie.spec
     (λ c κs. search needs)
     (λ c. search needs)
-    (λ c κs. search needs)
     returns
-    (λ c. search needs)
     any-outside-requires
-    named-rule-requires
-    (λ c κs. search needs)
     returns-2
+    tell-word-requires
     (λ c κs. search needs)
     returns-3
     by-rule-requires
     (λ c. search needs)
-    (λ c κs. search needs)
     (λ c. search needs)
-    (λ c κs. search needs)
     returns-4
     returns-5)

@@ -1,4 +1,4 @@
--- `levels::strength::with_level` meets its contract: either case is a clause of the definition. Assumes nothing.
+-- `levels::strength::with_level` meets its contract: both floats are the definition's. Assumes nothing.
 use borrow.Author.Needs.{needs}
 use Rattle.model.specs.Levels.{withLevel}
 use Rattle.levels.proofs.strength.with_level.Statement.{statement}
@@ -6,15 +6,7 @@ use Rattle.levels.proofs.strength.with_level.Tie as tie
 
 returns : tie.Need-returns
 unfolding withLevel
-returns c = rw (c .enum-told .given .1)
-
-returns-2 : tie.Need-returns-2
-unfolding withLevel
-returns-2 c =
-    let is = c .before .before .magnitude-of .ensures in
-    rw (c .greater .ensures, is, c .before .before .before .before .told .given .1)
+returns c = rw (c .greater .ensures, c .before .before .magnitude-of .ensures)
 
 pub with-level-spec : {M : Type 1} → statement M
-with-level-spec =
-    tie.close
-    (tie.spec (λ c. search needs) (λ c. search needs) (λ c κs. search needs) (λ c κs. search needs) returns returns-2)
+with-level-spec = tie.close (tie.spec (λ c κs. search needs) (λ c κs. search needs) returns)

@@ -1,0 +1,84 @@
+// What is told of the levels of a chunk, folded in order into a struct that is passed by value: bits, places that are heard, the sum of the
+// levels, and the receiver's strength. Behind this nothing looks at a level.
+ghost use mathlib.Core.Path.{_≡_};
+ghost use Prim.Native.Nat.{_+_, _*_, _^_, _≤_, _<_};
+ghost use lib.ListN.{length};
+ghost use Rattle.bits.specs.Sums.{fromPlace};
+ghost use Rattle.model.specs.Levels.{bitTold, toldAt, sumOfLevels, strengthOf};
+ghost use Rattle.model.specs.declared.Told.the-variants.{Level};
+ghost use Rattle.level_theory.specs.UnitLevels.{UnitLevelsFrom, zerosLessOnes};
+ghost use Rattle.levels.specs.ToldChunks.{ToldMore, ToldChunkOf};
+use super::strength;
+use super::told;
+use model::Strength;
+use model::Told;
+
+// The bits of a chunk and a 1 for each that is heard, place 0 lowest, a lost bit 0 in both; the sum of the chunk's levels; and the strength
+// over the levels of the word up to the chunk's last.
+pub struct ToldChunk {
+    pub bits: u64,
+    pub heard: u64,
+    pub sum: f32,
+    pub strength: Strength,
+}
+
+// What place q of a number is worth.
+fn worth_of(q: u32) -> u64
+    requires { ⌜ q < 64 ⌝ }
+    ensures { λ r. ⌜ r ≡ 2 ^ q ⌝ }
+{
+    1u64 << q
+}
+
+// The bit of a level in a place of this worth: negative for 1.
+fn bit_in_place(level: f32, worth: u64) -> u64
+    ensures { λ r. ⌜ (r ≡ bitTold (Level level) * worth) × (r ≤ worth) ⌝ }
+{
+    if level < 0.0 { worth } else { 0 }
+}
+
+// The chunk with one level more, in a place of this worth. A lost bit has no level.
+fn with_told(chunk: ToldChunk, worth: u64, told: Told) -> ToldChunk
+    requires { ⌜ (chunk .bits + worth < 2 ^ 64) × (chunk .heard + worth < 2 ^ 64) ⌝ }
+    ensures { λ r. ⌜ ToldMore chunk worth told r ⌝ }
+{
+    match told {
+        Told::Lost => chunk,
+        Told::Level(level) => {
+            let before = chunk.strength;
+            ToldChunk {
+                bits: chunk.bits + bit_in_place(level, worth),
+                heard: chunk.heard + worth,
+                sum: chunk.sum + level,
+                strength: strength::with_level(before, level),
+            }
+        }
+    }
+}
+
+// The `len` levels from place `at` on, told one by one, where `before` is the strength over the levels before them. Document 01 names the
+// forms: an enum with Level(f32) and Lost, made from each incoming f32 before separators and chunks are read; a separator sum in f32, bit-exact
+// against the fold's definition (`folded`), and exact where levels are 1, -1 or 0 (`exact`): then it is the zeros that are heard less the ones;
+// and a struct of f32 sum of magnitudes and f32 greatest, passed by value through the word's levels.
+pub fn tell_chunk(levels: &[f32], at: u32, len: u32, before: Strength) -> ToldChunk
+    requires { ⌜ (at + len ≤ length (now levels)) × (at + len ≤ 320) × (len ≤ 64) ⌝ }
+    requires { ⌜ before ≡ strengthOf (toldAt (now levels)) at ⌝ }
+    ensures told { λ r. ⌜ ToldChunkOf (toldAt (now (levels .entry))) at len r ⌝ }
+    ensures folded { λ r. ⌜ r .sum ≡ sumOfLevels (fromPlace at (toldAt (now (levels .entry)))) len ⌝ }
+    ensures exact { λ r. ⌜ (UnitLevelsFrom at (now (levels .entry)) len → r .sum ≡ zerosLessOnes (fromPlace at (toldAt (now (levels .entry)))) len) ⌝ }
+{
+    let mut so_far = ToldChunk {
+        bits: 0,
+        heard: 0,
+        sum: 0.0,
+        strength: before,
+    };
+    let mut q: u32 = 0;
+    while q < len {
+        let p = (at + q) as usize;
+        let next = with_told(so_far, worth_of(q), told::tell(levels[p]));
+        so_far = next;
+        q += 1;
+    }
+    so_far
+}
