@@ -1,5 +1,5 @@
 -- Document 01, "Two cards to try": the cases marked *, and no others, in one table of questions and answers. Document 02's P1 to P7 name
--- no example: their numbers are limits and the ends of ranges, whose borders run as programs (rust/tests/cases.txt), as do the cases
+-- no example: their numbers are limits and the ends of ranges, whose borders are cases that run (rust/tests/cases.txt), as are those
 -- that document 01 doesn't mark. That the definitions answer so is one theorem, `starred-cases`. Assumes nothing.
 use mathlib.Core.List.{List, [], _∷_, _++_}
 use Prim.Native.Nat.{ℕ, zero, suc}
