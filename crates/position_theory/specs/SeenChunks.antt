@@ -10,8 +10,7 @@ use Rattle.model.specs.declared.Chunk.{Chunk}
 use Rattle.model.specs.declared.Chunk.the-variants.{Codeword}
 use Rattle.code_theory.specs.Promise.{ReadsHeard}
 
--- what is seen of a code chunk, of which these places are heard, is the answer of a reader, whichever, that keeps the chunk promise over
--- them
+-- what is seen of a code chunk of which these places are heard is the answer of a reader, whichever, that keeps the promise over them
 pub record SeesChunk (C : Code) (heard : ℕ → Bool) (chunk : ℕ → ℕ) (answer : Chunk) : Type 0 where
   pub reader : (ℕ → ℕ) → Chunk
   pub keeps : ReadsHeard C heard reader
