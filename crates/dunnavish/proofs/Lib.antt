@@ -6,3 +6,4 @@ pub mod ReadDemands
 pub mod LevelDemands
 pub mod MadeCards
 pub mod VotePromise
+pub mod Witnesses

@@ -1,8 +1,8 @@
 -- Each row by its promise, whose premise is computed; of a chunk that no codeword is near enough to, every codeword is tried.
 -- Assumes nothing.
-use mathlib.Core.Path.{_≡_, refl, sym, _∙_}
+use mathlib.Core.Path.{refl, sym, _∙_}
 use mathlib.Core.Bool.{false≢true}
-use Prim.Native.Nat.{ℕ, _≤_}
+use Prim.Native.Nat.{_≤_}
 use native.Mathlib.Omega.{arith}
 use borrow.Author.Tests.{leb-true}
 use Rattle.bits.specs.Sums.{sumBelow, distance}
