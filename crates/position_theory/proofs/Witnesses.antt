@@ -3,7 +3,7 @@ use mathlib.Core.Path.{_≡_, refl, sym, ap, _∙_}
 use mathlib.Core.Bool.{true, false, not, _&&_}
 use mathlib.Core.List.{List}
 use mathlib.Core.Logic.{inl, inr, ⊎-elim}
-use Prim.Native.Nat.{ℕ, zero, suc, _+_, _%_, _≤_, _<_}
+use Prim.Native.Nat.{ℕ, zero, suc, _+_, _*_, _%_, _≤_, _<_}
 use native.Mathlib.Nat.{add-comm, eq-or-lt-of-le}
 use native.Mathlib.Omega.{arith}
 use lib.Dec.{leb, ltb, eqb}
@@ -11,8 +11,8 @@ use lib.ListN.{length}
 use borrow.Author.Tests.{leb-true, leb-false, ltb-false, eqb-false}
 use Rattle.bits.specs.Sums.{sumBelow, distance, joinAt}
 use Rattle.bits.specs.Walk.{walk}
-use Rattle.bits.specs.Places.{weight, place, cut, byteOf, listOf, pack, differingBits}
-use Rattle.bits.specs.Searches.{anyBelow, firstFrom, first, leastAt, greatest}
+use Rattle.bits.specs.Places.{weight, place, cut, byteOf, listOf, pack}
+use Rattle.bits.specs.Searches.{anyBelow, first, leastAt, greatest}
 use Rattle.bits.proofs.Numbers.{lt-or-le}
 use Rattle.bits.proofs.Searches.{none-of-any}
 use Rattle.model.specs.Refusals.{firstRefusal, unlessRefused}
@@ -22,7 +22,7 @@ use Rattle.model.specs.Card.{withinLimits, rowTooWide, unusedRowSet, unusedByte
 use Rattle.model.specs.CardBytes.{bytesOf, rowBytes, sealed, cardOf}
 use Rattle.model.specs.Order.{gray, lastCodeword, codeword, changedRow, changedWeight, start, lastPosition}
 use Rattle.model.specs.Words.{chunk₁, chunk₂, chunkSize, placesBefore, fiveChunks, word, blockOf, wordAt, wordBytes, divided}
-use Rattle.model.specs.Reading.{majority, chunkDistance, withinRadius, readFirst, chunkReading, unreadable as isUnreadable, numberRead, seen}
+use Rattle.model.specs.Reading.{majority, chunkDistance, withinRadius, readFirst, chunkReading, unreadable, numberRead, seen}
 use Rattle.model.specs.Reading.{ruleOf, numberBy, separatorOf, parityDiffers, twoEnds, rows9To12, rowsSeen, ruleNamed}
 use Rattle.model.specs.Reading.{Seen, Range, ruleSeen, namesFirst, namesSecond, separatorBy}
 use Rattle.model.specs.Reading.{allowed, residual, nearestIn, bitsNeeded, nearest}
@@ -41,8 +41,8 @@ use Rattle.position_theory.specs.DividedChunks.{UndividedWithinRadius, R
 use Rattle.position_theory.specs.ChunkBits.{TellsBits, BitsOfChunks, TellsBitsOfChunks, NeededAsTurned}
 use Rattle.position_theory.specs.Contradictions.{ParityAgrees, separatorChunk, NamedChunk, Pasted, ReadOnlyIfParityAgrees, PastedNeverRead}
 use Rattle.position_theory.specs.Contradictions.{unlessContradicted, answerBefore, AsBeforeUnlessContradicted}
-use Rattle.position_theory.specs.Witnesses.{ReadAs, ReadWithin, ReadInBar, SevenAtWill, NoneReads, Witnessed}
-use Rattle.position_theory.specs.Witnesses.{sevenDamaged, lastDamaged, lastAllDamaged, zeroDamaged, dividedTurned, unreadable}
+use Rattle.position_theory.specs.Witnesses.{ReadAs, ReadWithin, ReadInBar, NoneReads, Witnessed}
+use Rattle.position_theory.specs.Witnesses.{sevenDamaged, lastDamaged, lastAllDamaged, eleven, zeroDamaged, dividedTurned, unreadableA}
 use Rattle.position_theory.specs.Witnesses.{mixed, mixedDamaged, mixedInChunk2, mixedByRule1, mixedByRule2}
 use Rattle.position_theory.proofs.Ranges.{nearest-in}
 use Rattle.position_theory.proofs.RuleReads.{number-of}
@@ -83,12 +83,20 @@ unfolding Near ReadWithin ReadInBar residualOf
 near-in-bar (At r) position e near = near
 near-in-bar (Refused refusal) position e near = near
 
-seven-at-will : (position : ℕ) (received : List ℕ) → SoundCard cardB → position ≤ lastPosition (codeOf cardB)
-    → UndividedWithinRadius (codeOf cardB) position received → turned (codeOf cardB) position received ≡ 7 → SevenAtWill position received
+both-distances : (position e : ℕ) (received : List ℕ) → SoundCard cardB → position ≤ lastPosition (codeOf cardB)
+    → UndividedWithinRadius (codeOf cardB) position received → turned (codeOf cardB) position received ≡ e
+    → (answer : ReadAnswer) → ReadWithDividedAtWill cardB received answer → ReadInBar e position answer × ReadWithin (2 * e) position answer
 unfolding ReadWithDividedAtWill
-seven-at-will position received sound on-track within is answer promise =
+both-distances position e received sound on-track within is answer promise =
     let (sharper, twice) = promise position sound on-track within in
-    (near-in-bar answer position 7 (rw is at sharper), near-within answer position 14 (rw is at twice))
+    (near-in-bar answer position e (rw is at sharper), near-within answer position (2 * e) (rw is at twice))
+
+bar-holds : (position e : ℕ) (received : List ℕ) → SoundCard cardB → position ≤ lastPosition (codeOf cardB)
+    → UndividedWithinRadius (codeOf cardB) position received → turned (codeOf cardB) position received ≤ e
+    → (answer : ReadAnswer) → BarHoldsPosition cardB received answer → ReadInBar e position answer
+unfolding BarHoldsPosition
+bar-holds position e received sound on-track within few answer promise =
+    near-in-bar answer position e (rw (add-comm e (residualOf answer)) (promise position e sound on-track within few .0))
 
 -- ---- what is nearest, and what is refused
 
@@ -184,12 +192,12 @@ unfolding sumBelow weight anyBelow
 card-B-sound = refl
 
 pub witnessed : Witnessed
-unfolding sumBelow distance joinAt walk weight place cut byteOf listOf pack differingBits
-    anyBelow firstFrom first leastAt greatest
+unfolding sumBelow distance joinAt walk weight place cut byteOf listOf pack
+    anyBelow first leastAt greatest
     highFirst rowOf sumOfRows leastWeight codeOf firstRefusal unlessRefused bytesOf rowBytes sealed cardOf cardA cardB
     gray lastCodeword codeword changedRow changedWeight start lastPosition
     chunkSize placesBefore fiveChunks word blockOf wordAt wordBytes divided
-    majority chunkDistance withinRadius readFirst chunkReading isUnreadable numberRead seen
+    majority chunkDistance withinRadius readFirst chunkReading unreadable numberRead seen
     ruleOf numberBy separatorOf parityDiffers twoEnds rows9To12 rowsSeen ruleNamed allowed residual nearestIn bitsNeeded nearest spareSet
     turnedIn turnedInAll turned
     WrittenIfServable UnchangedIfRefused NeighboursDifferInOneBit NoOtherPositionsWord NearestOfAllowed
@@ -208,18 +216,20 @@ witnessed =
       by-17 = λ answer promise. refused-as _ _ _ answer (promise card-B-sound refl refl .0) 16 refl;
       twice = λ answer promise. near-within answer 7 2 (promise 7 card-B-sound (computed refl) (within _ 7 sevenDamaged refl refl refl));
       twice-at-last = λ answer promise. near-within answer 15 2 (promise 15 card-B-sound (computed refl) (within _ 15 lastDamaged refl refl refl));
-      twice-in-all = λ answer promise. near-within answer 15 10 (promise 15 card-B-sound (computed refl) (within _ 15 lastAllDamaged refl refl refl));
+      twice-in-all = λ answer promise.
+          near-within answer 15 10 (promise 15 card-B-sound (computed refl) (within _ 15 lastAllDamaged refl refl refl));
       sharper = λ answer promise. near-in-bar answer 7 1 (promise 7 card-B-sound (computed refl) (within _ 7 sevenDamaged refl refl refl));
       sharper-at-last = λ answer promise. near-in-bar answer 15 1 (promise 15 card-B-sound (computed refl) (within _ 15 lastDamaged refl refl refl));
-      sharper-in-all = λ answer promise. near-in-bar answer 15 5 (promise 15 card-B-sound (computed refl) (within _ 15 lastAllDamaged refl refl refl));
-      separator-1-at-will = seven-at-will 2 _ card-B-sound (computed refl) (undivided _ 2 _ refl refl refl) refl;
-      chunk-1-at-will = seven-at-will 5 _ card-B-sound (computed refl) (undivided _ 5 _ refl refl refl) refl;
-      separator-2-at-will = seven-at-will 8 _ card-B-sound (computed refl) (undivided _ 8 _ refl refl refl) refl;
-      chunk-2-at-will = seven-at-will 11 _ card-B-sound (computed refl) (undivided _ 11 _ refl refl refl) refl;
-      separator-3-at-will = seven-at-will 14 _ card-B-sound (computed refl) (undivided _ 14 _ refl refl refl) refl;
-      bar = λ answer promise.
-          let (near, few) = promise 4 3 card-B-sound (computed refl) (undivided _ 4 dividedTurned refl refl refl) (computed refl) in
-          near-in-bar answer 4 3 (rw (add-comm 3 (residualOf answer)) near);
+      sharper-in-all = λ answer promise.
+          near-in-bar answer 15 5 (promise 15 card-B-sound (computed refl) (within _ 15 lastAllDamaged refl refl refl));
+      separator-1-at-will = both-distances 2 7 _ card-B-sound (computed refl) (undivided _ 2 _ refl refl refl) refl;
+      chunk-1-at-will = both-distances 5 7 _ card-B-sound (computed refl) (undivided _ 5 _ refl refl refl) refl;
+      separator-2-at-will = both-distances 8 7 _ card-B-sound (computed refl) (undivided _ 8 _ refl refl refl) refl;
+      chunk-2-at-will = both-distances 11 7 _ card-B-sound (computed refl) (undivided _ 11 _ refl refl refl) refl;
+      separator-3-at-will = both-distances 14 7 _ card-B-sound (computed refl) (undivided _ 14 _ refl refl refl) refl;
+      undivided-at-last = both-distances 15 1 _ card-B-sound (computed refl) (undivided _ 15 _ refl refl refl) refl;
+      bar = bar-holds 4 3 _ card-B-sound (computed refl) (undivided _ 4 _ refl refl refl) (computed refl);
+      bar-at-last = bar-holds 15 1 _ card-B-sound (computed refl) (undivided _ 15 _ refl refl refl) (computed refl);
       bar-residual = λ r promise. promise 4 3 card-B-sound (computed refl) (undivided _ 4 dividedTurned refl refl refl) (computed refl) .1;
       one-divided = λ promise c five is. sym (promise card-B-sound .at-most-one 14 4 c (computed refl) (computed refl) five refl is);
       just-t = λ r promise.
@@ -234,10 +244,11 @@ witnessed =
           let told = told-by-rule cardB sevenDamaged r promise in
           let is = first-codeword (twoEnds B .range 2) (told .p) (told .in-code) (computed refl) (told .allows) refl in
           (told .first, told-count B (chunk₂ B (place sevenDamaged)) _ 0 _ is (told .second));
+      not-named-by-rule-1 = λ r promise. told-by-rule cardB eleven r promise .second;
       above-t = λ r promise.
           let A = codeOf cardA in
-          let told = told-by-rule cardA unreadable r promise in
-          none-told A (chunk₁ A (place unreadable)) (told .p) 3 _ refl (told .in-code) (told .first);
+          let told = told-by-rule cardA unreadableA r promise in
+          none-told A (chunk₁ A (place unreadableA)) (told .p) 3 _ refl (told .in-code) (told .first);
       needed = λ r is promise.
           let (first, second) = promise 0 card-B-sound (computed refl) (within _ 0 zeroDamaged refl refl refl) r refl in
           (first (rw is), second (rw is));

@@ -53,6 +53,10 @@ lastDamaged = 0b11111111 ∷ 0b1011111 ∷ []
 abbrev pub lastAllDamaged : List ℕ
 lastAllDamaged = 0b10110110 ∷ 0b1101101 ∷ []
 
+-- 11, whose chunk 2 is divided; it is read by rule 1
+abbrev pub eleven : List ℕ
+eleven = 0b11111111 ∷ 0b0000111 ∷ []
+
 -- 0 with one bit of chunk 1 turned
 abbrev pub zeroDamaged : List ℕ
 zeroDamaged = 0b00001000 ∷ 0b0000000 ∷ []
@@ -79,8 +83,8 @@ abbrev pub dividedTurned : List ℕ
 dividedTurned = 0b00110111 ∷ 0b0000000 ∷ []
 
 -- and of card A, whose t is 0: 00 100 00 000 00
-abbrev pub unreadable : List ℕ
-unreadable = 0b00000100 ∷ 0b0000 ∷ []
+abbrev pub unreadableA : List ℕ
+unreadableA = 0b00000100 ∷ 0b0000 ∷ []
 
 -- ---- rows that recur
 
@@ -113,20 +117,25 @@ pub record Witnessed : Type 0 where
   pub sharper : (answer : ReadAnswer) → OffByAtMostTurnedAndResidual cardB sevenDamaged answer → ReadInBar 1 7 answer
   pub sharper-at-last : (answer : ReadAnswer) → OffByAtMostTurnedAndResidual cardB lastDamaged answer → ReadInBar 1 15 answer
   pub sharper-in-all : (answer : ReadAnswer) → OffByAtMostTurnedAndResidual cardB lastAllDamaged answer → ReadInBar 5 15 answer
-  -- each chunk in turn divided and turned whole, each other one with t bits turned; and the bar for just the bits turned
+  -- each chunk in turn divided and turned whole, each other one with t bits turned, and the last position, where none is divided; and the
+  -- bar for just the bits turned
   pub separator-1-at-will : SevenAtWill 2 (0b01001100 ∷ 0b0010010 ∷ [])
   pub chunk-1-at-will : SevenAtWill 5 (0b01100110 ∷ 0b0010010 ∷ [])
   pub separator-2-at-will : SevenAtWill 8 (0b00110110 ∷ 0b0010011 ∷ [])
   pub chunk-2-at-will : SevenAtWill 11 (0b10110110 ∷ 0b0011001 ∷ [])
   pub separator-3-at-will : SevenAtWill 14 (0b10110110 ∷ 0b1001101 ∷ [])
+  pub undivided-at-last : (answer : ReadAnswer) → ReadWithDividedAtWill cardB lastDamaged answer
+      → ReadInBar 1 15 answer × ReadWithin 2 15 answer
   pub bar : (answer : ReadAnswer) → BarHoldsPosition cardB dividedTurned answer → ReadInBar 3 4 answer
+  pub bar-at-last : (answer : ReadAnswer) → BarHoldsPosition cardB lastDamaged answer → ReadInBar 1 15 answer
   pub bar-residual : (r : Reading) → BarHoldsPosition cardB dividedTurned (At r) → r .residual ≤ 3
   pub one-divided : AtMostOneDivided cardB → (c : ℕ) → c < 5 → divided (codeOf cardB) 14 c ≡ true → c ≡ 4
   -- bits of chunks: a count of just t, of a chunk that is not named none, and of a chunk with t + 1 bits turned, which is card A's 100, no
   -- reading
   pub just-t : (r : Reading) → TellsBitsOfChunks cardB zeroDamaged (At r) → (r .chunk1 ≡ Differing 1) × (r .chunk2 ≡ Differing 0)
   pub not-named : (r : Reading) → TellsBitsOfChunks cardB sevenDamaged (At r) → (r .chunk1 ≡ NotRead) × (r .chunk2 ≡ Differing 0)
-  pub above-t : NoneReads (TellsBitsOfChunks cardA unreadable)
+  pub not-named-by-rule-1 : (r : Reading) → TellsBitsOfChunks cardB eleven (At r) → r .chunk2 ≡ NotRead
+  pub above-t : NoneReads (TellsBitsOfChunks cardA unreadableA)
   pub needed : (r : Reading) → r .rule ≡ 3 → NeededAsTurned cardB zeroDamaged (At r)
       → (bitsValue (r .chunk1) ≡ 1) × (bitsValue (r .chunk2) ≡ 0)
   pub needed-in-all : (r : Reading) → r .rule ≡ 3 → NeededAsTurned cardB lastAllDamaged (At r)

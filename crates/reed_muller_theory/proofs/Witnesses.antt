@@ -38,5 +38,6 @@ votes-witnessed =
           let far = none-of-any (withinRadius (reedMuller 1 3) (bit twoOff)) 16 refl p (omega arith) in false≢true (sym far ∙ near);
       widest = λ answer promise. promise refl (leb-true _ _ refl) .reads 1 (leb-true _ _ refl) refl;
       as-search = λ answer promise. rw (code-of-made 14 0 2 refl) at (promise 14 refl (leb-true _ _ refl));
+      widest-as-search = λ answer promise. rw (code-of-made 14 0 2 refl) at (promise 14 refl (leb-true _ _ refl));
       refused-as-search = λ answer promise. rw (code-of-made 14 0 2 refl) at (promise 14 refl (leb-true _ _ refl));
     }

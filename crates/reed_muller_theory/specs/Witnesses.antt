@@ -21,7 +21,7 @@ use Rattle.reed_muller_theory.specs.Votes.{KeepsPromise, AnswersAsSearch
 abbrev pub summary12 : CardSummary
 summary12 = record { n = 4; k = 3; track = 14; distance = 2; radius = 0; bits = 14; last = 86 }
 
--- Chunks of order 1 in three variables, whose t is 1, and of order 0 in two, whose t is 1: one bit from a codeword, and two.
+-- chunks of order 1 in three variables, whose t is 1: one bit from codeword 12, and two from any
 abbrev pub oneOff : ℕ
 oneOff = 0b01011110
 
@@ -42,6 +42,8 @@ pub record VotesWitnessed : Type 0 where
   pub just-t : (answer : VoteAnswer) → KeepsPromise 1 3 oneOff answer → answer ≡ Voted 12 1
   pub above-t : (p e : ℕ) → KeepsPromise 1 3 twoOff (Voted p e) → ⊥
   pub widest : (answer : VoteAnswer) → KeepsPromise 0 2 0b1111 answer → answer ≡ Voted 1 0
-  -- as by search, read or not
+  -- as by search, with t bits turned, of n ones, and not read
   pub as-search : (answer : VoteAnswer) → AnswersAsSearch 0 2 0b0111 answer → (voteStatus answer ≡ 0) × (voteValues answer ≡ 1 ∷ 1 ∷ [])
+  pub widest-as-search : (answer : VoteAnswer) → AnswersAsSearch 0 2 0b1111 answer
+      → (voteStatus answer ≡ 0) × (voteValues answer ≡ 1 ∷ 0 ∷ [])
   pub refused-as-search : (answer : VoteAnswer) → AnswersAsSearch 0 2 0b0011 answer → (voteStatus answer ≡ 10) × (voteValues answer ≡ [])
