@@ -8,6 +8,7 @@ ghost use Rattle.model.specs.Levels.{bitTold, toldAt, sumOfLevels, strengthOf};
 ghost use Rattle.model.specs.declared.Told.the-variants.{Level};
 ghost use Rattle.level_theory.specs.UnitLevels.{UnitLevelsFrom, zerosLessOnes};
 ghost use Rattle.levels.specs.ToldChunks.{ToldMore, ToldChunkOf};
+use super::magnitudes;
 use super::strength;
 use super::told;
 use model::Strength;
@@ -37,7 +38,8 @@ fn bit_in_place(level: f32, worth: u64) -> u64
     if level < 0.0 { worth } else { 0 }
 }
 
-// The chunk with one level more, in a place of this worth. A lost bit has no level.
+// The chunk with one level more, in a place of this worth. A lost bit has no level. (The strength's two floats are taken one by one: the
+// struct of both, copied for a call at each level, was moved through an integer, and a level took twice the time.)
 fn with_told(chunk: ToldChunk, worth: u64, told: Told) -> ToldChunk
     requires { ⌜ (chunk .bits + worth < 2 ^ 64) × (chunk .heard + worth < 2 ^ 64) ⌝ }
     ensures { λ r. ⌜ ToldMore chunk worth told r ⌝ }
@@ -45,12 +47,15 @@ fn with_told(chunk: ToldChunk, worth: u64, told: Told) -> ToldChunk
     match told {
         Told::Lost => chunk,
         Told::Level(level) => {
-            let before = chunk.strength;
+            let m = magnitudes::magnitude_of(level);
             ToldChunk {
                 bits: chunk.bits + bit_in_place(level, worth),
                 heard: chunk.heard + worth,
                 sum: chunk.sum + level,
-                strength: strength::with_level(before, level),
+                strength: Strength {
+                    sum: chunk.strength.sum + m,
+                    greatest: strength::greater(chunk.strength.greatest, m),
+                },
             }
         }
     }

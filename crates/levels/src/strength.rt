@@ -2,9 +2,7 @@
 ghost use mathlib.Core.Path.{_≡_};
 ghost use mathlib.Core.Bool.{cond};
 ghost use lib.Ieee.{lt};
-ghost use Rattle.model.specs.Levels.{noStrength, withLevel};
-ghost use Rattle.model.specs.declared.Told.the-variants.{Level};
-use super::magnitudes;
+ghost use Rattle.model.specs.Levels.{noStrength};
 use model::Strength;
 
 // The strength of no levels: two zeros.
@@ -18,19 +16,8 @@ pub fn no_strength() -> Strength
 }
 
 // The greater of two magnitudes.
-fn greater(a: f32, b: f32) -> f32
+pub fn greater(a: f32, b: f32) -> f32
     ensures { λ r. ⌜ r ≡ cond (lt a b) b a ⌝ }
 {
     if a < b { b } else { a }
-}
-
-// The strength with one level more.
-pub fn with_level(s: Strength, level: f32) -> Strength
-    ensures { λ r. ⌜ r ≡ withLevel s (Level level) ⌝ }
-{
-    let m = magnitudes::magnitude_of(level);
-    Strength {
-        sum: s.sum + m,
-        greatest: greater(s.greatest, m),
-    }
 }

@@ -12,14 +12,15 @@ unfolding isHeard bitTold plusLevel withLevel
 returns c = rw (c .enum-told .given .1) record { bits-more = omega arith; heard-more = omega arith; sum-more = refl; strength-more = refl }
 
 returns-2 : tie.Need-returns-2
-unfolding isHeard plusLevel
+unfolding isHeard plusLevel withLevel
 returns-2 c =
-    let arm = c .before .before .before .before in
-    rw (arm .before .before .before .told .given .1) record {
-      bits-more = rw (arm .bit-in-place .ensures .0);
+    let placed = c .before .before .before .before .before in
+    let magnitude = placed .before in
+    rw (magnitude .before .before .told .given .1) record {
+      bits-more = rw (placed .bit-in-place .ensures .0);
       heard-more = omega arith;
       sum-more = refl;
-      strength-more = c .with-level .ensures;
+      strength-more = rw (c .greater .ensures, magnitude .magnitude-of .ensures);
     }
 
 pub with-told-spec : {M : Type 1} → statement M
@@ -28,6 +29,7 @@ with-told-spec =
     (tie.spec
     (λ c. search needs)
     (λ c. search needs)
+    (λ c κs. search needs)
     (λ c κs. search needs)
     (λ c. search needs)
     (λ c. search needs)
