@@ -15,7 +15,7 @@ use Rattle.model.specs.Card.{withinLimits, rowTooWide, unusedRowSet, dependent}
 use Rattle.model.specs.CardBytes.{bytesOf, rowBytes, sealed, cardOf}
 use Rattle.model.specs.Order.{lastCodeword, start, lastPosition}
 use Rattle.model.specs.Answers.{summaryOf}
-use Rattle.model.specs.Cases.{cardB, cardBFrom100}
+use Rattle.model.specs.Cases.{cardB}
 use Rattle.code_theory.specs.Offsets.{OldCard, oldMisplaced, oldCardRefusal, oldCardAnswer, oldMillimetresAnswer, asSigned}
 use Rattle.code_theory.specs.Offsets.{CheckedAsBefore, DistanceAsBefore}
 use Rattle.code_theory.specs.Witnesses.{byte104Set, equalRows, OldCardsWitnessed}
@@ -28,7 +28,7 @@ old card none i four = eqb-true _ 0 (not-false _ (none-of-any _ 4 none i four))
 pub old-cards-witnessed : OldCardsWitnessed
 unfolding sumBelow weight anyBelow firstRefusal unlessRefused
     highFirst trackOf rowOf storedCheck computedCheck sumOfRows leastWeight codeOf withinLimits rowTooWide unusedRowSet dependent
-    bytesOf rowBytes sealed cardOf cardB cardBFrom100 lastCodeword start lastPosition summaryOf
+    bytesOf rowBytes sealed cardOf cardB lastCodeword start lastPosition summaryOf
     oldMisplaced oldCardRefusal oldCardAnswer oldMillimetresAnswer asSigned CheckedAsBefore DistanceAsBefore
 old-cards-witnessed =
     record {

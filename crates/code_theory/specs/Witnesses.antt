@@ -5,7 +5,9 @@ use mathlib.Core.Path.{_≡_}
 use mathlib.Core.List.{List, [], _∷_}
 use Prim.Native.Nat.{ℕ}
 use lib.IntN.{pos}
-use Rattle.model.specs.Cases.{cardWith, cardB, cardBFrom100}
+use lib.ListN.{take, set}
+use Rattle.model.specs.CardBytes.{sealed}
+use Rattle.model.specs.Cases.{cardWith, cardB}
 use Rattle.model.specs.declared.CardSummary.{CardSummary}
 use Rattle.model.specs.declared.CardAnswer.{CardAnswer}
 use Rattle.model.specs.declared.CardAnswer.the-variants.{Sound, Refused as CardRefused}
@@ -19,7 +21,7 @@ summaryB = record { n = 3; k = 1; track = 14; distance = 3; radius = 1; bits = 1
 
 -- card B with byte 104, the first one past the offset, not zero; and a card of two equal rows
 abbrev pub byte104Set : List ℕ
-byte104Set = cardBFrom100 (0 ∷ 0 ∷ 0 ∷ 0 ∷ 1 ∷ [])
+byte104Set = sealed (set (take 510 cardB) 104 1)
 
 abbrev pub equalRows : List ℕ
 equalRows = cardWith 3 2 0 (3 ∷ 3 ∷ [])
