@@ -107,8 +107,10 @@ mixedLevels = ofInt binary32 (pos 3) ∷ minusOne ∷ minusOne ∷ levelsOf (one
 pub record LevelsWitnessed : Type 0 where
   -- a code chunk of which two of three places are lost is read
   pub two-lost : ChunksReadBelowD cardB → heardReading (codeOf cardB) (λ p. eqb p 1) (λ p. 1) ≡ Codeword 1 0
-  -- the nearest over bits that are heard: 6 and 7 are as near, and the smaller is answered; a pasted word is refused by 17
+  -- the nearest over bits that are heard: 6 and 7 are as near, or 13 and 15, and the smallest is answered; a pasted word is refused by 17
   pub smaller-of-two : (answer : ReadAnswer) → NearestOverHeard cardB (levelsOf sixOrSeven) answer → ReadAs 6 0 2 answer
+  pub smallest-of-wrong : (answer : ReadAnswer) → NearestOverHeard cardB (levelsOf lastWrong) answer → ReadAs 13 1 3 answer
+  pub smallest-of-lost : (answer : ReadAnswer) → NearestOverHeard cardB (levelsOf lastLost) answer → ReadAs 13 0 3 answer
   pub by-17 : (answer : ReadAnswer) → NearestOverHeard cardB (levelsOf mixed) answer → answer ≡ Refused 17
   -- wrong bits of chunks, with 2 × wrong + lost just below D; of a chunk that is not named none; and with D itself no reading
   pub below-D : (r : Reading) → TellsWrongOfChunks cardB (levelsOf zeroDamaged) (At r) → (r .chunk1 ≡ Differing 0) × (r .chunk2 ≡ Differing 1)

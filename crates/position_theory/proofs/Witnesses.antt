@@ -213,6 +213,7 @@ witnessed =
       zero-is-before = λ word promise. promise 0 (computed refl) (inr refl);
       alone = λ position promise. sym (promise 15 (computed refl) refl);
       smaller-of-two = λ answer promise. read-as _ _ _ answer (promise card-B-sound refl refl .0) refl;
+      smaller-at-last = λ answer promise. read-as _ _ _ answer (promise card-B-sound refl refl .0) refl;
       by-17 = λ answer promise. refused-as _ _ _ answer (promise card-B-sound refl refl .0) 16 refl;
       twice = λ answer promise. near-within answer 7 2 (promise 7 card-B-sound (computed refl) (within _ 7 sevenDamaged refl refl refl));
       twice-at-last = λ answer promise. near-within answer 15 2 (promise 15 card-B-sound (computed refl) (within _ 15 lastDamaged refl refl refl));

@@ -107,8 +107,9 @@ pub record Witnessed : Type 0 where
   pub before-last : (word : List ℕ) → NeighboursDifferInOneBit cardB 15 word → differingBits word (0xff ∷ 0x3f ∷ []) ≡ 1
   pub zero-is-before : (word : List ℕ) → NeighboursDifferInOneBit cardB 1 word → differingBits word (0x00 ∷ 0x00 ∷ []) ≡ 1
   pub alone : (position : ℕ) → NoOtherPositionsWord cardB position (0xff ∷ 0x7f ∷ []) → position ≡ 15
-  -- the nearest: 5 and 7 are as near, and the smaller is answered; a word pasted from two telegrams is refused by 17
+  -- the nearest: 5 and 7 are as near, or 13 and 15, and the smaller is answered; a word pasted from two telegrams is refused by 17
   pub smaller-of-two : (answer : ReadAnswer) → NearestOfAllowed cardB sevenDamaged answer → ReadAs 5 1 2 answer
+  pub smaller-at-last : (answer : ReadAnswer) → NearestOfAllowed cardB lastDamaged answer → ReadAs 13 1 3 answer
   pub by-17 : (answer : ReadAnswer) → NearestOfAllowed cardB mixed answer → answer ≡ Refused 17
   -- demand 3: off by at most twice the bits turned, which 5 for 7 and 13 for 15 are; and t bits turned in every chunk
   pub twice : (answer : ReadAnswer) → OffByAtMostTwiceTurned cardB sevenDamaged answer → ReadWithin 2 7 answer
