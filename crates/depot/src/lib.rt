@@ -2,7 +2,7 @@
 // of its type. A call that is given a card checks it itself; one that isn't, as the one that makes a card, checks none. What an answer
 // means is said by the definitions that the contracts name: its status is the refusal's number in documents 01 and 02, or 0 where the
 // call is served; its values are those named, or none where it is refused. The call that makes a card answers the card's bytes instead,
-// 512 zeros where it is refused; and beside the answer to a read of levels stands the strength, two zeros where it is refused.
+// 512 zeros where it is refused; and beside a reading of levels stands the strength.
 ghost use mathlib.Core.Path.{_≡_};
 ghost use mathlib.Core.Bool.{true, false};
 ghost use mathlib.Core.List.{[], _∷_};

@@ -34,11 +34,11 @@ pub fn read(code: DecodedCode, levels: &[f32]) -> LevelsAnswer
     requires { ⌜ Sound (meaning code) ⌝ }
     ensures { λ r. ⌜ r ≡ readLevels (meaning code) (now (levels .entry)) ⌝ }
 {
-    let d = layout::layout_of(code).bits as usize;
-    if levels.len() != d {
+    let at = layout::layout_of(code);
+    if levels.len() != at.bits as usize {
         return LevelsAnswer::Refused(15);
     }
-    if limits::any_outside(levels, d) {
+    if limits::any_outside(levels, at.bits as usize) {
         return LevelsAnswer::Refused(16);
     }
     let told = telling::tell_word(code, levels);

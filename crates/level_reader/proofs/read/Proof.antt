@@ -26,7 +26,7 @@ returns c =
 -- the way back: from the test of the levels to the call
 module _ (c : tie.After-any-outside) where
   abbrev first : tie.Start
-  first = c .before .before .before .before .before
+  first = c .before .before .before .before .before .before
 
   abbrev C : Code
   C = meaning (first .args .code)
@@ -34,17 +34,17 @@ module _ (c : tie.After-any-outside) where
   abbrev levels : List Float
   levels = first .args .levels .now
 
-  bits-are : c .before .before .before .layout-of .result .bits ≡ wordBits C
-  bits-are = c .before .before .before .layout-of .ensures .bits-are
+  bits-are : c .before .before .before .before .layout-of .result .bits ≡ wordBits C
+  bits-are = c .before .before .before .before .layout-of .ensures .bits-are
 
   whole : length levels ≡ wordBits C
-  whole = c .before .if1 .left ∙ bits-are
+  whole = c .before .before .if1 .left ∙ bits-are
 
   tested : c .any-outside .result ≡ anyOutside (wordBits C) levels
   tested = c .any-outside .ensures ∙ ap (λ (d : ℕ). anyOutside d levels) bits-are
 
 any-outside-requires : tie.Need-any-outside-requires
-any-outside-requires c κs = omega (arith, c .if1 .left)
+any-outside-requires c κs = omega (arith, c .before .if1 .left)
 
 returns-2 : tie.Need-returns-2
 returns-2 c = let test = c .before in refused-16 _ _ (whole test) (sym (tested test) ∙ c .if2 .taken)
@@ -108,6 +108,7 @@ read-spec =
     (λ c κs. search needs)
     (λ c. search needs)
     returns
+    (λ c. search needs)
     any-outside-requires
     returns-2
     tell-word-requires
