@@ -38,8 +38,7 @@ fn bit_in_place(level: f32, worth: u64) -> u64
     if level < 0.0 { worth } else { 0 }
 }
 
-// The chunk with one level more, in a place of this worth. A lost bit has no level. (The strength's two floats are taken one by one: the
-// struct of both, copied for a call at each level, was moved through an integer, and a level took twice the time.)
+// The chunk with one level more, in a place of this worth. A lost bit has no level.
 fn with_told(chunk: ToldChunk, worth: u64, told: Told) -> ToldChunk
     requires { ⌜ (chunk .bits + worth < 2 ^ 64) × (chunk .heard + worth < 2 ^ 64) ⌝ }
     ensures { λ r. ⌜ ToldMore chunk worth told r ⌝ }
@@ -76,7 +75,10 @@ pub fn tell_chunk(levels: &[f32], at: u32, len: u32, before: Strength) -> ToldCh
         bits: 0,
         heard: 0,
         sum: 0.0,
-        strength: before,
+        strength: Strength {
+            sum: before.sum,
+            greatest: before.greatest,
+        },
     };
     let mut q: u32 = 0;
     while q < len {
