@@ -17,20 +17,20 @@ use Rattle.levels.proofs.chunks.tell_chunk.Tie as tie
 
 abbrev Inv-loop : tie.InvT-loop
 Inv-loop levels at len so-far₀ q₀ so-far q =
-    (q ≤ len) × ToldChunkOf (toldAt levels) at q so-far × (so-far .sum ≡ sumOfLevels (fromPlace at (toldAt levels)) q)
+    ToldChunkOf (toldAt levels) at q so-far × (so-far .sum ≡ sumOfLevels (fromPlace at (toldAt levels)) q) × (q ≤ len)
 
 abbrev μ-loop : tie.MeasureT-loop
 μ-loop levels at len so-far₀ q₀ so-far q = len - q
 
 loop-holds : tie.Need-loop-holds Inv-loop μ-loop
 unfolding sumOfLevels
-loop-holds c = (omega arith, none-told _ _ _ _ (c .before .pre .1), zero-literal)
+loop-holds c = (none-told _ _ _ _ (c .before .pre .1), zero-literal, omega arith)
 
 with-told-requires : tie.Need-with-told-requires Inv-loop μ-loop
 with-told-requires c κs =
     let loop = c .before .before .before .before .loop in
     let worth = c .before .before .worth-of .ensures in
-    rw worth (bits-room _ _ (loop .q) _ (loop .inv .1) (omega arith), heard-room _ _ (loop .q) _ (loop .inv .1) (omega arith))
+    rw worth (bits-room _ _ (loop .q) _ (loop .inv .0) (omega arith), heard-room _ _ (loop .q) _ (loop .inv .0) (omega arith))
 
 loop-again : tie.Need-loop-again Inv-loop μ-loop
 unfolding sumOfLevels toldAt
@@ -39,7 +39,7 @@ loop-again c =
     let worth = c .before .before .before .worth-of .ensures in
     let told = c .before .tell .ensures in
     let more = rw (worth, told) at (c .with-told .ensures) in
-    (omega arith, one-told _ _ (loop .q) _ (loop .inv .1) _ more, rw add-one (rw (loop .inv .2) at (more .sum-more)))
+    (one-told _ _ (loop .q) _ (loop .inv .0) _ more, rw add-one (rw (loop .inv .1) at (more .sum-more)), omega arith)
 
 returns : tie.Need-returns Inv-loop μ-loop
 unfolding toldAt
@@ -47,9 +47,9 @@ returns c =
     let loop = c .before .loop in
     let first = c .before .before .before in
     let all : loop .q ≡ first .args .len = omega arith in
-    let folded = rw all at (loop .inv .2) in
+    let folded = rw all at (loop .inv .1) in
     let exact = sum-exact (fromPlace (first .args .at) (toldAt (first .args .levels .now))) (first .args .len) in
-    (rw all at (loop .inv .1), (folded, λ units. folded ∙ exact (omega (arith, first .pre .0 .2)) (λ q l. unit-told (units q l))))
+    (rw all at (loop .inv .0), (folded, λ units. folded ∙ exact (omega (arith, first .pre .0 .2)) (λ q l. unit-told (units q l))))
 
 pub tell-chunk-spec : {M : Type 1} → statement M
 tell-chunk-spec =
