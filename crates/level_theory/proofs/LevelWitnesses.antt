@@ -32,11 +32,12 @@ use Rattle.model.specs.declared.ChunkBits.the-variants.{Differing}
 use Rattle.model.specs.declared.Reading.{Reading}
 use Rattle.model.specs.declared.ReadAnswer.{ReadAnswer}
 use Rattle.model.specs.declared.ReadAnswer.the-variants.{At}
+use Rattle.code_theory.proofs.Witnesses.{card-B-sound}
 use Rattle.position_theory.specs.Damage.{wrongIn, lostIn, ChunksBelowD, wrongInAll, lostInAll}
 use Rattle.position_theory.specs.ChunkBits.{TellsWrong, WrongOfChunks}
 use Rattle.position_theory.specs.Contradictions.{NamedChunk, unlessContradicted}
 use Rattle.position_theory.specs.Witnesses.{ReadAs, ReadWithin, NoneReads}
-use Rattle.position_theory.proofs.Witnesses.{computed, card-B-sound, near-within, read-as, refused-as, first-codeword, first-agrees, second-agrees}
+use Rattle.position_theory.proofs.Witnesses.{computed, near-within, read-as, refused-as, first-codeword, first-agrees, second-agrees}
 use Rattle.level_theory.specs.UnitLevels.{OneLevel, plus-one, minus-one, OneLevels, UnitLevel, one, zero-level, UnitLevels}
 use Rattle.level_theory.specs.LevelPromises.{ChunksReadBelowD, heardOf, bitsOf, NearestOverHeard, TellsWrongOfChunks}
 use Rattle.level_theory.specs.LevelPromises.{AsPlainReading, OffByAtMostTwiceWrongAndLost}

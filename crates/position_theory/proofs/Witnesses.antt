@@ -17,8 +17,7 @@ use Rattle.bits.proofs.Numbers.{lt-or-le}
 use Rattle.bits.proofs.Searches.{none-of-any}
 use Rattle.model.specs.Refusals.{firstRefusal, unlessRefused}
 use Rattle.model.specs.Card.{Code, SoundCard, radius}
-use Rattle.model.specs.Card.{highFirst, rowOf, twosComplement, offsetOf, storedCheck, computedCheck, sumOfRows, leastWeight, codeOf}
-use Rattle.model.specs.Card.{withinLimits, rowTooWide, unusedRowSet, unusedByteSet, misplaced, offsetOutside, dependent, cardRefusal}
+use Rattle.model.specs.Card.{highFirst, rowOf, sumOfRows, leastWeight, codeOf}
 use Rattle.model.specs.CardBytes.{bytesOf, rowBytes, sealed, cardOf}
 use Rattle.model.specs.Order.{gray, lastCodeword, codeword, changedRow, changedWeight, start, lastPosition}
 use Rattle.model.specs.Words.{chunk₁, chunk₂, chunkSize, placesBefore, fiveChunks, word, blockOf, wordAt, wordBytes, divided}
@@ -33,6 +32,7 @@ use Rattle.model.specs.declared.ChunkBits.the-variants.{Differing}
 use Rattle.model.specs.declared.Reading.{Reading}
 use Rattle.model.specs.declared.ReadAnswer.{ReadAnswer}
 use Rattle.model.specs.declared.ReadAnswer.the-variants.{At, Refused}
+use Rattle.code_theory.proofs.Witnesses.{card-B-sound}
 use Rattle.position_theory.specs.Damage.{turnedIn, turnedInAll, turned, ChunksWithin, WithinRadius, Near, residualOf}
 use Rattle.position_theory.specs.Nearest.{refusalOf, allowedBy, NearestOf, IsReadingOf}
 use Rattle.position_theory.specs.Demands.{WrittenIfServable, UnchangedIfRefused, NeighboursDifferInOneBit, NoOtherPositionsWord}
@@ -182,14 +182,6 @@ never-read : (received : List ℕ) (i j c : ℕ)
 unfolding PastedNeverRead
 never-read received i j c in-code in-code′ differ named separator chunk r promise =
     let pasted : Pasted (codeOf cardB) (place received) i j c = search (leb-true, eqb-false) in promise i j c pasted r refl
-
--- card B is sound
-pub card-B-sound : SoundCard cardB
-unfolding sumBelow weight anyBelow
-    highFirst rowOf twosComplement offsetOf storedCheck computedCheck sumOfRows
-    firstRefusal withinLimits rowTooWide unusedRowSet unusedByteSet misplaced offsetOutside dependent cardRefusal
-    bytesOf rowBytes sealed cardOf cardB
-card-B-sound = refl
 
 pub witnessed : Witnessed
 unfolding sumBelow distance joinAt walk weight place cut byteOf listOf pack

@@ -94,7 +94,7 @@ abbrev pub SevenAtWill : (position : ℕ) (received : List ℕ) → Type 0
 SevenAtWill position received =
     (answer : ReadAnswer) → ReadWithDividedAtWill cardB received answer → ReadInBar 7 position answer × ReadWithin 14 position answer
 
--- the word is not read
+-- no reading has the promise
 abbrev pub NoneReads : (Promised : ReadAnswer → Type 0) → Type 0
 NoneReads Promised = (r : Reading) → Promised (At r) → ⊥
 
