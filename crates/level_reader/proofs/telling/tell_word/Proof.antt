@@ -1,5 +1,5 @@
--- `level_reader::telling::tell_word` meets its contract: after each chunk the word is told as far as the layout says that the next one begins,
--- and a separator's sum is kept as its chunk is told; a word has 320 bits at most, so each chunk fits. Assumes nothing.
+-- `level_reader::telling::tell_word` meets its contract: each chunk is told where the layout has it, the strength going on to where the next
+-- one begins; bits and places heard are those of the five chunks, and the sums those of the separators. Assumes nothing.
 use mathlib.Core.Path.{_≡_, ap, _∙_}
 use Prim.Native.Nat.{ℕ, _+_}
 use native.Mathlib.Omega.{arith}
@@ -7,18 +7,21 @@ use borrow.Author.Needs.{needs}
 use Rattle.bits.proofs.Sums.{from-place-zero}
 use Rattle.model.specs.Card.{Code}
 use Rattle.model.specs.Decoded.{meaning}
-use Rattle.model.specs.Levels.{toldAt, sumOfLevels}
+use Rattle.model.specs.Levels.{toldAt, bitsIn, sumOfLevels, strengthOf}
 use Rattle.model.specs.Words.{wordBits}
+use Rattle.model.specs.declared.Strength.{Strength}
 use Rattle.model.specs.declared.Told.{Told}
 use Rattle.position.specs.LayoutOf.{LayoutOf}
 use Rattle.position.specs.declared.layout.Layout.{Layout}
-use Rattle.level_reader.specs.ToldWords.{ToldUpTo}
-use Rattle.level_reader.specs.declared.telling.ToldPart.{ToldPart}
+use Rattle.levels.specs.ToldChunks.{heardBits, ToldChunkOf}
+use Rattle.levels.specs.declared.chunks.ToldChunk.{ToldChunk}
+use Rattle.level_reader.specs.ToldWords.{FiveNumbers}
+use Rattle.level_reader.proofs.ToldParts.{five-bits, five-heard}
 use Rattle.level_reader.proofs.telling.tell_word.Statement.{statement}
 use Rattle.level_reader.proofs.telling.tell_word.Tie as tie
 
 -- where the layout is known
-module _ (c : tie.After-nothing-told) where
+module _ (c : tie.After-no-strength) where
   abbrev first : tie.Start
   first = c .before .before .before
 
@@ -34,69 +37,85 @@ module _ (c : tie.After-nothing-told) where
   laid : LayoutOf C layout
   laid = c .before .layout-of .ensures
 
-  abbrev ToldTo : ℕ → ToldPart → Type 0
-  ToldTo = ToldUpTo word
+  -- the strength of a chunk goes as far as the next one begins
+  goes-on : (at len next : ℕ) (chunk : ToldChunk) → ToldChunkOf word at len chunk → at + len ≡ next → chunk .strength ≡ strengthOf word next
+  goes-on at len next chunk told behind = told .strength-told ∙ ap (strengthOf word) behind
 
--- as far as the next chunk begins
-separator₁-told : (c : tie.After-with-chunk) → let known = c .before in ToldTo known (layout known .chunk1) (c .with-chunk .result)
-separator₁-told c =
+tell-chunk-requires : tie.Need-tell-chunk-requires
+unfolding strengthOf
+tell-chunk-requires c κs = ((omega arith, omega arith, omega arith), c .no-strength .ensures)
+
+tell-chunk-requires-2 : tie.Need-tell-chunk-requires-2
+tell-chunk-requires-2 c κs =
     let known = c .before in
-    let behind : 0 + C known .D ≡ layout known .chunk1 = omega (arith, laid known .chunk₁-at) in rw behind at (c .with-chunk .ensures .0)
+    ((omega arith, omega arith, omega arith), goes-on known _ _ _ _ (c .tell-chunk .ensures .0) (omega arith))
 
-chunk₁-told : (c : tie.After-with-chunk2) → let known = c .before .before in ToldTo known (layout known .separator2) (c .with-chunk2 .result)
-chunk₁-told c =
+tell-chunk-requires-3 : tie.Need-tell-chunk-requires-3
+tell-chunk-requires-3 c κs =
     let known = c .before .before in
-    let behind : layout known .chunk1 + C known .n ≡ layout known .separator2 = omega (arith, laid known .chunk₁-at, laid known .separator₂-at) in
-    rw behind at (c .with-chunk2 .ensures .0)
+    ((omega arith, omega arith, omega arith), goes-on known _ _ _ _ (c .tell-chunk2 .ensures .0) (omega arith))
 
-separator₂-told : (c : tie.After-with-chunk3)
-    → let known = c .before .before .before in ToldTo known (layout known .chunk2) (c .with-chunk3 .result)
-separator₂-told c =
+tell-chunk-requires-4 : tie.Need-tell-chunk-requires-4
+tell-chunk-requires-4 c κs =
     let known = c .before .before .before in
-    let behind : layout known .separator2 + C known .D ≡ layout known .chunk2 =
-    omega (arith, laid known .separator₂-at, laid known .chunk₂-at) in
-    rw behind at (c .with-chunk3 .ensures .0)
+    ((omega arith, omega arith, omega arith), goes-on known _ _ _ _ (c .tell-chunk3 .ensures .0) (omega arith))
 
-chunk₂-told : (c : tie.After-with-chunk4)
-    → let known = c .before .before .before .before in ToldTo known (layout known .separator3) (c .with-chunk4 .result)
-chunk₂-told c =
+tell-chunk-requires-5 : tie.Need-tell-chunk-requires-5
+tell-chunk-requires-5 c κs =
     let known = c .before .before .before .before in
-    let behind : layout known .chunk2 + C known .n ≡ layout known .separator3 =
-    omega (arith, laid known .chunk₂-at, laid known .separator₃-at) in
-    rw behind at (c .with-chunk4 .ensures .0)
+    ((omega arith, omega arith, omega arith), goes-on known _ _ _ _ (c .tell-chunk4 .ensures .0) (omega arith))
 
-with-chunk-requires : tie.Need-with-chunk-requires
-with-chunk-requires c κs = (omega arith, omega arith, omega arith, c .nothing-told .ensures (word c))
+-- all five are told
+module _ (c : tie.After-tell-chunk5) where
+  abbrev known : tie.After-no-strength
+  known = c .before .before .before .before .before
 
-with-chunk-requires-2 : tie.Need-with-chunk-requires-2
-with-chunk-requires-2 c κs = (omega arith, omega arith, omega arith, separator₁-told c)
+  abbrev told₁ : ToldChunk
+  told₁ = c .before .before .before .before .tell-chunk .result
 
-with-chunk-requires-3 : tie.Need-with-chunk-requires-3
-with-chunk-requires-3 c κs = (omega arith, omega arith, omega arith, chunk₁-told c)
+  abbrev told₂ : ToldChunk
+  told₂ = c .before .before .before .tell-chunk2 .result
 
-with-chunk-requires-4 : tie.Need-with-chunk-requires-4
-with-chunk-requires-4 c κs = (omega arith, omega arith, omega arith, separator₂-told c)
+  abbrev told₃ : ToldChunk
+  told₃ = c .before .before .tell-chunk3 .result
 
-with-chunk-requires-5 : tie.Need-with-chunk-requires-5
-with-chunk-requires-5 c κs = (omega arith, omega arith, omega arith, chunk₂-told c)
+  abbrev told₄ : ToldChunk
+  told₄ = c .before .tell-chunk4 .result
+
+  abbrev told₅ : ToldChunk
+  told₅ = c .tell-chunk5 .result
+
+  all-bits : FiveNumbers (C known) (bitsIn (word known)) (told₁ .bits) (told₂ .bits) (told₃ .bits) (told₄ .bits) (told₅ .bits)
+  all-bits =
+      five-bits _ _ (laid known) _ _ _ _ _ _ (c .before .before .before .before .tell-chunk .ensures .0)
+      (c .before .before .before .tell-chunk2 .ensures .0) (c .before .before .tell-chunk3 .ensures .0)
+      (c .before .tell-chunk4 .ensures .0) (c .tell-chunk5 .ensures .0)
+
+  all-heard : FiveNumbers (C known) (heardBits (word known)) (told₁ .heard) (told₂ .heard) (told₃ .heard) (told₄ .heard) (told₅ .heard)
+  all-heard =
+      five-heard _ _ (laid known) _ _ _ _ _ _ (c .before .before .before .before .tell-chunk .ensures .0)
+      (c .before .before .before .tell-chunk2 .ensures .0) (c .before .before .tell-chunk3 .ensures .0)
+      (c .before .tell-chunk4 .ensures .0) (c .tell-chunk5 .ensures .0)
+
+joined-requires : tie.Need-joined-requires
+joined-requires c κs = let told = c .before in (first (known told) .pre .0, (_, all-bits told))
+
+joined-requires-2 : tie.Need-joined-requires-2
+joined-requires-2 c κs = let told = c .before .before in (first (known told) .pre .0, (_, all-heard told))
 
 returns : tie.Need-returns
 returns c =
-    let third = c .before .before .before in
-    let second = third .before .before in
-    let known = second .before .before .before in
-    let args = first known .args in
-    let whole : layout known .separator3 + C known .D ≡ wordBits (C known) = omega (arith, laid known .separator₃-at) in
-    let told = rw whole at (third .with-chunk5 .ensures .0) in
+    let told = c .before .before .before in
+    let at = laid (known told) in
     record {
-      bits-told = told .bits-told;
-      heard-told = told .heard-told;
+      bits-told = c .before .joined .ensures _ (all-bits told);
+      heard-told = c .joined2 .ensures _ (all-heard told);
       sum₁ =
-          second .before .before .with-chunk .ensures .1
-          ∙ ap (λ (separator : ℕ → Told). sumOfLevels separator (args .code .distance)) (from-place-zero (word known));
-      sum₂ = rw (laid known .separator₂-at) at (second .with-chunk3 .ensures .1);
-      sum₃ = rw (laid known .separator₃-at) at (third .with-chunk5 .ensures .1);
-      strength-told = told .strength-told;
+          told .before .before .before .before .tell-chunk .ensures .1 .0
+          ∙ ap (λ (separator : ℕ → Told). sumOfLevels separator (C (known told) .D)) (from-place-zero (word (known told)));
+      sum₂ = rw (at .separator₂-at) at (told .before .before .tell-chunk3 .ensures .1 .0);
+      sum₃ = rw (at .separator₃-at) at (told .tell-chunk5 .ensures .1 .0);
+      strength-told = goes-on (known told) _ _ _ _ (told .tell-chunk5 .ensures .0) (omega (arith, at .separator₃-at));
     }
 
 pub tell-word-spec : {M : Type 1} → statement M
@@ -105,9 +124,11 @@ tell-word-spec =
     (tie.spec
     (λ c κs. search needs)
     (λ c κs. search needs)
-    with-chunk-requires
-    with-chunk-requires-2
-    with-chunk-requires-3
-    with-chunk-requires-4
-    with-chunk-requires-5
+    tell-chunk-requires
+    tell-chunk-requires-2
+    tell-chunk-requires-3
+    tell-chunk-requires-4
+    tell-chunk-requires-5
+    joined-requires
+    joined-requires-2
     returns)
