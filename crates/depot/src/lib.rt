@@ -134,11 +134,11 @@ pub fn read_word(card: &[u8], word: &[u8]) -> ReadAnswer
 // the card, 1 to 5 or 14; not exactly d levels, 15; any of them not a number, infinite, or above 1,000,000 in magnitude, 16; and then 9 to
 // 12 and 17 as a plain word.
 // A code chunk reads as the codeword for which 2 × wrong + lost is below D, one at most (the theorem `chunks-read-below-D` of crate
-// level_theory), and how many bits it needed is the count of its wrong places. What follows is said of the position answer, the answer but for
-// the strength. Of d levels of 1 and -1 it is that of the plain reading of the word of these bits. Of d levels of 1, -1 and 0 that have,
+// level_theory), and how many bits it needed is the count of its wrong places. What follows is said of the position answer, the answer but
+// for the strength. Of d levels of 1 and -1 it is that of the plain reading of the word of these bits. Of d levels of 1, -1 and 0 that have,
 // against the word of any position on the track, 2 × wrong + lost below D in every chunk, it is a position, and off by at most
-// 2 × wrong + lost, counted over the whole word. What 17 changes is as in a plain word (`agrees`, `pasted`, `before`), a separator being what
-// its levels sum to.
+// 2 × wrong + lost, counted over the whole word. What 17 changes is as in a plain word (`agrees`, `pasted`, `before`), a separator being
+// what its levels sum to.
 pub fn read_levels(card: &[u8], levels: &[f32]) -> LevelsAnswer
     ensures answer { λ r. ⌜ r ≡ levelsAnswer (now (card .entry)) (now (levels .entry)) ⌝ }
     ensures status { λ r. ⌜ levelsStatus r ≡ levelsRefusal (now (card .entry)) (now (levels .entry)) ⌝ }

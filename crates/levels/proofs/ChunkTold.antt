@@ -1,8 +1,8 @@
 -- The levels of a chunk told one by one: the bits and the places heard are numbers that grow by one place a level, and the strength goes on
 -- from level to level. Assumes nothing.
-use mathlib.Core.Path.{_≡_, refl, ap, _∙_}
+use mathlib.Core.Path.{_≡_, refl}
 use mathlib.Core.Bool.{Bool, true, false, cond}
-use Prim.Native.Nat.{ℕ, suc, _+_, _*_, _^_, _≤_, _<_}
+use Prim.Native.Nat.{ℕ, suc, _+_, _*_, _^_, _<_}
 use native.Mathlib.Nat.{add-zero}
 use native.Mathlib.Omega.{arith}
 use lib.Ieee.{Float}
@@ -10,11 +10,11 @@ use lib.Pow.{pow-mono}
 use Rattle.bits.specs.Sums.{sumBelow, fromPlace}
 use Rattle.bits.proofs.Places.{number-below}
 use Rattle.bits.proofs.Sums.{sum-more}
-use Rattle.model.specs.Levels.{isHeard, heardIn, bitsIn, strengthOf}
+use Rattle.model.specs.Levels.{heardIn, bitsIn, strengthOf}
 use Rattle.model.specs.declared.Strength.{Strength}
 use Rattle.model.specs.declared.Told.{Told}
 use Rattle.level_theory.proofs.HeardCounts.{told-bit}
-use Rattle.levels.specs.ToldChunks.{heardBits, numberFrom, ToldMore, ToldChunkOf}
+use Rattle.levels.specs.ToldChunks.{heardBits, ToldMore, ToldChunkOf}
 use Rattle.levels.specs.declared.chunks.ToldChunk.{ToldChunk}
 
 -- a place is heard or not: 1 or 0

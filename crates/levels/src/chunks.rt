@@ -61,9 +61,10 @@ fn with_told(chunk: ToldChunk, worth: u64, told: Told) -> ToldChunk
 }
 
 // The `len` levels from place `at` on, told one by one, where `before` is the strength over the levels before them. Document 01 names the
-// forms: an enum with Level(f32) and Lost, made from each incoming f32 before separators and chunks are read; a separator sum in f32, bit-exact
-// against the fold's definition (`folded`), and exact where levels are 1, -1 or 0 (`exact`): then it is the zeros that are heard less the ones;
-// and a struct of f32 sum of magnitudes and f32 greatest, passed by value through the word's levels.
+// forms: an enum with Level(f32) and Lost, made from each incoming f32 before separators and chunks are read; a separator sum in f32,
+// bit-exact against the fold's definition (`folded`), and exact where levels are 1, -1 or 0 (`exact`): then it is the zeros that are heard
+// less the ones; and a struct of f32 sum of magnitudes and f32 greatest, passed by value through the word's levels. (It begins float by
+// float: copied whole it would be moved through an integer at each level.)
 pub fn tell_chunk(levels: &[f32], at: u32, len: u32, before: Strength) -> ToldChunk
     requires { ⌜ (at + len ≤ length (now levels)) × (at + len ≤ 320) × (len ≤ 64) ⌝ }
     requires { ⌜ before ≡ strengthOf (toldAt (now levels)) at ⌝ }

@@ -2,7 +2,7 @@
 -- is u as far as it goes; a word has 320 bits at most, so each chunk fits. Assumes nothing.
 use mathlib.Core.Path.{_≡_, sym, _∙_}
 use mathlib.Core.List.{List}
-use Prim.Native.Nat.{ℕ, _+_}
+use Prim.Native.Nat.{ℕ}
 use native.Mathlib.Omega.{arith}
 use borrow.Author.Needs.{needs}
 use Rattle.bits.specs.Places.{place, cut}
@@ -34,7 +34,8 @@ module _ (c : tie.After-layout-of) where
   laid = c .layout-of .ensures
 
   abbrev Numbers : (ℕ → ℕ) → Type 0
-  Numbers u = FiveNumbers C u (first .args .separator1) (first .args .chunk1) (first .args .separator2) (first .args .chunk2) (first .args .separator3)
+  Numbers u =
+      FiveNumbers C u (first .args .separator1) (first .args .chunk1) (first .args .separator2) (first .args .chunk2) (first .args .separator3)
 
   -- the array has the bits of u up to a place
   abbrev Holds : (ℕ → ℕ) → ℕ → List ℕ → Type 0

@@ -8,8 +8,6 @@ use Rattle.bits.proofs.Sums.{from-place-zero}
 use Rattle.model.specs.Card.{Code}
 use Rattle.model.specs.Decoded.{meaning}
 use Rattle.model.specs.Levels.{toldAt, bitsIn, sumOfLevels, strengthOf}
-use Rattle.model.specs.Words.{wordBits}
-use Rattle.model.specs.declared.Strength.{Strength}
 use Rattle.model.specs.declared.Told.{Told}
 use Rattle.position.specs.LayoutOf.{LayoutOf}
 use Rattle.position.specs.declared.layout.Layout.{Layout}

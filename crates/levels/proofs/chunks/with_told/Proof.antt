@@ -1,6 +1,6 @@
 -- `levels::chunks::with_told` meets its contract: a lost bit changes nothing, and a level adds its bit, its place among those heard, itself
 -- and its magnitude. Assumes nothing.
-use mathlib.Core.Path.{_≡_, refl}
+use mathlib.Core.Path.{refl}
 use native.Mathlib.Omega.{arith}
 use borrow.Author.Needs.{needs}
 use Rattle.model.specs.Levels.{isHeard, bitTold, plusLevel, withLevel}
