@@ -6,7 +6,7 @@ use Prim.Native.Nat.{ℕ}
 use lib.IntN.{ℤ, pos, negℤ}
 use lib.ListN.{replicate}
 use Rattle.bits.specs.Places.{listOf}
-use Rattle.model.specs.Card.{Code, offsetOf, codeOf}
+use Rattle.model.specs.Card.{offsetOf, codeOf}
 use Rattle.model.specs.Order.{rowShare, sumAfterRow, sumBeforeRow}
 use Rattle.model.specs.Words.{millimetresOf}
 use Rattle.model.specs.Answers.{makeAnswer}
@@ -46,7 +46,7 @@ figures given expected = signed given (map pos expected)
 
 unfoldable pub innerCases : List Figures
 innerCases =
-    -- P1: m 0 is 13, and all 512 bytes are zero
+    -- P1: m 0 is 13, and all 512 bytes are zero; `makeAnswer` has one clause for every refusal, so they are the same whatever r and m are
     figures (made (makeAnswer 14 0 0)) (13 ∷ replicate 512 0)
     -- P2: -2^31 and 2^31 - 1
     ∷ signed (offsetIn (0x80 ∷ 0x00 ∷ 0x00 ∷ 0x00 ∷ [])) (negℤ (pos 2147483648) ∷ [])

@@ -42,7 +42,7 @@ use Rattle.position_theory.specs.ChunkBits.{TellsBits, BitsOfChunks, Tel
 use Rattle.position_theory.specs.Contradictions.{ParityAgrees, separatorChunk, NamedChunk, Pasted, ReadOnlyIfParityAgrees, PastedNeverRead}
 use Rattle.position_theory.specs.Contradictions.{unlessContradicted, answerBefore, AsBeforeUnlessContradicted}
 use Rattle.position_theory.specs.Witnesses.{ReadAs, ReadWithin, ReadInBar, NoneReads, Witnessed}
-use Rattle.position_theory.specs.Witnesses.{sevenDamaged, lastDamaged, lastAllDamaged, eleven, zeroDamaged, dividedTurned, unreadableA}
+use Rattle.position_theory.specs.Witnesses.{sevenDamaged, lastDamaged, lastAllDamaged, eleven, zeroDamaged, tenDamaged, sevenInChunk2, dividedTurned, unreadableA}
 use Rattle.position_theory.specs.Witnesses.{mixed, mixedDamaged, mixedInChunk2, mixedByRule1, mixedByRule2}
 use Rattle.position_theory.proofs.Ranges.{nearest-in}
 use Rattle.position_theory.proofs.RuleReads.{number-of}
@@ -206,6 +206,7 @@ witnessed =
       alone = λ position promise. sym (promise 15 (computed refl) refl);
       smaller-of-two = λ answer promise. read-as _ _ _ answer (promise card-B-sound refl refl .0) refl;
       smaller-at-last = λ answer promise. read-as _ _ _ answer (promise card-B-sound refl refl .0) refl;
+      residual-counts = λ answer promise. promise card-B-sound refl refl .1 15;
       by-17 = λ answer promise. refused-as _ _ _ answer (promise card-B-sound refl refl .0) 16 refl;
       twice = λ answer promise. near-within answer 7 2 (promise 7 card-B-sound (computed refl) (within _ 7 sevenDamaged refl refl refl));
       twice-at-last = λ answer promise. near-within answer 15 2 (promise 15 card-B-sound (computed refl) (within _ 15 lastDamaged refl refl refl));
@@ -248,6 +249,10 @@ witnessed =
       needed-in-all = λ r is promise.
           let (first, second) = promise 15 card-B-sound (computed refl) (within _ 15 lastAllDamaged refl refl refl) r refl in
           (first (rw is), second (rw is));
+      needed-by-rule-1 = λ r is promise.
+          promise 10 card-B-sound (computed refl) (within _ 10 tenDamaged refl refl refl) r refl .0 (rw is);
+      needed-by-rule-2 = λ r is promise.
+          promise 7 card-B-sound (computed refl) (within _ 7 sevenInChunk2 refl refl refl) r refl .1 (rw is);
       contradicts = λ r promise. eqb-false 0 1 refl (first-agrees _ _ _ (promise r refl) refl);
       contradicts-by-rule-1 = λ r promise. eqb-false 0 1 refl (first-agrees _ _ _ (promise r refl) refl);
       contradicts-by-rule-2 = λ r promise. eqb-false 1 0 refl (second-agrees _ _ _ (promise r refl) refl);

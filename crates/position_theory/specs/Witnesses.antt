@@ -5,9 +5,10 @@ use mathlib.Core.Path.{_≡_}
 use mathlib.Core.Bool.{true}
 use mathlib.Core.List.{List, [], _∷_}
 use Prim.Native.Nat.{ℕ, _+_, _≤_, _<_}
-use Rattle.bits.specs.Places.{differingBits}
+use Rattle.bits.specs.Places.{place, differingBits}
 use Rattle.model.specs.Card.{codeOf}
-use Rattle.model.specs.Words.{divided}
+use Rattle.model.specs.Words.{wordBytes, divided}
+use Rattle.model.specs.Reading.{residual}
 use Rattle.model.specs.Cases.{cardA, cardB}
 use Rattle.model.specs.Statuses.{bitsValue}
 use Rattle.model.specs.declared.ChunkBits.the-variants.{Differing, NotRead}
@@ -56,6 +57,13 @@ lastAllDamaged = 0b10110110 ∷ 0b1101101 ∷ []
 -- 11, whose chunk 2 is divided; it is read by rule 1
 abbrev pub eleven : List ℕ
 eleven = 0b11111111 ∷ 0b0000111 ∷ []
+
+-- 10 with one bit turned in each code chunk, which reads by rule 1; and 7 with one bit of chunk 2 turned, which reads by rule 2
+abbrev pub tenDamaged : List ℕ
+tenDamaged = 0b11101111 ∷ 0b0001011 ∷ []
+
+abbrev pub sevenInChunk2 : List ℕ
+sevenInChunk2 = 0b01111111 ∷ 0b0000010 ∷ []
 
 -- 0 with one bit of chunk 1 turned
 abbrev pub zeroDamaged : List ℕ
@@ -107,9 +115,12 @@ pub record Witnessed : Type 0 where
   pub before-last : (word : List ℕ) → NeighboursDifferInOneBit cardB 15 word → differingBits word (0xff ∷ 0x3f ∷ []) ≡ 1
   pub zero-is-before : (word : List ℕ) → NeighboursDifferInOneBit cardB 1 word → differingBits word (0x00 ∷ 0x00 ∷ []) ≡ 1
   pub alone : (position : ℕ) → NoOtherPositionsWord cardB position (0xff ∷ 0x7f ∷ []) → position ≡ 15
-  -- the nearest: 5 and 7 are as near, or 13 and 15, and the smaller is answered; a word pasted from two telegrams is refused by 17
+  -- the nearest: 5 and 7 are as near, or 13 and 15, and the smaller is answered; by residuals that count differing bits, at the last position
+  -- too; a word pasted from two telegrams is refused by 17
   pub smaller-of-two : (answer : ReadAnswer) → NearestOfAllowed cardB sevenDamaged answer → ReadAs 5 1 2 answer
   pub smaller-at-last : (answer : ReadAnswer) → NearestOfAllowed cardB lastDamaged answer → ReadAs 13 1 3 answer
+  pub residual-counts : (answer : ReadAnswer) → NearestOfAllowed cardB lastDamaged answer
+      → residual (codeOf cardB) (place lastDamaged) 15 ≡ differingBits (wordBytes (codeOf cardB) 15) lastDamaged
   pub by-17 : (answer : ReadAnswer) → NearestOfAllowed cardB mixed answer → answer ≡ Refused 17
   -- demand 3: off by at most twice the bits turned, which 5 for 7 and 13 for 15 are; and t bits turned in every chunk
   pub twice : (answer : ReadAnswer) → OffByAtMostTwiceTurned cardB sevenDamaged answer → ReadWithin 2 7 answer
@@ -141,6 +152,8 @@ pub record Witnessed : Type 0 where
       → (bitsValue (r .chunk1) ≡ 1) × (bitsValue (r .chunk2) ≡ 0)
   pub needed-in-all : (r : Reading) → r .rule ≡ 3 → NeededAsTurned cardB lastAllDamaged (At r)
       → (bitsValue (r .chunk1) ≡ 1) × (bitsValue (r .chunk2) ≡ 1)
+  pub needed-by-rule-1 : (r : Reading) → r .rule ≡ 1 → NeededAsTurned cardB tenDamaged (At r) → bitsValue (r .chunk1) ≡ 1
+  pub needed-by-rule-2 : (r : Reading) → r .rule ≡ 2 → NeededAsTurned cardB sevenInChunk2 (At r) → bitsValue (r .chunk2) ≡ 1
   -- separators that contradict the codeword, by each rule; and words pasted from two telegrams, by each rule and each chunk that it names,
   -- with t bits turned in both parts
   pub contradicts : NoneReads (ReadOnlyIfParityAgrees cardB mixed)
