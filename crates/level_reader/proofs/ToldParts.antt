@@ -35,6 +35,20 @@ module _ (u : ℕ → ℕ) (bits : (p : ℕ) → u p < 2) (at len value : ℕ) (
 pub zeros-behind : (u : ℕ → ℕ) (at : ℕ) {before : ℕ → ℕ} → ((p : ℕ) → before p ≡ cut at u p) → (p : ℕ) → at ≤ p → before p ≡ 0
 zeros-behind u at so-far p l = so-far p ∙ cut-above at u p l
 
+-- the bits of u in five chunks, where the layout has them
+module _ (C : Code) (l : Layout) (laid : LayoutOf C l) (u : ℕ → ℕ) (bits : (p : ℕ) → u p < 2) {s₁ c₁ s₂ c₂ s₃ : ℕ} where
+  five-numbers : s₁ ≡ numberFrom u 0 (C .D) → c₁ ≡ numberFrom u (l .chunk1) (C .n) → s₂ ≡ numberFrom u (l .separator2) (C .D)
+      → c₂ ≡ numberFrom u (l .chunk2) (C .n) → s₃ ≡ numberFrom u (l .separator3) (C .D) → FiveNumbers C u s₁ c₁ s₂ c₂ s₃
+  five-numbers first second third fourth fifth =
+      record {
+        bits = bits;
+        separator₁-is = first;
+        chunk₁-is = rw (laid .chunk₁-at) at second;
+        separator₂-is = rw (laid .separator₂-at) at third;
+        chunk₂-is = rw (laid .chunk₂-at) at fourth;
+        separator₃-is = rw (laid .separator₃-at) at fifth;
+      }
+
 -- what is told of the five chunks of a word, where the layout has them
 module _ (C : Code) (l : Layout) (laid : LayoutOf C l) (word : ℕ → Told) (a b c d e : ToldChunk)
     (first : ToldChunkOf word 0 (C .D) a) (second : ToldChunkOf word (l .chunk1) (C .n) b)
@@ -42,22 +56,10 @@ module _ (C : Code) (l : Layout) (laid : LayoutOf C l) (word : ℕ → Told) (a 
     (fifth : ToldChunkOf word (l .separator3) (C .D) e) where
   pub five-bits : FiveNumbers C (bitsIn word) (a .bits) (b .bits) (c .bits) (d .bits) (e .bits)
   five-bits =
-      record {
-        bits = bit-told word;
-        separator₁-is = first .bits-told;
-        chunk₁-is = rw (laid .chunk₁-at) at (second .bits-told);
-        separator₂-is = rw (laid .separator₂-at) at (third .bits-told);
-        chunk₂-is = rw (laid .chunk₂-at) at (fourth .bits-told);
-        separator₃-is = rw (laid .separator₃-at) at (fifth .bits-told);
-      }
+      five-numbers C l laid (bitsIn word) (bit-told word) (first .bits-told) (second .bits-told) (third .bits-told) (fourth .bits-told)
+      (fifth .bits-told)
 
   pub five-heard : FiveNumbers C (heardBits word) (a .heard) (b .heard) (c .heard) (d .heard) (e .heard)
   five-heard =
-      record {
-        bits = heard-bit word;
-        separator₁-is = first .heard-told;
-        chunk₁-is = rw (laid .chunk₁-at) at (second .heard-told);
-        separator₂-is = rw (laid .separator₂-at) at (third .heard-told);
-        chunk₂-is = rw (laid .chunk₂-at) at (fourth .heard-told);
-        separator₃-is = rw (laid .separator₃-at) at (fifth .heard-told);
-      }
+      five-numbers C l laid (heardBits word) (heard-bit word) (first .heard-told) (second .heard-told) (third .heard-told)
+      (fourth .heard-told) (fifth .heard-told)

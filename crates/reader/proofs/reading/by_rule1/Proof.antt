@@ -22,7 +22,10 @@ chunk-read : (c : tie.After-chunk-reading)
     → let first = c .before .before in
     let C = meaning (first .args .code) in
     c .chunk-reading .result ≡ chunk₁In C (first .args .x) (first .args .heard)
-chunk-read c = c .chunk-reading .ensures ∙ read-from _ (marked (place (c .before .before .args .heard))) (place (c .before .before .args .x)) _ _ (c .before .layout-of .ensures .chunk₁-at)
+chunk-read c =
+    let args = c .before .before .args in
+    c .chunk-reading .ensures
+    ∙ read-from _ (marked (place (args .heard))) (place (args .x)) _ _ (c .before .layout-of .ensures .chunk₁-at)
 
 -- where it is a codeword: the codeword's number and in how many places the two differ
 codeword-read : (c : tie.After-number)

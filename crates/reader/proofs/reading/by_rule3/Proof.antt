@@ -19,7 +19,10 @@ chunk-read₁ : (c : tie.After-chunk-reading)
     → let start = c .before .before in
     let C = meaning (start .args .code) in
     c .chunk-reading .result ≡ chunk₁In C (start .args .x) (start .args .heard)
-chunk-read₁ c = c .chunk-reading .ensures ∙ read-from _ (marked (place (c .before .before .args .heard))) (place (c .before .before .args .x)) _ _ (c .before .layout-of .ensures .chunk₁-at)
+chunk-read₁ c =
+    let args = c .before .before .args in
+    c .chunk-reading .ensures
+    ∙ read-from _ (marked (place (args .heard))) (place (args .x)) _ _ (c .before .layout-of .ensures .chunk₁-at)
 
 codeword-read₁ : (c : tie.After-first)
     → let start = c .before .before .before .before in
