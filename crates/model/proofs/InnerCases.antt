@@ -1,17 +1,19 @@
 -- The definitions give the figures that no call answers as document 02 says: computed, all at once. Assumes nothing.
 use mathlib.Core.Path.{_≡_, refl}
 use mathlib.Core.List.{map}
-use Rattle.bits.specs.Sums.{sumBelow}
+use Rattle.bits.specs.Sums.{sumBelow, distance, joinAt}
+use Rattle.bits.specs.Walk.{walk}
 use Rattle.bits.specs.Places.{weight, listOf}
+use Rattle.bits.specs.Searches.{anyBelow, greatest}
 use Rattle.model.specs.Refusals.{firstRefusal, unlessRefused}
 use Rattle.model.specs.Card.{highFirst, rowOf, twosComplement, offsetOf, sumOfRows, leastWeight, codeOf}
 use Rattle.model.specs.CardBytes.{bytesOf, rowBytes, sealed, cardOf}
-use Rattle.model.specs.Order.{sumAfterRow, sumBeforeRow}
-use Rattle.model.specs.Words.{millimetresOf}
-use Rattle.model.specs.ReedMuller.{orderWithinLimits}
+use Rattle.model.specs.Order.{sumAfterRow, sumBeforeRow, gray, lastCodeword, codeword, changedRow, changedWeight, start, lastPosition}
+use Rattle.model.specs.Words.{millimetresOf, chunkSize, placesBefore, fiveChunks, word, blockOf, wordAt, divided}
+use Rattle.model.specs.ReedMuller.{those, orderWithinLimits}
 use Rattle.model.specs.Answers.{makeRefusal, makeAnswer}
 use Rattle.model.specs.Cases.{cardA, cardB}
-use Rattle.model.specs.InnerCases.{Figures, innerCases}
+use Rattle.model.specs.InnerCases.{Figures, innerCases, cardOfUnlikeBlocks, whereDivided, Divisions, dividedCases}
 
 pub inner-cases : map (λ (f : Figures). f .given) innerCases ≡ map (λ (f : Figures). f .expected) innerCases
 unfolding sumBelow
@@ -23,3 +25,11 @@ unfolding sumBelow
     millimetresOf orderWithinLimits makeRefusal makeAnswer
     cardA cardB innerCases
 inner-cases = refl
+
+pub divided-cases : map (λ (d : Divisions). whereDivided (d .card) (d .chunk)) dividedCases ≡ map (λ (d : Divisions). d .positions) dividedCases
+unfolding sumBelow distance joinAt walk weight anyBelow greatest
+    highFirst rowOf sumOfRows leastWeight codeOf bytesOf rowBytes sealed cardOf
+    gray lastCodeword codeword changedRow changedWeight start lastPosition
+    chunkSize placesBefore fiveChunks word blockOf wordAt divided those
+    cardA cardB cardOfUnlikeBlocks whereDivided dividedCases
+divided-cases = refl

@@ -1,14 +1,16 @@
--- Figures of document 02's P1, P2 and P4 that no call answers, so that no program can try them: the bytes beside refusal 13, an offset at the
--- ends of the numbers of 32 bits (such a card is refused by 14), a distance at a position that no sound card reaches, and the sums on the
--- way to a block's start. That the definitions give them is one theorem, `inner-cases`. Assumes nothing.
+-- Figures of document 02's P1, P2, P4 and P7 that no call answers, so that no program can try them: the bytes beside refusal 13, an offset at
+-- the ends of the numbers of 32 bits (such a card is refused by 14), a distance at a position that no sound card reaches, the sums on the way
+-- to a block's start; and at which positions each chunk is divided. That the definitions give them is computed, `inner-cases` and
+-- `divided-cases`. Assumes nothing.
 use mathlib.Core.List.{List, [], _∷_, _++_, map}
-use Prim.Native.Nat.{ℕ}
+use Prim.Native.Nat.{ℕ, suc}
 use lib.IntN.{ℤ, pos, negℤ}
 use lib.ListN.{replicate}
 use Rattle.bits.specs.Places.{listOf}
-use Rattle.model.specs.Card.{offsetOf, codeOf}
-use Rattle.model.specs.Order.{rowShare, sumAfterRow, sumBeforeRow}
-use Rattle.model.specs.Words.{millimetresOf}
+use Rattle.model.specs.Card.{Code, offsetOf, codeOf}
+use Rattle.model.specs.Order.{rowShare, sumAfterRow, sumBeforeRow, lastPosition}
+use Rattle.model.specs.Words.{millimetresOf, divided}
+use Rattle.model.specs.ReedMuller.{those}
 use Rattle.model.specs.Answers.{makeAnswer}
 use Rattle.model.specs.Cases.{cardWith, cardA, cardB}
 use Rattle.model.specs.declared.MadeCard.{MadeCard}
@@ -67,4 +69,44 @@ innerCases =
     ∷ figures (rowShares fourRowCard 8) (32 ∷ 12 ∷ 4 ∷ 2 ∷ [])
     ∷ figures (rowShares fourRowCard 15) (64 ∷ 24 ∷ 8 ∷ 2 ∷ [])
     ∷ figures (rowSums fourRowCard 15) (45 ∷ 109 ∷ 133 ∷ 141 ∷ 143 ∷ [])
+    ∷ []
+
+-- the positions, up to the last, at which a chunk, 0 to 4, of the position's word is divided
+unfoldable pub whereDivided : (card : List ℕ) (chunk : ℕ) → List ℕ
+whereDivided card chunk =
+    let C : Code = codeOf card in those (λ position. divided C position chunk) (suc (lastPosition C))
+
+-- a card, a chunk of it, and the positions that the document gives
+pub record Divisions : Type 0 where
+  pub card : List ℕ
+  pub chunk : ℕ
+  pub positions : List ℕ
+
+abbrev divides : List ℕ → ℕ → List ℕ → Divisions
+divides card chunk positions = record { card = card; chunk = chunk; positions = positions }
+
+-- two rows, of weights 2 and 1, and D 1: A is 2 in blocks 0 and 2, and 1 in block 1
+unfoldable pub cardOfUnlikeBlocks : List ℕ
+cardOfUnlikeBlocks = cardWith 2 2 0 (0b11 ∷ 0b01 ∷ [])
+
+unfoldable pub dividedCases : List Divisions
+dividedCases =
+    -- P7: on card B three places differ in each chunk, so each is divided at two positions, with one and with two of them taken
+    divides cardB 0 (1 ∷ 2 ∷ [])
+    ∷ divides cardB 1 (4 ∷ 5 ∷ [])
+    ∷ divides cardB 2 (7 ∷ 8 ∷ [])
+    ∷ divides cardB 3 (10 ∷ 11 ∷ [])
+    ∷ divides cardB 4 (13 ∷ 14 ∷ [])
+    -- card A, each block alike: two places differ in a chunk, so it is divided at one position of a block, and none at its start
+    ∷ divides cardA 0 (1 ∷ 11 ∷ 21 ∷ [])
+    ∷ divides cardA 1 (3 ∷ 13 ∷ 23 ∷ [])
+    ∷ divides cardA 2 (5 ∷ 15 ∷ 25 ∷ [])
+    ∷ divides cardA 3 (7 ∷ 17 ∷ 27 ∷ [])
+    ∷ divides cardA 4 (9 ∷ 19 ∷ 29 ∷ [])
+    -- with D 1 a separator is never divided, and with A 1, in block 1, neither is a code chunk
+    ∷ divides cardOfUnlikeBlocks 0 []
+    ∷ divides cardOfUnlikeBlocks 1 (2 ∷ 14 ∷ [])
+    ∷ divides cardOfUnlikeBlocks 2 []
+    ∷ divides cardOfUnlikeBlocks 3 (5 ∷ 17 ∷ [])
+    ∷ divides cardOfUnlikeBlocks 4 []
     ∷ []
