@@ -11,10 +11,9 @@ use borrow.Author.Tests.{leb-true}
 use lib.Dec.{eqb}
 use lib.ListN.{length}
 use Rattle.bits.proofs.Numbers.{eq-or-ne, and-true-right}
-use Rattle.model.specs.Refusals.{firstRefusal, unlessRefused}
+use Rattle.model.specs.Refusals.{firstRefusal, unlessRefused, ifServed}
 use Rattle.model.specs.ReedMuller.{reedMullerCard, orderWithinLimits}
-use Rattle.model.specs.Answers.{makeRefusal, makeAnswer}
-use Rattle.model.specs.Statuses.{ifServed}
+use Rattle.model.specs.MakeCard.{makeRefusal, makeAnswer}
 use Rattle.model.specs.declared.MadeCard.{MadeCard}
 use Rattle.code_theory.proofs.Refusals.{NoneHolds, numbered, none-holds, served-if-none, refused-if-some}
 use Rattle.reed_muller_theory.specs.MadeCards.{IsReedMullerCard}

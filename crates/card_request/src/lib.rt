@@ -1,7 +1,7 @@
 // A request for a card, as radio staff type it: the track number, the order r and the number of variables m, three texts in decimal.
 // It is answered with the card, or with the number of the first thing that is wrong with it; specs/Request.antt says which.
 ghost use mathlib.Core.Path.{_≡_};
-ghost use Rattle.model.specs.Statuses.{ifServed};
+ghost use Rattle.model.specs.Refusals.{ifServed};
 ghost use Rattle.reed_muller_theory.specs.MadeCards.{IsReedMullerCard};
 ghost use Rattle.card_request.specs.Request.{numberIn, numberText, noCard, requestRefusal, requestCard, requestAnswer};
 ghost use Rattle.card_request.specs.Request.{requestStatus, requestValues};

@@ -14,12 +14,11 @@ use Rattle.bits.specs.Searches.{first}
 use Rattle.bits.proofs.Numbers.{lt-or-le}
 use Rattle.bits.proofs.Heard.{all-heard, none-lost, heard-ext, lost-ext}
 use Rattle.bits.proofs.Searches.{first-is, first-holds, first-none}
-use Rattle.model.specs.Refusals.{firstRefusal}
+use Rattle.model.specs.Refusals.{firstRefusal, ifServed}
 use Rattle.model.specs.Card.{Code, radius}
-use Rattle.model.specs.Reading.{chunkDistance, withinRadius, readFirst, chunkReading, chunkRefusal, chunkFigures}
+use Rattle.model.specs.Reading.{chunkDistance, withinRadius, readFirst, chunkReading, chunkRefusal, chunkFigures, chunkStatus, chunkValues}
 use Rattle.model.specs.Order.{codeword}
 use Rattle.model.specs.Levels.{chunkWrong, withinLosses, heardReading}
-use Rattle.model.specs.Statuses.{ifServed, chunkStatus, chunkValues}
 use Rattle.model.specs.declared.Chunk.{Chunk}
 use Rattle.model.specs.declared.Chunk.the-variants.{Codeword, Unreadable}
 

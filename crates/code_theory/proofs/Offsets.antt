@@ -18,8 +18,12 @@ use Rattle.model.specs.Refusals.{firstRefusal, unlessRefused}
 use Rattle.model.specs.Card.{byte, highFirst, lengthOf, rowCountOf, trackOf, rowOf, twosComplement, offsetOf, unusedByteSet}
 use Rattle.model.specs.Card.{misplaced, offsetOutside, cardRefusal, codeOf}
 use Rattle.model.specs.Words.{millimetresOf}
-use Rattle.model.specs.Answers.{summaryOf, cardAnswer, writeRefusal, writeAnswer, lentAfterWrite, readRefusal, readAnswer}
-use Rattle.model.specs.Answers.{levelsRefusal, levelsAnswer, startRefusal, startAnswer, millimetresRefusal, millimetresAnswer}
+use Rattle.model.specs.CheckCard.{summaryOf, cardAnswer}
+use Rattle.model.specs.WriteWord.{writeRefusal, writeAnswer, lentAfterWrite}
+use Rattle.model.specs.ReadWord.{readRefusal, readAnswer}
+use Rattle.model.specs.ReadLevels.{levelsRefusal, levelsAnswer}
+use Rattle.model.specs.BlockStart.{startRefusal, startAnswer}
+use Rattle.model.specs.Millimetres.{millimetresRefusal, millimetresAnswer}
 use Rattle.model.specs.declared.NumberAnswer.the-variants.{Number, Refused as NumberRefused}
 use Rattle.model.specs.declared.MillimetresAnswer.the-variants.{Millimetres, Refused as MillimetresRefused}
 use Rattle.code_theory.specs.Offsets.{OldCard, oldMisplaced, oldCardRefusal, oldCardAnswer, oldMillimetresAnswer, asSigned}

@@ -14,8 +14,8 @@ use Rattle.model.specs.Card.{byte, highFirst, trackOf, rowOf, storedCheck, comp
 use Rattle.model.specs.Card.{withinLimits, rowTooWide, unusedRowSet, dependent, SoundCard}
 use Rattle.model.specs.CardBytes.{bytesOf, rowBytes, sealed, cardOf}
 use Rattle.model.specs.Order.{lastCodeword, start, lastPosition}
-use Rattle.model.specs.Answers.{summaryOf}
-use Rattle.model.specs.Cases.{cardB}
+use Rattle.model.specs.CheckCard.{summaryOf}
+use Rattle.model.specs.CardsToTry.{cardB}
 use Rattle.code_theory.specs.Offsets.{OldCard, oldMisplaced, oldCardRefusal, oldCardAnswer, oldMillimetresAnswer, asSigned}
 use Rattle.code_theory.specs.Offsets.{CheckedAsBefore, DistanceAsBefore}
 use Rattle.code_theory.specs.Witnesses.{byte104Set, OldCardsWitnessed}

@@ -14,7 +14,11 @@ use Rattle.model.specs.Refusals.{refuses, refusedAs, firstRefusal, unlessRefuse
 use Rattle.model.specs.Card.{byte, lengthOf, rowCountOf, rowOf, offsetOf, storedCheck, computedCheck, codeOf}
 use Rattle.model.specs.Card.{withinLimits, rowTooWide, unusedRowSet, offsetOutside, dependent, cardRefusal}
 use Rattle.model.specs.Order.{lastPosition}
-use Rattle.model.specs.Answers.{summaryOf, cardAnswer, writeAnswer, lentAfterWrite, readAnswer, levelsAnswer, startAnswer}
+use Rattle.model.specs.CheckCard.{summaryOf, cardAnswer}
+use Rattle.model.specs.WriteWord.{writeAnswer, lentAfterWrite}
+use Rattle.model.specs.ReadWord.{readAnswer}
+use Rattle.model.specs.ReadLevels.{levelsAnswer}
+use Rattle.model.specs.BlockStart.{startAnswer}
 use Rattle.model.specs.declared.CardAnswer.{CardAnswer}
 use Rattle.model.specs.declared.CardAnswer.the-variants.{Sound, Refused as CardRefused}
 use Rattle.model.specs.declared.NumberAnswer.{NumberAnswer}

@@ -7,7 +7,7 @@ use Prim.Native.Nat.{ℕ}
 use lib.IntN.{pos}
 use lib.ListN.{take, set}
 use Rattle.model.specs.CardBytes.{sealed}
-use Rattle.model.specs.Cases.{cardB}
+use Rattle.model.specs.CardsToTry.{cardB}
 use Rattle.model.specs.declared.CardSummary.{CardSummary}
 use Rattle.model.specs.declared.CardAnswer.{CardAnswer}
 use Rattle.model.specs.declared.CardAnswer.the-variants.{Sound, Refused as CardRefused}

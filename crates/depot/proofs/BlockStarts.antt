@@ -8,8 +8,7 @@ use Rattle.model.specs.Refusals.{firstRefusal, unlessRefused}
 use Rattle.model.specs.Card.{cardRefusal, codeOf, SoundCard}
 use Rattle.model.specs.Decoded.{meaning}
 use Rattle.model.specs.Order.{lastCodeword, start}
-use Rattle.model.specs.Answers.{startRefusal, startAnswer}
-use Rattle.model.specs.Statuses.{numberStatus, numberValues}
+use Rattle.model.specs.BlockStart.{startRefusal, startAnswer, numberStatus, numberValues}
 use Rattle.model.specs.declared.Decoded.{Decoded}
 use Rattle.model.specs.declared.NumberAnswer.{NumberAnswer}
 use Rattle.model.specs.declared.NumberAnswer.the-variants.{Number, Refused}

@@ -13,13 +13,12 @@ use lib.Signed.{mag}
 use mir.Syntax.{w32}
 use mir.Val.{SFits}
 use Rattle.bits.proofs.Numbers.{by-test}
-use Rattle.model.specs.Refusals.{firstRefusal, unlessRefused}
+use Rattle.model.specs.Refusals.{firstRefusal, unlessRefused, ifServed}
 use Rattle.model.specs.Card.{cardRefusal, offsetOf, offsetOutside, SoundCard}
 use Rattle.model.specs.Decoded.{meaning}
 use Rattle.model.specs.Order.{lastPosition}
 use Rattle.model.specs.Words.{millimetresOf}
-use Rattle.model.specs.Answers.{millimetresRefusal, millimetresAnswer}
-use Rattle.model.specs.Statuses.{ifServed, millimetresStatus, millimetresValues}
+use Rattle.model.specs.Millimetres.{millimetresRefusal, millimetresAnswer, millimetresStatus, millimetresValues}
 use Rattle.model.specs.declared.Decoded.{Decoded}
 use Rattle.model.specs.declared.MillimetresAnswer.{MillimetresAnswer}
 use Rattle.model.specs.declared.MillimetresAnswer.the-variants.{Millimetres, Refused}

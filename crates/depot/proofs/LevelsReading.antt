@@ -5,8 +5,9 @@ use mathlib.Core.List.{List}
 use Prim.Native.Nat.{ℕ}
 use lib.Ieee.{Float}
 use Rattle.model.specs.Decoded.{meaning}
-use Rattle.model.specs.Answers.{readLevels, levelsAnswered, levelsAnswer, levelsRefusal, levelsFigures, strengthFigures}
-use Rattle.model.specs.Statuses.{ifServed, positionAnswer, levelsStatus, levelsValues, strengthValues}
+use Rattle.model.specs.Refusals.{ifServed}
+use Rattle.model.specs.ReadLevels.{readLevels, levelsAnswered, levelsAnswer, levelsRefusal, levelsFigures, strengthFigures, positionAnswer}
+use Rattle.model.specs.ReadLevels.{levelsStatus, levelsValues, strengthValues}
 use Rattle.model.specs.declared.Decoded.{Decoded}
 use Rattle.model.specs.declared.LevelsAnswer.{LevelsAnswer}
 use Rattle.model.specs.declared.LevelsAnswer.the-variants.{Refused}

@@ -9,7 +9,7 @@ use native.Mathlib.Omega.{arith}
 use lib.ListN.{replicate}
 use Rattle.model.specs.Refusals.{firstRefusal, unlessRefused}
 use Rattle.model.specs.ReedMuller.{reedMullerCard, orderWithinLimits}
-use Rattle.model.specs.Answers.{makeRefusal, makeAnswer}
+use Rattle.model.specs.MakeCard.{makeRefusal, makeAnswer}
 use Rattle.model.specs.declared.MadeCard.{MadeCard}
 use Rattle.reed_muller_theory.specs.MadeCards.{IsReedMullerCard}
 use Rattle.reed_muller_theory.proofs.MadeCards.{is-reed-muller-card}

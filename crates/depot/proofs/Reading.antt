@@ -4,8 +4,8 @@ use mathlib.Core.Path.{_≡_, refl, sym, _∙_}
 use mathlib.Core.List.{List}
 use Prim.Native.Nat.{ℕ}
 use Rattle.model.specs.Decoded.{meaning}
-use Rattle.model.specs.Answers.{readWord, readAnswer, readRefusal, readFigures}
-use Rattle.model.specs.Statuses.{ifServed, readStatus, readValues}
+use Rattle.model.specs.Refusals.{ifServed}
+use Rattle.model.specs.ReadWord.{readWord, readAnswer, readRefusal, readFigures, readStatus, readValues}
 use Rattle.model.specs.declared.Decoded.{Decoded}
 use Rattle.model.specs.declared.ReadAnswer.{ReadAnswer}
 use Rattle.model.specs.declared.ReadAnswer.the-variants.{Refused}

@@ -9,19 +9,20 @@ use borrow.Author.Tests.{ne-eqb}
 use lib.Ieee.{Float}
 use Rattle.bits.specs.Places.{bit}
 use Rattle.bits.proofs.Numbers.{eq-or-ne}
-use Rattle.model.specs.Refusals.{unlessRefused}
+use Rattle.model.specs.Refusals.{unlessRefused, ifServed}
 use Rattle.model.specs.Card.{cardRefusal, codeOf, offsetOf}
 use Rattle.model.specs.Order.{start}
 use Rattle.model.specs.Words.{wordBits, millimetresOf}
-use Rattle.model.specs.Answers.{summaryOf, cardAnswer, cardFigures, writeRefusal, writeAnswer, readingOf}
-use Rattle.model.specs.Answers.{readRefusal, readAnswer, readFigures}
-use Rattle.model.specs.Answers.{readingTold, levelsAnswered, levelsAnswer, levelsRefusal, levelsFigures, strengthFigures}
-use Rattle.model.specs.Answers.{startRefusal, startAnswer, millimetresRefusal, millimetresAnswer, voteRefusal, voteAnswer, voteFigures}
+use Rattle.model.specs.CheckCard.{summaryOf, cardAnswer, cardFigures, cardStatus, cardValues}
+use Rattle.model.specs.WriteWord.{writeRefusal, writeAnswer, writeStatus, writeValues}
+use Rattle.model.specs.ReadWord.{readingOf, readRefusal, readAnswer, readFigures, readStatus, readValues}
+use Rattle.model.specs.ReadLevels.{readingTold, levelsAnswered, levelsAnswer, levelsRefusal, levelsFigures, strengthFigures, positionAnswer}
+use Rattle.model.specs.ReadLevels.{levelsStatus, levelsValues, strengthValues}
+use Rattle.model.specs.BlockStart.{startRefusal, startAnswer, numberStatus, numberValues}
+use Rattle.model.specs.Millimetres.{millimetresRefusal, millimetresAnswer, millimetresStatus, millimetresValues}
+use Rattle.model.specs.VoteChunk.{voteRefusal, voteAnswer, voteFigures, voteStatus, voteValues}
 use Rattle.model.specs.Levels.{toldAt, strengthOf}
 use Rattle.model.specs.ReedMuller.{votedNumber, votedDistance}
-use Rattle.model.specs.Statuses.{ifServed, cardStatus, cardValues, writeStatus, writeValues}
-use Rattle.model.specs.Statuses.{readStatus, readValues, numberStatus, numberValues, millimetresStatus, millimetresValues}
-use Rattle.model.specs.Statuses.{positionAnswer, levelsStatus, levelsValues, strengthValues, voteStatus, voteValues}
 use Rattle.model.specs.declared.CardAnswer.the-variants.{Sound, Refused as CardRefused}
 use Rattle.model.specs.declared.WriteAnswer.{WriteAnswer}
 use Rattle.model.specs.declared.WriteAnswer.the-variants.{Written, Refused as WriteRefused}

@@ -7,10 +7,9 @@ use native.Mathlib.Omega.{arith}
 use lib.Pow.{pow-pos}
 use borrow.Author.Tests.{le-leb}
 use Rattle.bits.specs.Places.{bit}
-use Rattle.model.specs.Refusals.{firstRefusal, unlessRefused}
+use Rattle.model.specs.Refusals.{firstRefusal, unlessRefused, ifServed}
 use Rattle.model.specs.ReedMuller.{orderWithinLimits, votedReading}
-use Rattle.model.specs.Answers.{voteRefusal, voteAnswer, voteFigures}
-use Rattle.model.specs.Statuses.{voteStatus, voteValues, ifServed}
+use Rattle.model.specs.VoteChunk.{voteRefusal, voteAnswer, voteFigures, voteStatus, voteValues}
 use Rattle.model.specs.declared.Chunk.{Chunk}
 use Rattle.model.specs.declared.Chunk.the-variants.{Codeword, Unreadable}
 use Rattle.model.specs.declared.VoteAnswer.{VoteAnswer}

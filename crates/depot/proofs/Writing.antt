@@ -13,9 +13,8 @@ use Rattle.model.specs.Refusals.{firstRefusal, unlessRefused}
 use Rattle.model.specs.Card.{codeOf}
 use Rattle.model.specs.Decoded.{meaning}
 use Rattle.model.specs.Order.{lastPosition}
-use Rattle.model.specs.Words.{wordBytes}
-use Rattle.model.specs.Answers.{wordLength, writeRefusal, writeAnswer, lentAfterWrite}
-use Rattle.model.specs.Statuses.{writeStatus, writeValues}
+use Rattle.model.specs.Words.{wordBytes, wordLength}
+use Rattle.model.specs.WriteWord.{writeRefusal, writeAnswer, lentAfterWrite, writeStatus, writeValues}
 use Rattle.model.specs.declared.Decoded.{Decoded}
 use Rattle.model.specs.declared.WriteAnswer.{WriteAnswer}
 use Rattle.model.specs.declared.WriteAnswer.the-variants.{Written, Refused}

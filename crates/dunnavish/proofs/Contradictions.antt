@@ -5,7 +5,7 @@ use mathlib.Core.List.{List}
 use Prim.Native.Nat.{ℕ}
 use Rattle.model.specs.Card.{Code}
 use Rattle.model.specs.Reading.{Seen}
-use Rattle.model.specs.Statuses.{readValues}
+use Rattle.model.specs.ReadWord.{readValues}
 use Rattle.model.specs.declared.Reading.{Reading}
 use Rattle.model.specs.declared.ReadAnswer.{ReadAnswer}
 use Rattle.model.specs.declared.ReadAnswer.the-variants.{At}

@@ -7,7 +7,7 @@ use native.Mathlib.Omega.{arith}
 use borrow.Author.Tests.{eq-eqb, ne-eqb}
 use lib.ListN.{length}
 use lib.Seq.{sets, sets-eq, drop-length}
-use Rattle.model.specs.Statuses.{ifServed}
+use Rattle.model.specs.Refusals.{ifServed}
 use Rattle.dunnavish.specs.Crossing.{wrongCount, statusFor, leftBy, UnchangedUnlessZero}
 
 module _ {A : Type 0} (count : ℕ) (lent : List A) where

@@ -8,8 +8,8 @@ use native.Mathlib.Omega.{arith}
 use borrow.Author.Tests.{eq-eqb, ne-eqb}
 use lib.Ieee.{Float}
 use lib.ListN.{length}
-use Rattle.model.specs.Answers.{levelsAnswer, levelsFigures}
-use Rattle.model.specs.Statuses.{ifServed, positionAnswer, levelsStatus, levelsValues, strengthValues}
+use Rattle.model.specs.Refusals.{ifServed}
+use Rattle.model.specs.ReadLevels.{levelsAnswer, levelsFigures, positionAnswer, levelsStatus, levelsValues, strengthValues}
 use Rattle.model.specs.declared.LevelsAnswer.{LevelsAnswer}
 use Rattle.level_theory.specs.LevelPromises.{AsPlainReading, OffByAtMostTwiceWrongAndLost}
 use Rattle.level_theory.specs.LevelContradictions.{LevelsReadOnlyIfParityAgrees, PastedLevelsNeverRead}

@@ -5,7 +5,7 @@ use mathlib.Core.Path.{_≡_, refl, sym, _∙_}
 use mathlib.Core.List.{List}
 use Prim.Native.Nat.{ℕ}
 use lib.ListN.{length}
-use Rattle.model.specs.Answers.{makeRefusal, makeAnswer}
+use Rattle.model.specs.MakeCard.{makeRefusal, makeAnswer}
 use Rattle.model.specs.declared.MadeCard.{MadeCard}
 use Rattle.depot.proofs.MadeCards.{MadeWithinLimits as AnswerMade}
 use Rattle.dunnavish.specs.Crossing.{cardBytes, wrongCount, statusFor, leftBy, UnchangedUnlessZero}

@@ -6,8 +6,9 @@ use Prim.Native.Nat.{ℕ}
 use borrow.Author.Tests.{eq-eqb}
 use lib.IntN.{ℤ, pos}
 use lib.ListN.{length}
-use Rattle.model.specs.Answers.{cardAnswer, millimetresAnswer}
-use Rattle.model.specs.Statuses.{cardStatus, cardValues, numberStatus, numberValues, millimetresStatus, millimetresValues}
+use Rattle.model.specs.CheckCard.{cardAnswer, cardStatus, cardValues}
+use Rattle.model.specs.BlockStart.{numberStatus, numberValues}
+use Rattle.model.specs.Millimetres.{millimetresAnswer, millimetresStatus, millimetresValues}
 use Rattle.model.specs.declared.CardAnswer.{CardAnswer}
 use Rattle.model.specs.declared.NumberAnswer.{NumberAnswer}
 use Rattle.model.specs.declared.NumberAnswer.the-variants.{Number, Refused}

@@ -10,8 +10,8 @@ use lib.ListN.{length}
 use borrow.Author.Tests.{eq-eqb}
 use Rattle.bits.specs.Places.{place}
 use Rattle.model.specs.Card.{Code, codeOf}
-use Rattle.model.specs.Answers.{readFigures, readAnswer}
-use Rattle.model.specs.Statuses.{bitsValue, readStatus, readValues}
+use Rattle.model.specs.Reading.{bitsValue}
+use Rattle.model.specs.ReadWord.{readFigures, readAnswer, readStatus, readValues}
 use Rattle.model.specs.declared.ChunkBits.{ChunkBits}
 use Rattle.model.specs.declared.Reading.{Reading}
 use Rattle.model.specs.declared.ReadAnswer.{ReadAnswer}

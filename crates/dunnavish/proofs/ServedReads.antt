@@ -8,8 +8,9 @@ use native.Mathlib.Omega.{arith}
 use borrow.Author.Tests.{eq-eqb, ne-eqb}
 use lib.ListN.{length}
 use Rattle.bits.proofs.Numbers.{eq-or-ne}
-use Rattle.model.specs.Answers.{figuresOf}
-use Rattle.model.specs.Statuses.{ifServed, readStatus, readValues}
+use Rattle.model.specs.Refusals.{ifServed}
+use Rattle.model.specs.Reading.{figuresOf}
+use Rattle.model.specs.ReadWord.{readStatus, readValues}
 use Rattle.model.specs.declared.Reading.{Reading}
 use Rattle.model.specs.declared.ReadAnswer.{ReadAnswer}
 use Rattle.model.specs.declared.ReadAnswer.the-variants.{At, Refused}

@@ -5,8 +5,8 @@ use mathlib.Core.List.{List, [], _∷_}
 use Prim.Native.Nat.{ℕ}
 use lib.ListN.{length}
 use borrow.Author.Tests.{eq-eqb}
-use Rattle.model.specs.Answers.{voteAnswer, voteFigures}
-use Rattle.model.specs.Statuses.{ifServed, voteStatus, voteValues}
+use Rattle.model.specs.Refusals.{ifServed}
+use Rattle.model.specs.VoteChunk.{voteAnswer, voteFigures, voteStatus, voteValues}
 use Rattle.model.specs.declared.VoteAnswer.{VoteAnswer}
 use Rattle.model.specs.declared.VoteAnswer.the-variants.{Voted, Refused}
 use Rattle.reed_muller_theory.specs.Votes.{ReadAsPromised, KeepsPromise, AnswersAsSearch}

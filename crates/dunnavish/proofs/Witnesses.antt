@@ -14,10 +14,11 @@ use borrow.Author.Tests.{eqb-true, ne-eqb}
 use Rattle.bits.specs.Places.{bit, place}
 use Rattle.bits.proofs.Numbers.{true-or-false}
 use Rattle.model.specs.Card.{Code, codeOf, radius}
-use Rattle.model.specs.Reading.{chunkDistance, chunkReading, Seen, seen}
+use Rattle.model.specs.Reading.{chunkDistance, chunkReading, Seen, seen, notRead, bitsValue, chunkStatus, chunkValues}
 use Rattle.model.specs.ReedMuller.{reedMuller, reedMullerCard}
-use Rattle.model.specs.Statuses.{notRead, bitsValue, numberStatus, numberValues, millimetresStatus, millimetresValues}
-use Rattle.model.specs.Statuses.{chunkStatus, chunkValues, voteStatus, voteValues}
+use Rattle.model.specs.BlockStart.{numberStatus, numberValues}
+use Rattle.model.specs.Millimetres.{millimetresStatus, millimetresValues}
+use Rattle.model.specs.VoteChunk.{voteStatus, voteValues}
 use Rattle.model.specs.declared.Chunk.{Chunk}
 use Rattle.model.specs.declared.Chunk.the-variants.{Codeword, Unreadable}
 use Rattle.model.specs.declared.ChunkBits.{ChunkBits}

@@ -13,11 +13,11 @@ use Rattle.bits.specs.Places.{bit, place}
 use Rattle.model.specs.Card.{Code, codeOf, SoundCard}
 use Rattle.model.specs.Order.{lastCodeword, lastPosition}
 use Rattle.model.specs.Words.{wordBits, wordBytes}
-use Rattle.model.specs.Answers.{readAnswer}
-use Rattle.model.specs.Reading.{chunkDistance, withinRadius, chunkReading}
+use Rattle.model.specs.CheckCard.{cardStatus, cardValues}
+use Rattle.model.specs.ReadWord.{readAnswer, readStatus, readValues}
+use Rattle.model.specs.BlockStart.{numberStatus, numberValues}
+use Rattle.model.specs.Reading.{chunkDistance, withinRadius, chunkReading, chunkStatus, chunkValues, notRead}
 use Rattle.model.specs.ReedMuller.{reedMuller, reedMullerCard, orderWithinLimits}
-use Rattle.model.specs.Statuses.{chunkStatus, chunkValues, notRead, cardStatus, cardValues, readStatus, readValues}
-use Rattle.model.specs.Statuses.{numberStatus, numberValues}
 use Rattle.model.specs.declared.Chunk.{Chunk}
 use Rattle.model.specs.declared.NumberAnswer.{NumberAnswer}
 use Rattle.model.specs.declared.ReadAnswer.{ReadAnswer}

@@ -12,7 +12,10 @@ use lib.ListN.{length, getD}
 use Rattle.model.specs.Card.{codeOf, radius}
 use Rattle.model.specs.Words.{wordBits}
 use Rattle.model.specs.ReedMuller.{orderWithinLimits}
-use Rattle.model.specs.Statuses.{notRead, cardStatus, cardValues, readStatus, readValues, millimetresStatus, millimetresValues}
+use Rattle.model.specs.Reading.{notRead}
+use Rattle.model.specs.CheckCard.{cardStatus, cardValues}
+use Rattle.model.specs.ReadWord.{readStatus, readValues}
+use Rattle.model.specs.Millimetres.{millimetresStatus, millimetresValues}
 use Rattle.model.specs.declared.ChunkBits.{ChunkBits}
 use Rattle.model.specs.declared.ChunkBits.the-variants.{Differing, NotRead}
 use Rattle.model.specs.declared.CardAnswer.{CardAnswer}

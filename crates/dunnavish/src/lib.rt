@@ -5,11 +5,15 @@
 // lent has changed. include/dunnavish.h says the same to a programmer in C.
 ghost use mathlib.Core.Path.{_≡_};
 ghost use lib.ListN.{length};
-ghost use Rattle.model.specs.Answers.{cardAnswer, writeAnswer, lentAfterWrite, readAnswer, startAnswer, millimetresAnswer};
-ghost use Rattle.model.specs.Answers.{levelsAnswer, makeRefusal, makeAnswer, voteAnswer};
-ghost use Rattle.model.specs.Statuses.{cardStatus, cardValues, writeStatus, bitsValue, readStatus, readValues, numberStatus, numberValues};
-ghost use Rattle.model.specs.Statuses.{levelsStatus, levelsValues, strengthValues};
-ghost use Rattle.model.specs.Statuses.{millimetresStatus, millimetresValues, voteStatus, voteValues};
+ghost use Rattle.model.specs.Reading.{bitsValue};
+ghost use Rattle.model.specs.CheckCard.{cardAnswer, cardStatus, cardValues};
+ghost use Rattle.model.specs.WriteWord.{writeAnswer, lentAfterWrite, writeStatus};
+ghost use Rattle.model.specs.ReadWord.{readAnswer, readStatus, readValues};
+ghost use Rattle.model.specs.ReadLevels.{levelsAnswer, levelsStatus, levelsValues, strengthValues};
+ghost use Rattle.model.specs.BlockStart.{startAnswer, numberStatus, numberValues};
+ghost use Rattle.model.specs.Millimetres.{millimetresAnswer, millimetresStatus, millimetresValues};
+ghost use Rattle.model.specs.MakeCard.{makeRefusal, makeAnswer};
+ghost use Rattle.model.specs.VoteChunk.{voteAnswer, voteStatus, voteValues};
 ghost use Rattle.model.specs.declared.ReadAnswer.the-variants.{At};
 ghost use Rattle.dunnavish.specs.Crossing.{cardCount, readCount, strengthCount, numberCount, voteCount, cardBytes};
 ghost use Rattle.dunnavish.specs.Crossing.{statusFor, leftBy, UnchangedUnlessZero};

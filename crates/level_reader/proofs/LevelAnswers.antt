@@ -20,7 +20,7 @@ use Rattle.model.specs.Card.{Code}
 use Rattle.model.specs.Words.{wordBits}
 use Rattle.model.specs.Reading.{ruleSeen, separatorBy, rows9To12, rowsSeen}
 use Rattle.model.specs.Levels.{anyOutside, toldAt, heardIn, bitsIn, separatorReading, seenTold, residualHeard, strengthOf}
-use Rattle.model.specs.Answers.{rowsOfLevels, levelsAnswered, readLevels}
+use Rattle.model.specs.ReadLevels.{rowsOfLevels, levelsAnswered, readLevels}
 use Rattle.model.specs.declared.Reading.{Reading}
 use Rattle.model.specs.declared.ReadAnswer.{ReadAnswer}
 use Rattle.model.specs.declared.ReadAnswer.the-variants.{At, Refused}

@@ -1,7 +1,7 @@
 // Reading a word of levels, document 02, P5: the second way to see a word. Its levels are told once; then its separators are read by the
 // sums of their levels, and its code chunks and the nearest position by the rules of crate reader, over the bits that aren't lost.
 ghost use mathlib.Core.Path.{_≡_};
-ghost use Rattle.model.specs.Answers.{readLevels};
+ghost use Rattle.model.specs.ReadLevels.{readLevels};
 ghost use Rattle.model.specs.Decoded.{meaning};
 ghost use Rattle.code_theory.specs.Promise.{Sound};
 ghost use Rattle.levels.specs.ToldChunks.{readBySum};

@@ -8,8 +8,7 @@ use lib.Ieee.{Float}
 use Rattle.model.specs.Card.{codeOf, cardRefusal}
 use Rattle.model.specs.Reading.{ruleSeen, separatorBy, rows9To12, rowsSeen, nearest}
 use Rattle.model.specs.Levels.{toldAt}
-use Rattle.model.specs.Answers.{rowsOfLevels, levelsRefusal, levelsAnswer}
-use Rattle.model.specs.Statuses.{positionAnswer}
+use Rattle.model.specs.ReadLevels.{rowsOfLevels, levelsRefusal, levelsAnswer, positionAnswer}
 use Rattle.code_theory.proofs.Refusals.{numbered}
 use Rattle.code_theory.proofs.SoundCard.{sound-card}
 use Rattle.position_theory.specs.Contradictions.{contradicted}

@@ -19,9 +19,9 @@ use Rattle.model.specs.Card.{Code, cardRefusal, codeOf, SoundCard}
 use Rattle.model.specs.Words.{wordBits, wordBytes}
 use Rattle.model.specs.Reading.{rows9To12, rowsSeen}
 use Rattle.model.specs.Levels.{anyOutside, toldAt, withinLosses, seenTold, residualHeard}
-use Rattle.model.specs.Answers.{spareSet, readWord, readRefusal, readAnswer, rowsTold, rowsOfLevels, levelsAnswered, readLevels}
-use Rattle.model.specs.Answers.{readingTold, levelsRefusal, levelsAnswer}
-use Rattle.model.specs.Statuses.{positionAnswer}
+use Rattle.model.specs.ReadWord.{spareSet, readWord, readRefusal, readAnswer}
+use Rattle.model.specs.ReadLevels.{rowsTold, rowsOfLevels, levelsAnswered, readLevels, readingTold, levelsRefusal, levelsAnswer}
+use Rattle.model.specs.ReadLevels.{positionAnswer}
 use Rattle.model.specs.declared.Reading.{Reading}
 use Rattle.model.specs.declared.ReadAnswer.the-variants.{At, Refused}
 use Rattle.model.specs.declared.LevelsAnswer.the-variants.{Refused as LevelsRefused}

@@ -25,8 +25,8 @@ use Rattle.model.specs.Reading.{ruleSeen, ruleOf, numberBy, separatorOf, parity
 use Rattle.model.specs.Reading.{allowed, residual, nearestIn, bitsNeeded, nearest}
 use Rattle.model.specs.Levels.{magnitude, infinite, outside, anyOutside, told, toldAt, isHeard, bitTold, plusLevel, sumOfLevels}
 use Rattle.model.specs.Levels.{separatorReading, chunkWrong, withinLosses, heardReading, seenTold, residualHeard}
-use Rattle.model.specs.Answers.{spareSet, rowsOfWord, readRefusal, readAnswer}
-use Rattle.model.specs.Cases.{cardB}
+use Rattle.model.specs.ReadWord.{spareSet, rowsOfWord, readRefusal, readAnswer}
+use Rattle.model.specs.CardsToTry.{cardB}
 use Rattle.model.specs.declared.ChunkBits.{ChunkBits}
 use Rattle.model.specs.declared.ChunkBits.the-variants.{Differing}
 use Rattle.model.specs.declared.Reading.{Reading}

@@ -15,7 +15,7 @@ use Rattle.model.specs.Order.{lastCodeword}
 use Rattle.model.specs.Words.{wordBits, word}
 use Rattle.model.specs.Reading.{Seen, ruleSeen, separatorBy, twoEnds, rows9To12}
 use Rattle.model.specs.Levels.{anyOutside, toldAt, seenTold}
-use Rattle.model.specs.Answers.{readingTold}
+use Rattle.model.specs.ReadLevels.{readingTold}
 use Rattle.model.specs.declared.Reading.{Reading}
 use Rattle.model.specs.declared.ReadAnswer.{ReadAnswer}
 use Rattle.model.specs.declared.ReadAnswer.the-variants.{At, Refused}

@@ -12,7 +12,7 @@ use Rattle.model.specs.Card.{Code, codeOf, SoundCard}
 use Rattle.model.specs.Order.{lastCodeword, lastPosition}
 use Rattle.model.specs.Words.{wordBits, wordBytes}
 use Rattle.model.specs.Levels.{anyOutside, toldAt, heardIn, bitsIn, chunkWrong, heardReading, seenTold, residualHeard}
-use Rattle.model.specs.Answers.{readAnswer}
+use Rattle.model.specs.ReadWord.{readAnswer}
 use Rattle.model.specs.declared.Chunk.the-variants.{Codeword}
 use Rattle.model.specs.declared.Reading.{Reading}
 use Rattle.model.specs.declared.ReadAnswer.{ReadAnswer}

@@ -10,7 +10,7 @@ use lib.IntN.{pos}
 use lib.Ieee.{Float, fin, binary32, ofInt}
 use Rattle.model.specs.Card.{codeOf}
 use Rattle.model.specs.Levels.{heardReading}
-use Rattle.model.specs.Cases.{cardB}
+use Rattle.model.specs.CardsToTry.{cardB}
 use Rattle.model.specs.declared.Chunk.the-variants.{Codeword}
 use Rattle.model.specs.declared.ChunkBits.the-variants.{Differing, NotRead}
 use Rattle.model.specs.declared.Reading.{Reading}

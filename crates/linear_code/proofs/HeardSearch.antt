@@ -21,8 +21,8 @@ use Rattle.bits.proofs.Masks.{and-xor, cut-distance}
 use Rattle.bits.proofs.Shifts.{bit-all-ones}
 use Rattle.model.specs.Card.{Code, sumOfRows}
 use Rattle.model.specs.Order.{gray, codeword}
-use Rattle.model.specs.Reading.{readFirst, chunkReading, chunkRefusal, chunkFigures}
-use Rattle.model.specs.Statuses.{ifServed, chunkStatus, chunkValues}
+use Rattle.model.specs.Reading.{readFirst, chunkReading, chunkRefusal, chunkFigures, chunkStatus, chunkValues}
+use Rattle.model.specs.Refusals.{ifServed}
 use Rattle.model.specs.Levels.{chunkWrong, withinLosses, heardReading}
 use Rattle.model.specs.declared.Chunk.{Chunk}
 use Rattle.model.specs.declared.Chunk.the-variants.{Unreadable}

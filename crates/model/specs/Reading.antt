@@ -1,6 +1,6 @@
 -- Document 01, "Reading a word": the separators, the code chunks, the three rules, refusals 9 to 12, and the nearest allowed
 -- position; with them, by document 02's P6, refusal 17, and by its P3 how many bits the chunks that the rule names needed. A received
--- word is a bit function here; Answers.antt takes it from bytes. Assumes nothing.
+-- word is a bit function here; ReadWord.antt takes it from bytes. Assumes nothing.
 use mathlib.Core.Bool.{Bool, true, false, cond, not, _&&_, _||_}
 use mathlib.Core.List.{List, [], _∷_, _++_}
 use Prim.Native.Nat.{ℕ, _+_, _-_, _*_, _%_, _^_, min}
@@ -47,6 +47,15 @@ chunkRefusal C x = firstRefusal (refuses 10 (not (ltb (first (withinRadius C x) 
 -- the values of a chunk that is read: the codeword's number, and in how many bits the two differ
 unfoldable pub chunkFigures : Code → (x : ℕ → ℕ) → List ℕ
 chunkFigures C x = let p : ℕ = first (withinRadius C x) (2 ^ C .k) in p ∷ chunkDistance C x p ∷ []
+
+-- what a chunk reads as, in these words: its status, 10 where no codeword is near enough, and its values
+unfoldable pub chunkStatus : Chunk → ℕ
+chunkStatus (Codeword number unlike) = 0
+chunkStatus Unreadable = 10
+
+unfoldable pub chunkValues : Chunk → List ℕ
+chunkValues (Codeword number unlike) = number ∷ unlike ∷ []
+chunkValues Unreadable = []
 
 -- whether a chunk reads as no codeword, and the number of the codeword that any other reads as (0 of an unreadable one, which means
 -- nothing: row 10 comes first)
@@ -193,3 +202,16 @@ nearest residual s rule range =
       chunk1 = bitsNeeded (namesFirst rule) (s .read₁);
       chunk2 = bitsNeeded (namesSecond rule) (s .read₂);
     }
+
+-- how many bits a code chunk needed, as a number: its count, which is at most t, so below 32; or, for a chunk that was not read, 2^32 - 1,
+-- which is no count (the documents leave that number open)
+abbrev pub notRead : ℕ
+notRead = 4294967295
+
+unfoldable pub bitsValue : ChunkBits → ℕ
+bitsValue (Differing count) = count
+bitsValue NotRead = notRead
+
+-- the values of a reading: position, residual, rule, and the bits that chunks 1 and 2 needed
+abbrev pub figuresOf : Reading → List ℕ
+figuresOf r = r .position ∷ r .residual ∷ r .rule ∷ bitsValue (r .chunk1) ∷ bitsValue (r .chunk2) ∷ []

@@ -25,3 +25,7 @@ firstRefusal (r ∷ rows) = cond (r .holds) (r .number) (firstRefusal rows)
 -- what a call answers whose refusal has this number: what it serves where that is 0, and the refusal otherwise
 unfoldable pub unlessRefused : {A : Type 0} (refusal : ℕ) (refused : ℕ → A) (served : A) → A
 unlessRefused refusal refused served = cond (eqb refusal 0) served (refused refusal)
+
+-- the values of an answer with this status: these where it is 0, and none of a refusal. They are numbers, signed ones or floats
+unfoldable pub ifServed : {A : Type 0} (status : ℕ) (values : List A) → List A
+ifServed status values = cond (eqb status 0) values []

@@ -7,7 +7,7 @@ use lib.Dec.{leb, eqb}
 use lib.IntN.{ℤ, pos, _+ℤ_}
 use Rattle.bits.specs.Sums.{joinAt, fromPlace}
 use Rattle.bits.specs.Walk.{walk}
-use Rattle.bits.specs.Places.{bit, pack}
+use Rattle.bits.specs.Places.{bit, bytesFor, pack}
 use Rattle.bits.specs.Searches.{anyBelow, greatest}
 use Rattle.model.specs.Card.{Code}
 use Rattle.model.specs.Order.{codeword, lastCodeword, start}
@@ -15,6 +15,10 @@ use Rattle.model.specs.Order.{codeword, lastCodeword, start}
 -- d, the bits of a word: 2n + 3D
 abbrev pub wordBits : Code → ℕ
 wordBits C = 2 * C .n + 3 * C .D
+
+-- how many bytes a word of this code has
+abbrev pub wordLength : Code → ℕ
+wordLength C = bytesFor (wordBits C)
 
 -- The five chunks of a word by number: 0, 2 and 4 are the separators, of D bits each, and 1 and 3 the code chunks, of n. How many
 -- bits chunk c has, and how many stand before it:

@@ -12,9 +12,8 @@ use Rattle.bits.specs.Places.{place}
 use Rattle.bits.proofs.ByteLists.{one-entry-more, zero-byte}
 use Rattle.bits.proofs.Numbers.{lt-or-le}
 use Rattle.bits.proofs.Places.{length-pack, place-pack, byte-of-places, same-places}
-use Rattle.model.specs.Answers.{wordLength}
 use Rattle.model.specs.Card.{Code}
-use Rattle.model.specs.Words.{wordBits, wordAt, wordBytes}
+use Rattle.model.specs.Words.{wordBits, wordAt, wordBytes, wordLength}
 use Rattle.position_theory.proofs.WordBytes.{word-at-bit}
 use Rattle.position.specs.HoldsWord.{HoldsWord}
 

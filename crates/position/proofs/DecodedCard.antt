@@ -9,7 +9,7 @@ use Rattle.model.specs.Card.{cardRefusal, radius}
 use Rattle.model.specs.Decoded.{meaning}
 use Rattle.model.specs.Order.{lastPosition}
 use Rattle.model.specs.Words.{wordBits}
-use Rattle.model.specs.Answers.{summaryOf, cardAnswer}
+use Rattle.model.specs.CheckCard.{summaryOf, cardAnswer}
 use Rattle.model.specs.declared.CardAnswer.the-variants.{Sound, Refused}
 use Rattle.model.specs.declared.Decoded.{Decoded}
 use Rattle.linear_code.specs.DecodedFrom.{DecodedFrom}

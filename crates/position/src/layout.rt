@@ -1,7 +1,7 @@
 // The layout of a word: where its chunks start, and how many bits and bytes it has.
 ghost use mathlib.Core.Path.{_≡_};
 ghost use Prim.Native.Nat.{_≤_};
-ghost use Rattle.model.specs.Answers.{wordLength};
+ghost use Rattle.model.specs.Words.{wordLength};
 ghost use Rattle.model.specs.Decoded.{meaning};
 ghost use Rattle.code_theory.specs.Promise.{Sound};
 ghost use Rattle.position.specs.LayoutOf.{LayoutOf};

@@ -2,7 +2,7 @@
 ghost use mathlib.Core.Path.{_≡_};
 ghost use mathlib.Core.List.{List};
 ghost use Prim.Native.Nat.{ℕ};
-ghost use Rattle.model.specs.Answers.{cardAnswer};
+ghost use Rattle.model.specs.CheckCard.{cardAnswer};
 ghost use Rattle.model.specs.Decoded.{meaning};
 ghost use Rattle.code_theory.specs.Promise.{Sound};
 ghost use Rattle.linear_code.specs.DecodedFrom.{DecodedFrom};

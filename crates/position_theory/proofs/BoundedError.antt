@@ -18,7 +18,7 @@ use Rattle.model.specs.Order.{lastCodeword, blockLength, start, lastPosition}
 use Rattle.model.specs.Words.{wordBits, chunkOf, word, wordAt, wordBytes, divided}
 use Rattle.model.specs.Reading.{Seen, seen, twoEnds, residual}
 use Rattle.model.specs.Levels.{residualHeard}
-use Rattle.model.specs.Answers.{readWord}
+use Rattle.model.specs.ReadWord.{readWord}
 use Rattle.model.specs.declared.ReadAnswer.{ReadAnswer}
 use Rattle.model.specs.declared.ReadAnswer.the-variants.{At, Refused}
 use Rattle.code_theory.specs.Promise.{ChunkPromise}

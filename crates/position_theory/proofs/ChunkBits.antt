@@ -15,10 +15,9 @@ use Rattle.model.specs.Card.{Code, codeOf}
 use Rattle.model.specs.Order.{codeword}
 use Rattle.model.specs.Words.{chunkSize, placesBefore, chunk₁, chunk₂, wordAt, wordBytes}
 use Rattle.model.specs.Reading.{chunkDistance, Seen, seen, ruleSeen, ruleNamed, namesFirst, namesSecond, numberBy}
-use Rattle.model.specs.Reading.{allowed, residual, bitsNeeded, nearest}
+use Rattle.model.specs.Reading.{allowed, residual, bitsNeeded, nearest, bitsValue}
 use Rattle.model.specs.Levels.{withinLosses}
-use Rattle.model.specs.Statuses.{bitsValue}
-use Rattle.model.specs.Answers.{readAnswer}
+use Rattle.model.specs.ReadWord.{readAnswer}
 use Rattle.model.specs.declared.Chunk.{Chunk}
 use Rattle.model.specs.declared.ChunkBits.{ChunkBits}
 use Rattle.model.specs.declared.Reading.{Reading}

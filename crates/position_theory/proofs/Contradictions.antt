@@ -17,7 +17,7 @@ use Rattle.model.specs.Order.{lastCodeword}
 use Rattle.model.specs.Words.{word}
 use Rattle.model.specs.Reading.{Seen, seen, ruleSeen, ruleNamed, numberBy, separatorOf, separatorBy}
 use Rattle.model.specs.Reading.{rows9To12, rowsSeen, rowsOf, nearest}
-use Rattle.model.specs.Answers.{rowsOfWord, readRefusal, readAnswer}
+use Rattle.model.specs.ReadWord.{rowsOfWord, readRefusal, readAnswer}
 use Rattle.model.specs.declared.Reading.{Reading}
 use Rattle.model.specs.declared.ReadAnswer.the-variants.{At, Refused}
 use Rattle.code_theory.proofs.Refusals.{numbered, rows-after, refused-if-some, refused-by-card, past-card}

@@ -12,7 +12,7 @@ use Rattle.model.specs.Card.{Code, cardRefusal, codeOf, SoundCard}
 use Rattle.model.specs.Order.{lastPosition}
 use Rattle.model.specs.Words.{wordBits, wordAt, wordBytes, divided}
 use Rattle.model.specs.Reading.{seen, residual}
-use Rattle.model.specs.Answers.{readWord, readRefusal, readAnswer}
+use Rattle.model.specs.ReadWord.{readWord, readRefusal, readAnswer}
 use Rattle.code_theory.specs.Promise.{ChunkPromise}
 use Rattle.code_theory.proofs.Refusals.{past-card}
 use Rattle.code_theory.proofs.SoundCard.{sound-card}

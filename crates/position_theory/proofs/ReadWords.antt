@@ -10,7 +10,7 @@ use Rattle.bits.proofs.Numbers.{eq-or-ne}
 use Rattle.model.specs.Refusals.{unlessRefused}
 use Rattle.model.specs.Card.{codeOf, cardRefusal}
 use Rattle.model.specs.Reading.{seen, ruleNamed, rows9To12, rowsSeen, rowsOf}
-use Rattle.model.specs.Answers.{rowsOfWord, readingOf, readRefusal, readAnswer}
+use Rattle.model.specs.ReadWord.{rowsOfWord, readingOf, readRefusal, readAnswer}
 use Rattle.model.specs.declared.Reading.{Reading}
 use Rattle.model.specs.declared.ReadAnswer.the-variants.{At, Refused}
 use Rattle.code_theory.proofs.Refusals.{NoneHolds, numbered, none-refuses, none-holds, served-if-none, refused-if-some, none-past-card}

@@ -20,13 +20,13 @@ use Rattle.model.specs.Card.{Code, SoundCard, radius}
 use Rattle.model.specs.Card.{highFirst, rowOf, sumOfRows, leastWeight, codeOf}
 use Rattle.model.specs.CardBytes.{bytesOf, rowBytes, sealed, cardOf}
 use Rattle.model.specs.Order.{gray, lastCodeword, codeword, changedRow, changedWeight, start, lastPosition}
-use Rattle.model.specs.Words.{chunk₁, chunk₂, chunkSize, placesBefore, fiveChunks, word, blockOf, wordAt, wordBytes, divided}
+use Rattle.model.specs.Words.{chunk₁, chunk₂, chunkSize, placesBefore, fiveChunks, word, blockOf, wordAt, wordBytes, divided, wordLength}
 use Rattle.model.specs.Reading.{majority, chunkDistance, withinRadius, readFirst, chunkReading, unreadable, numberRead, seen}
 use Rattle.model.specs.Reading.{ruleOf, numberBy, separatorOf, parityDiffers, twoEnds, rows9To12, rowsSeen, ruleNamed}
 use Rattle.model.specs.Reading.{Seen, Range, ruleSeen, namesFirst, namesSecond, separatorBy}
 use Rattle.model.specs.Reading.{allowed, residual, nearestIn, bitsNeeded, nearest}
-use Rattle.model.specs.Answers.{wordLength, spareSet}
-use Rattle.model.specs.Cases.{cardA, cardB}
+use Rattle.model.specs.ReadWord.{spareSet}
+use Rattle.model.specs.CardsToTry.{cardA, cardB}
 use Rattle.model.specs.declared.ChunkBits.{ChunkBits}
 use Rattle.model.specs.declared.ChunkBits.the-variants.{Differing}
 use Rattle.model.specs.declared.Reading.{Reading}

@@ -19,9 +19,9 @@ use Rattle.bits.proofs.Places.{place-bit, length-pack, place-packed, place-spar
 use Rattle.bits.proofs.ByteLists.{differing-below, packed-distance}
 use Rattle.model.specs.Refusals.{firstRefusal, unlessRefused}
 use Rattle.model.specs.Card.{Code}
-use Rattle.model.specs.Words.{wordBits, blockOf, wordAt, wordBytes}
+use Rattle.model.specs.Words.{wordBits, blockOf, wordAt, wordBytes, wordLength}
 use Rattle.model.specs.Reading.{Seen, seen, ruleSeen, ruleNamed, rowsOf, allowed, residual, nearest}
-use Rattle.model.specs.Answers.{wordLength, spareSet, rowsOfWord, readWord}
+use Rattle.model.specs.ReadWord.{spareSet, rowsOfWord, readWord}
 use Rattle.model.specs.declared.ReadAnswer.{ReadAnswer}
 use Rattle.model.specs.declared.ReadAnswer.the-variants.{At, Refused}
 use Rattle.position_theory.specs.Nearest.{refusalOf, allowedBy}

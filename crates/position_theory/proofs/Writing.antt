@@ -13,8 +13,8 @@ use Rattle.bits.proofs.Numbers.{eq-or-ne}
 use Rattle.model.specs.Refusals.{firstRefusal, unlessRefused}
 use Rattle.model.specs.Card.{cardRefusal, codeOf, SoundCard}
 use Rattle.model.specs.Order.{lastPosition}
-use Rattle.model.specs.Words.{wordBytes}
-use Rattle.model.specs.Answers.{wordLength, writeRefusal, writeAnswer, lentAfterWrite}
+use Rattle.model.specs.Words.{wordBytes, wordLength}
+use Rattle.model.specs.WriteWord.{writeRefusal, writeAnswer, lentAfterWrite}
 use Rattle.model.specs.declared.WriteAnswer.the-variants.{Written, Refused}
 use Rattle.position_theory.specs.Demands.{WrittenIfServable, UnchangedIfRefused}
 

@@ -9,9 +9,8 @@ use Rattle.bits.specs.Places.{place}
 use Rattle.model.specs.Card.{Code, codeOf, SoundCard, radius}
 use Rattle.model.specs.Order.{lastCodeword, lastPosition}
 use Rattle.model.specs.Words.{chunk₁, chunk₂, wordBytes}
-use Rattle.model.specs.Reading.{chunkDistance, Seen, seen, ruleSeen, namesFirst, namesSecond, twoEnds}
+use Rattle.model.specs.Reading.{chunkDistance, Seen, seen, ruleSeen, namesFirst, namesSecond, twoEnds, bitsValue}
 use Rattle.model.specs.Levels.{chunkWrong}
-use Rattle.model.specs.Statuses.{bitsValue}
 use Rattle.model.specs.declared.ChunkBits.{ChunkBits}
 use Rattle.model.specs.declared.ChunkBits.the-variants.{Differing, NotRead}
 use Rattle.model.specs.declared.Reading.{Reading}

@@ -11,10 +11,10 @@ use Rattle.bits.specs.Places.{place}
 use Rattle.model.specs.Refusals.{refuses, refusedAs, firstRefusal, unlessRefused}
 use Rattle.model.specs.Card.{Code, codeOf, cardRefusal, radius}
 use Rattle.model.specs.Order.{lastCodeword}
-use Rattle.model.specs.Words.{word}
+use Rattle.model.specs.Words.{word, wordLength}
 use Rattle.model.specs.Reading.{Seen, seen, ruleSeen, ruleNamed, namesFirst, namesSecond, numberBy, separatorBy, parityDiffers}
 use Rattle.model.specs.Reading.{twoEnds, rows9To12}
-use Rattle.model.specs.Answers.{wordLength, spareSet, readingOf}
+use Rattle.model.specs.ReadWord.{spareSet, readingOf}
 use Rattle.model.specs.declared.Reading.{Reading}
 use Rattle.model.specs.declared.ReadAnswer.{ReadAnswer}
 use Rattle.model.specs.declared.ReadAnswer.the-variants.{At, Refused}

@@ -8,8 +8,8 @@ use lib.ListN.{length}
 use Rattle.bits.specs.Sums.{sumBelow, distance, distanceHeard, lostBelow}
 use Rattle.bits.specs.Places.{place}
 use Rattle.model.specs.Card.{Code, radius}
-use Rattle.model.specs.Words.{chunkSize, chunkOf, wordBytes}
-use Rattle.model.specs.Answers.{wordLength, spareSet}
+use Rattle.model.specs.Words.{chunkSize, chunkOf, wordBytes, wordLength}
+use Rattle.model.specs.ReadWord.{spareSet}
 use Rattle.model.specs.declared.ReadAnswer.{ReadAnswer}
 use Rattle.model.specs.declared.ReadAnswer.the-variants.{At, Refused}
 

@@ -10,9 +10,9 @@ use lib.ListN.{length}
 use Rattle.bits.specs.Places.{place, differingBits}
 use Rattle.model.specs.Card.{codeOf, SoundCard}
 use Rattle.model.specs.Order.{lastPosition}
-use Rattle.model.specs.Words.{wordBytes}
+use Rattle.model.specs.Words.{wordBytes, wordLength}
 use Rattle.model.specs.Reading.{residual}
-use Rattle.model.specs.Answers.{wordLength, spareSet}
+use Rattle.model.specs.ReadWord.{spareSet}
 use Rattle.model.specs.declared.WriteAnswer.{WriteAnswer}
 use Rattle.model.specs.declared.WriteAnswer.the-variants.{Written}
 use Rattle.model.specs.declared.ReadAnswer.{ReadAnswer}

@@ -9,8 +9,8 @@ use lib.ListN.{length}
 use Rattle.bits.specs.Places.{place}
 use Rattle.model.specs.Card.{Code, codeOf, SoundCard, radius}
 use Rattle.model.specs.Order.{lastCodeword, changedWeight, blockLength, start, lastPosition}
-use Rattle.model.specs.Words.{placesBefore, wordBytes, divided}
-use Rattle.model.specs.Answers.{wordLength, spareSet}
+use Rattle.model.specs.Words.{placesBefore, wordBytes, divided, wordLength}
+use Rattle.model.specs.ReadWord.{spareSet}
 use Rattle.model.specs.declared.ReadAnswer.{ReadAnswer}
 use Rattle.position_theory.specs.Damage.{turnedIn, turned, Near, residualOf}
 

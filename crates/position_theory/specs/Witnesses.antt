@@ -8,9 +8,8 @@ use Prim.Native.Nat.{ℕ, _+_, _≤_, _<_}
 use Rattle.bits.specs.Places.{place, differingBits}
 use Rattle.model.specs.Card.{codeOf}
 use Rattle.model.specs.Words.{wordBytes, divided}
-use Rattle.model.specs.Reading.{residual}
-use Rattle.model.specs.Cases.{cardA, cardB}
-use Rattle.model.specs.Statuses.{bitsValue}
+use Rattle.model.specs.Reading.{residual, bitsValue}
+use Rattle.model.specs.CardsToTry.{cardA, cardB}
 use Rattle.model.specs.declared.ChunkBits.the-variants.{Differing, NotRead}
 use Rattle.model.specs.declared.WriteAnswer.{WriteAnswer}
 use Rattle.model.specs.declared.WriteAnswer.the-variants.{Written, Refused as WriteRefused}

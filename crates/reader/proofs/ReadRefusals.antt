@@ -12,11 +12,11 @@ use Rattle.bits.specs.Sums.{marked}
 use Rattle.bits.specs.Places.{place}
 use Rattle.bits.proofs.Heard.{heard-ext}
 use Rattle.model.specs.Refusals.{firstRefusal, unlessRefused}
-use Rattle.model.specs.Answers.{wordLength, spareSet, rowsOfWord, readWord}
+use Rattle.model.specs.ReadWord.{spareSet, rowsOfWord, readWord}
 use Rattle.model.specs.Card.{Code}
 use Rattle.model.specs.Reading.{seen, ruleNamed, separatorBy, rows9To12, rowsSeen, residual}
 use Rattle.model.specs.Levels.{residualHeard}
-use Rattle.model.specs.Words.{wordBits}
+use Rattle.model.specs.Words.{wordBits, wordLength}
 use Rattle.model.specs.declared.ReadAnswer.{ReadAnswer}
 use Rattle.model.specs.declared.ReadAnswer.the-variants.{Refused}
 use Rattle.code_theory.specs.Promise.{Sound}

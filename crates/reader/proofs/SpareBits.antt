@@ -15,8 +15,8 @@ use Rattle.bits.proofs.Numbers.{lt-or-le, eq-or-ne}
 use Rattle.bits.proofs.Sums.{summand-le, sum-zero}
 use Rattle.bits.proofs.Searches.{any-none}
 use Rattle.model.specs.Card.{Code}
-use Rattle.model.specs.Words.{wordBits}
-use Rattle.model.specs.Answers.{wordLength, spareSet}
+use Rattle.model.specs.Words.{wordBits, wordLength}
+use Rattle.model.specs.ReadWord.{spareSet}
 use Rattle.position_theory.proofs.WordBytes.{spare-bits-zero}
 use Rattle.reader.specs.Received.{NothingSpare}
 

@@ -5,7 +5,7 @@ ghost use mathlib.Core.Path.{_≡_};
 ghost use Prim.Native.Nat.{_+_, _≤_};
 ghost use Rattle.bits.specs.Sums.{fromPlace, marked};
 ghost use Rattle.bits.specs.Places.{place};
-ghost use Rattle.model.specs.Answers.{readWord};
+ghost use Rattle.model.specs.ReadWord.{readWord};
 ghost use Rattle.model.specs.Decoded.{meaning};
 ghost use Rattle.model.specs.Words.{wordBits};
 ghost use Rattle.model.specs.Levels.{heardReading};

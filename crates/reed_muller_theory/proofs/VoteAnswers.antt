@@ -9,10 +9,9 @@ use borrow.Author.Tests.{lt-leb}
 use Rattle.bits.specs.Places.{bit}
 use Rattle.model.specs.Refusals.{refuses, firstRefusal, unlessRefused}
 use Rattle.model.specs.Card.{Code, codeOf}
-use Rattle.model.specs.Reading.{chunkReading}
+use Rattle.model.specs.Reading.{chunkReading, chunkStatus, chunkValues}
 use Rattle.model.specs.ReedMuller.{reedMullerCard, orderWithinLimits, votedNumber, votedDistance, votedWithin, votedReading}
-use Rattle.model.specs.Answers.{voteRefusal, voteAnswer}
-use Rattle.model.specs.Statuses.{chunkStatus, chunkValues, voteStatus, voteValues}
+use Rattle.model.specs.VoteChunk.{voteRefusal, voteAnswer, voteStatus, voteValues}
 use Rattle.model.specs.declared.Chunk.{Chunk}
 use Rattle.model.specs.declared.Chunk.the-variants.{Codeword, Unreadable}
 use Rattle.model.specs.declared.VoteAnswer.{VoteAnswer}

@@ -12,10 +12,9 @@ use Rattle.bits.proofs.Searches.{none-of-any}
 use Rattle.model.specs.Refusals.{unlessRefused}
 use Rattle.model.specs.Card.{sumOfRows, leastWeight}
 use Rattle.model.specs.Order.{gray, lastCodeword, codeword, start, lastPosition}
-use Rattle.model.specs.Reading.{chunkDistance, withinRadius, readFirst, chunkReading}
+use Rattle.model.specs.Reading.{chunkDistance, withinRadius, readFirst, chunkReading, chunkStatus, chunkValues}
 use Rattle.model.specs.ReedMuller.{product, those, setsOf, setsUpTo, countOfSets, productRow, productOf, reedMuller, orderWithinLimits}
-use Rattle.model.specs.Answers.{summaryOf, cardAnswer}
-use Rattle.model.specs.Statuses.{chunkStatus, chunkValues}
+use Rattle.model.specs.CheckCard.{summaryOf, cardAnswer}
 use Rattle.reed_muller_theory.specs.Witnesses.{twoOff, VotesWitnessed}
 use Rattle.reed_muller_theory.proofs.MadeCards.{code-of-made}
 

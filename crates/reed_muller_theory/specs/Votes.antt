@@ -5,9 +5,9 @@ use Prim.Native.Nat.{ℕ, _^_, _≤_, _<_}
 use Rattle.bits.specs.Places.{bit}
 use Rattle.model.specs.Card.{codeOf}
 use Rattle.model.specs.Order.{lastCodeword}
-use Rattle.model.specs.Reading.{chunkDistance, withinRadius, chunkReading}
+use Rattle.model.specs.Reading.{chunkDistance, withinRadius, chunkReading, chunkStatus, chunkValues}
 use Rattle.model.specs.ReedMuller.{reedMuller, reedMullerCard, orderWithinLimits}
-use Rattle.model.specs.Statuses.{chunkStatus, chunkValues, voteStatus, voteValues}
+use Rattle.model.specs.VoteChunk.{voteStatus, voteValues}
 use Rattle.model.specs.declared.Chunk.{Chunk}
 use Rattle.model.specs.declared.VoteAnswer.{VoteAnswer}
 use Rattle.model.specs.declared.VoteAnswer.the-variants.{Voted}

@@ -8,8 +8,8 @@ use Prim.Native.Nat.{ℕ}
 use lib.IntN.{pos}
 use Rattle.model.specs.Card.{lengthOf, rowCountOf, offsetOf, codeOf}
 use Rattle.model.specs.ReedMuller.{orderWithinLimits}
-use Rattle.model.specs.Answers.{cardAnswer}
-use Rattle.model.specs.Statuses.{voteStatus, voteValues}
+use Rattle.model.specs.CheckCard.{cardAnswer}
+use Rattle.model.specs.VoteChunk.{voteStatus, voteValues}
 use Rattle.model.specs.declared.CardSummary.{CardSummary}
 use Rattle.model.specs.declared.CardAnswer.the-variants.{Sound}
 use Rattle.model.specs.declared.VoteAnswer.{VoteAnswer}

@@ -6,7 +6,9 @@ use lib.Dec.{eqb}
 use lib.ListN.{length, take, drop}
 use Rattle.bits.specs.Sums.{sumBelow}
 use Rattle.model.specs.Card.{Code, cardRefusal, codeOf}
-use Rattle.model.specs.Answers.{wordLength, cardAnswer, readWord}
+use Rattle.model.specs.Words.{wordLength}
+use Rattle.model.specs.CheckCard.{cardAnswer}
+use Rattle.model.specs.ReadWord.{readWord}
 use Rattle.model.specs.declared.ReadAnswer.{ReadAnswer}
 use Rattle.model.specs.declared.ReadAnswer.the-variants.{At, Refused}
 use Rattle.report.specs.Lines.{cardLine, wordLine, shortLine, lastLine}

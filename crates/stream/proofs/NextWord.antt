@@ -9,7 +9,8 @@ use lib.ListN.{length, take, drop}
 use lib.Seq.{drop-drop}
 use Rattle.bits.specs.Sums.{sumBelow}
 use Rattle.model.specs.Card.{Code}
-use Rattle.model.specs.Answers.{wordLength, readWord}
+use Rattle.model.specs.Words.{wordLength}
+use Rattle.model.specs.ReadWord.{readWord}
 use Rattle.report.specs.Lines.{wordLine, lineRoom}
 use Rattle.report.specs.Puts.{Puts}
 use Rattle.report.specs.Report.{answerAt, wordLines, readCount, wordsRead}

@@ -10,7 +10,8 @@ use lib.ListN.{length, take, drop, length-drop}
 use lib.Seq.{length-take-le, take-add, take-append-le, drop-at, drop-append-le, drop-append-add}
 use Rattle.bits.proofs.Sums.{sum-ext, sum-split}
 use Rattle.model.specs.Card.{Code}
-use Rattle.model.specs.Answers.{wordLength, readWord}
+use Rattle.model.specs.Words.{wordLength}
+use Rattle.model.specs.ReadWord.{readWord}
 use Rattle.report.specs.Report.{wordPart, answerAt, wordLines, readCount, wordsRead}
 
 -- word i lies within the first m words

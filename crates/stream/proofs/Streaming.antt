@@ -11,7 +11,7 @@ use lib.Seq.{length-take-le, take-take, take-append-seam, drop-append-add}
 use Rattle.bits.specs.Sums.{sumBelow}
 use Rattle.bits.proofs.Sums.{sum-of-bits}
 use Rattle.model.specs.Card.{Code}
-use Rattle.model.specs.Answers.{wordLength}
+use Rattle.model.specs.Words.{wordLength}
 use Rattle.model.specs.declared.ReadAnswer.{ReadAnswer}
 use Rattle.model.specs.declared.ReadAnswer.the-variants.{At, Refused}
 use Rattle.report.specs.Lines.{shortLine, lastLine}

@@ -6,7 +6,7 @@ use mathlib.Core.List.{List, _++_, append-nil}
 use borrow.Author.Tests.{eq-eqb, ne-eqb}
 use lib.Seq.{take-at, drop-at}
 use Rattle.model.specs.Card.{cardRefusal, codeOf, SoundCard}
-use Rattle.model.specs.Answers.{cardAnswer}
+use Rattle.model.specs.CheckCard.{cardAnswer}
 use Rattle.code_theory.proofs.SoundCard.{card-tests}
 use Rattle.report.specs.Lines.{cardLine}
 use Rattle.report.specs.Report.{cardPart, wordsReport, reportOf}

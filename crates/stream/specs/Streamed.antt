@@ -5,7 +5,7 @@ use mathlib.Core.List.{List, _++_}
 use Prim.Native.Nat.{ℕ, _*_, _/_, _%_}
 use lib.ListN.{length, take, drop}
 use Rattle.model.specs.Card.{Code}
-use Rattle.model.specs.Answers.{wordLength}
+use Rattle.model.specs.Words.{wordLength}
 use Rattle.report.specs.Report.{wordLines, wordsRead, wordsReport}
 use Rattle.stream.specs.declared.turn.Progress.{Progress}
 

@@ -4,7 +4,7 @@ use mathlib.Core.List.{List}
 use Prim.Native.Nat.{ℕ, _+_, _*_, _/_, _%_, _≤_}
 use lib.ListN.{length, take, drop}
 use Rattle.model.specs.Card.{Code}
-use Rattle.model.specs.Answers.{wordLength}
+use Rattle.model.specs.Words.{wordLength}
 use Rattle.report.specs.Lines.{lineRoom}
 use Rattle.report.specs.Puts.{Puts}
 use Rattle.report.specs.Report.{wordLines, wordsRead}

@@ -8,7 +8,7 @@ use lib.Dec.{eqb}
 use lib.ListN.{length, take, drop}
 use lib.Seq.{take-all}
 use Rattle.model.specs.Card.{Code, cardRefusal, codeOf, SoundCard}
-use Rattle.model.specs.Answers.{cardAnswer}
+use Rattle.model.specs.CheckCard.{cardAnswer}
 use Rattle.report.specs.Lines.{cardLine}
 use Rattle.report.specs.Report.{wordsReport, reportOf}
 use Rattle.stream.proofs.Whole.{report-of-sound, report-of-refused}

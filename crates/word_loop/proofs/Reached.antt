@@ -9,7 +9,7 @@ use native.Mathlib.Omega.{arith}
 use lib.ListN.{length, take, drop, length-append, length-drop}
 use lib.Seq.{length-take-le}
 use Rattle.model.specs.Card.{Code}
-use Rattle.model.specs.Answers.{cardAnswer}
+use Rattle.model.specs.CheckCard.{cardAnswer}
 use Rattle.report.specs.Lines.{cardLine, shortLine, lastLine}
 use Rattle.stream.specs.declared.turn.Progress.{Progress}
 use Rattle.stream.specs.Streamed.{Streamed, Follows}

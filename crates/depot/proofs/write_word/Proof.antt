@@ -7,7 +7,7 @@ use borrow.Author.Needs.{needs}
 use lib.ListN.{length}
 use Rattle.model.specs.Decoded.{meaning}
 use Rattle.model.specs.Order.{lastPosition}
-use Rattle.model.specs.Answers.{wordLength}
+use Rattle.model.specs.Words.{wordLength}
 use Rattle.code_theory.specs.Promise.{Sound}
 use Rattle.depot.proofs.Writing.{Passed, write-card-refused, refused-6, refused-7, written}
 use Rattle.depot.proofs.write_word.Statement.{statement}

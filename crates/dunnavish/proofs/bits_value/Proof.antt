@@ -1,7 +1,7 @@
 -- `dunnavish::bits_value` meets its contract: either case is its number. Assumes nothing.
 use mathlib.Core.Path.{refl}
 use borrow.Author.Needs.{needs}
-use Rattle.model.specs.Statuses.{bitsValue}
+use Rattle.model.specs.Reading.{bitsValue}
 use Rattle.dunnavish.proofs.bits_value.Statement.{statement}
 use Rattle.dunnavish.proofs.bits_value.Tie as tie
 

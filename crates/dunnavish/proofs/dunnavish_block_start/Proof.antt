@@ -3,7 +3,7 @@
 use mathlib.Core.Path.{sym, _∙_}
 use mathlib.Core.List.{[], _∷_}
 use borrow.Author.Needs.{needs}
-use Rattle.model.specs.Statuses.{numberStatus, numberValues}
+use Rattle.model.specs.BlockStart.{numberStatus, numberValues}
 use Rattle.dunnavish.specs.Crossing.{numberCount}
 use Rattle.dunnavish.proofs.Lent.{wrong-count-changes-nothing, refusal-changes-nothing, values-are-left, all-stored, refusal-nonzero}
 use Rattle.dunnavish.proofs.dunnavish_block_start.Statement.{statement}

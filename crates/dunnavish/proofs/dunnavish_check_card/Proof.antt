@@ -5,8 +5,7 @@ use mathlib.Core.List.{[], _∷_}
 use native.Mathlib.Omega.{arith}
 use borrow.Author.Needs.{needs}
 use lib.ListN.{length-set}
-use Rattle.model.specs.Answers.{cardFigures}
-use Rattle.model.specs.Statuses.{cardStatus, cardValues}
+use Rattle.model.specs.CheckCard.{cardFigures, cardStatus, cardValues}
 use Rattle.code_theory.proofs.Offsets.{checked-as-before}
 use Rattle.dunnavish.specs.Crossing.{cardCount}
 use Rattle.dunnavish.proofs.Lent.{wrong-count-changes-nothing, refusal-changes-nothing, values-are-left, all-stored, refusal-nonzero}

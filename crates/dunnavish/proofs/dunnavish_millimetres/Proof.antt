@@ -5,7 +5,7 @@ use mathlib.Core.List.{[], _∷_}
 use borrow.Author.Needs.{needs}
 use mir.Facts.{toZ-ofZ}
 use mir.Syntax.{w32}
-use Rattle.model.specs.Statuses.{millimetresStatus, millimetresValues}
+use Rattle.model.specs.Millimetres.{millimetresStatus, millimetresValues}
 use Rattle.code_theory.proofs.Offsets.{distance-as-before}
 use Rattle.dunnavish.specs.Crossing.{numberCount}
 use Rattle.dunnavish.proofs.Lent.{wrong-count-changes-nothing, refusal-changes-nothing, values-are-left, all-stored, refusal-nonzero}

@@ -6,8 +6,8 @@ use native.Mathlib.Omega.{arith}
 use borrow.Author.Needs.{needs}
 use borrow.Author.Tests.{ne-eqb}
 use lib.ListN.{length, length-set}
-use Rattle.model.specs.Answers.{levelsFigures}
-use Rattle.model.specs.Statuses.{positionAnswer, readStatus, readValues, strengthValues}
+use Rattle.model.specs.ReadWord.{readStatus, readValues}
+use Rattle.model.specs.ReadLevels.{levelsFigures, positionAnswer, strengthValues}
 use Rattle.dunnavish.specs.Crossing.{strengthCount, leftBy}
 use Rattle.dunnavish.proofs.Lent.{all-stored, refusal-nonzero}
 use Rattle.dunnavish.proofs.LevelDemands.{wrong-count-of-numbers, wrong-count-of-floats, levels-cross}

@@ -1,8 +1,7 @@
 -- `dunnavish::dunnavish_read_word` meets its contract: the count of the lent numbers, then what the library answered; the distances,
 -- the bits and the separators are those of the library's own contract. Assumes nothing.
 use borrow.Author.Needs.{needs}
-use Rattle.model.specs.Answers.{readFigures}
-use Rattle.model.specs.Statuses.{readStatus, readValues}
+use Rattle.model.specs.ReadWord.{readFigures, readStatus, readValues}
 use Rattle.dunnavish.specs.Crossing.{readCount}
 use Rattle.dunnavish.proofs.Lent.{refusal-changes-nothing, values-are-left, refusal-nonzero}
 use Rattle.dunnavish.proofs.ReadDemands.{wrong-count-claims-nothing, demands-cross}

@@ -2,8 +2,7 @@
 -- chunk promise and answers as the search does is in the library's own contract. Assumes nothing.
 use mathlib.Core.List.{[], _∷_}
 use borrow.Author.Needs.{needs}
-use Rattle.model.specs.Answers.{voteFigures}
-use Rattle.model.specs.Statuses.{voteStatus, voteValues}
+use Rattle.model.specs.VoteChunk.{voteFigures, voteStatus, voteValues}
 use Rattle.dunnavish.specs.Crossing.{voteCount}
 use Rattle.dunnavish.proofs.Lent.{refusal-changes-nothing, values-are-left, all-stored, refusal-nonzero}
 use Rattle.dunnavish.proofs.VotePromise.{wrong-count-claims-nothing, promises-cross}

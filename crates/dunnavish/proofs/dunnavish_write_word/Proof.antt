@@ -7,7 +7,7 @@ use borrow.Author.Needs.{needs}
 use Rattle.model.specs.declared.WriteAnswer.{WriteAnswer}
 use Rattle.model.specs.declared.WriteAnswer.the-variants.{Written, Refused}
 use Rattle.position_theory.specs.Demands.{UnchangedIfRefused}
-use Rattle.model.specs.Statuses.{writeStatus}
+use Rattle.model.specs.WriteWord.{writeStatus}
 use Rattle.dunnavish.specs.Crossing.{UnchangedUnlessZero}
 use Rattle.dunnavish.proofs.dunnavish_write_word.Statement.{statement}
 use Rattle.dunnavish.proofs.dunnavish_write_word.Tie as tie

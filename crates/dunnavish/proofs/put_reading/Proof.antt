@@ -3,7 +3,7 @@ use mathlib.Core.List.{[], _∷_}
 use native.Mathlib.Omega.{arith}
 use borrow.Author.Needs.{needs}
 use lib.ListN.{length-set}
-use Rattle.model.specs.Statuses.{readValues}
+use Rattle.model.specs.ReadWord.{readValues}
 use Rattle.dunnavish.proofs.Lent.{all-stored}
 use Rattle.dunnavish.proofs.put_reading.Statement.{statement}
 use Rattle.dunnavish.proofs.put_reading.Tie as tie

@@ -8,7 +8,7 @@ use borrow.Author.Needs.{needs}
 use lib.ListN.{length, take}
 use lib.Seq.{length-take-le}
 use Rattle.model.specs.Card.{SoundCard}
-use Rattle.model.specs.Answers.{cardAnswer}
+use Rattle.model.specs.CheckCard.{cardAnswer}
 use Rattle.linear_code.specs.DecodedFrom.{DecodedFrom}
 use Rattle.report.specs.Lines.{cardLine}
 use Rattle.stream.proofs.Streaming.{text-at-front}

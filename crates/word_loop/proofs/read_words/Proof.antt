@@ -10,7 +10,7 @@ use borrow.Author.Needs.{needs}
 use lib.ListN.{length, take, drop, length-drop}
 use lib.Seq.{length-take-le}
 use Rattle.model.specs.Decoded.{meaning}
-use Rattle.model.specs.Answers.{wordLength}
+use Rattle.model.specs.Words.{wordLength}
 use Rattle.stream.specs.Streamed.{Follows, Completes}
 use Rattle.stream.proofs.Streaming.{few-held, few-read}
 use Rattle.word_loop.specs.Parts.{LastPart, OnlyAtEnd}

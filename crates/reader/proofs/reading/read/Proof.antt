@@ -10,11 +10,11 @@ use lib.Dec.{eqb}
 use lib.ListN.{length}
 use Rattle.bits.specs.Sums.{sumBelow, fromPlace}
 use Rattle.bits.specs.Places.{place}
-use Rattle.model.specs.Answers.{wordLength, spareSet}
+use Rattle.model.specs.ReadWord.{spareSet}
 use Rattle.model.specs.Card.{Code}
 use Rattle.model.specs.Decoded.{meaning}
 use Rattle.model.specs.Reading.{seen, ruleNamed}
-use Rattle.model.specs.Words.{wordBits}
+use Rattle.model.specs.Words.{wordBits, wordLength}
 use Rattle.reader.specs.Naming.{NamesOf}
 use Rattle.reader.proofs.ReadRefusals.{refused-6, none-spare, refused-8, refused-9, read-by-rule}
 use Rattle.reader.proofs.SpareBits.{spare-test, nothing-spare}

@@ -10,7 +10,7 @@ use borrow.Author.Needs.{needs}
 use lib.ListN.{length, take, drop, length-drop}
 use lib.Seq.{length-take-le}
 use Rattle.model.specs.Decoded.{meaning}
-use Rattle.model.specs.Answers.{wordLength}
+use Rattle.model.specs.Words.{wordLength}
 use Rattle.stream.proofs.Behind.{behind-of-front, rest-lent, rest-put-back}
 use Rattle.stream.proofs.Pieces.{tail-behind-words}
 use Rattle.stream.proofs.Streaming.{follows}

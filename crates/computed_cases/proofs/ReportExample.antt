@@ -15,12 +15,13 @@ use Rattle.model.specs.Words.{fiveChunks, word, blockOf, wordAt}
 use Rattle.model.specs.Reading.{majority, chunkDistance, withinRadius, readFirst, chunkReading, unreadable, numberRead, seen}
 use Rattle.model.specs.Reading.{ruleOf, numberBy, separatorOf, parityDiffers, twoEnds, rows9To12, rowsSeen, ruleNamed, rowsOf}
 use Rattle.model.specs.Reading.{allowed, residual, nearestIn, bitsNeeded, nearest}
-use Rattle.model.specs.Answers.{summaryOf, cardAnswer, spareSet, rowsOfWord, readWord}
+use Rattle.model.specs.CheckCard.{summaryOf, cardAnswer}
+use Rattle.model.specs.ReadWord.{spareSet, rowsOfWord, readWord}
 use Rattle.model.specs.CardBytes.{bytesOf, rowBytes, sealed, cardOf}
-use Rattle.model.specs.Cases.{cardB}
+use Rattle.model.specs.CardsToTry.{cardB}
 use Rattle.report.specs.Text.{ascii, digitsWithin, decimal}
 use Rattle.report.specs.Lines.{cardLine, bitsText, ruleAndBits, wordLine, shortLine, lastLine}
 use Rattle.report.specs.Report.{wordLines, readCount, wordsRead, wordsReport, reportOf}
 
 -- the words of the example
 abbrev words : List ℕ

@@ -3,25 +3,15 @@
 -- that document 01 doesn't mark. That the definitions answer so is one theorem, `starred-cases`. Assumes nothing.
 use mathlib.Core.List.{List, [], _∷_, _++_}
 use Prim.Native.Nat.{ℕ, zero, suc}
-use lib.ListN.{getD}
 use Rattle.bits.specs.Sums.{sumBelow}
 use Rattle.bits.specs.Places.{bit, place, listOf, differingBits}
 use Rattle.model.specs.Card.{Code, codeOf}
-use Rattle.model.specs.CardBytes.{cardOf}
+use Rattle.model.specs.CardsToTry.{cardA, cardB}
 use Rattle.model.specs.Order.{codeword, lastPosition, start}
 use Rattle.model.specs.Words.{separator₁, separator₂, separator₃, wordBytes}
-use Rattle.model.specs.Answers.{writeAnswer, lentAfterWrite, readAnswer}
-use Rattle.model.specs.Statuses.{writeStatus, writeValues, readStatus, readValues, notRead}
-
--- a card with these rows, and zero for the others
-abbrev pub cardWith : (n k track : ℕ) → List ℕ → List ℕ
-cardWith n k track rows = cardOf n k track (λ z. getD rows z 0)
-
-unfoldable pub cardA : List ℕ
-cardA = cardWith 3 2 0 (3 ∷ 6 ∷ [])
-
-unfoldable pub cardB : List ℕ
-cardB = cardWith 3 1 14 (7 ∷ [])
+use Rattle.model.specs.Reading.{notRead}
+use Rattle.model.specs.WriteWord.{writeAnswer, lentAfterWrite, writeStatus, writeValues}
+use Rattle.model.specs.ReadWord.{readAnswer, readStatus, readValues}
 
 -- what may be asked of a card
 pub data Question : Type 0 where

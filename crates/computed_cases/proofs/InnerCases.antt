@@ -5,15 +5,15 @@ use Rattle.bits.specs.Sums.{sumBelow, distance, joinAt}
 use Rattle.bits.specs.Walk.{walk}
 use Rattle.bits.specs.Places.{weight, listOf}
 use Rattle.bits.specs.Searches.{anyBelow, greatest}
 use Rattle.model.specs.Refusals.{firstRefusal, unlessRefused}
 use Rattle.model.specs.Card.{highFirst, rowOf, twosComplement, offsetOf, sumOfRows, leastWeight, codeOf}
 use Rattle.model.specs.CardBytes.{bytesOf, rowBytes, sealed, cardOf}
 use Rattle.model.specs.Order.{sumAfterRow, sumBeforeRow, gray, lastCodeword, codeword, changedRow, changedWeight, start, lastPosition}
 use Rattle.model.specs.Words.{millimetresOf, chunkSize, placesBefore, fiveChunks, word, blockOf, wordAt, divided}
 use Rattle.model.specs.ReedMuller.{those, orderWithinLimits}
-use Rattle.model.specs.Answers.{makeRefusal, makeAnswer}
-use Rattle.model.specs.Cases.{cardA, cardB}
-use Rattle.model.specs.InnerCases.{Figures, innerCases, cardOfUnlikeBlocks, whereDivided, Divisions, dividedCases}
+use Rattle.model.specs.MakeCard.{makeRefusal, makeAnswer}
+use Rattle.model.specs.CardsToTry.{cardA, cardB}
+use Rattle.computed_cases.specs.InnerCases.{Figures, innerCases, cardOfUnlikeBlocks, whereDivided, Divisions, dividedCases}
 
 pub inner-cases : map (λ (f : Figures). f .given) innerCases ≡ map (λ (f : Figures). f .expected) innerCases
 unfolding sumBelow

@@ -1,0 +1,3 @@
+pub mod StarredCases
+pub mod InnerCases
+pub mod ReportExample
