@@ -27,7 +27,7 @@ use Rattle.model.specs.Millimetres.{millimetresRefusal, millimetresAnswer}
 use Rattle.model.specs.declared.NumberAnswer.the-variants.{Number, Refused as NumberRefused}
 use Rattle.model.specs.declared.MillimetresAnswer.the-variants.{Millimetres, Refused as MillimetresRefused}
 use Rattle.code_theory.specs.Offsets.{OldCard, oldMisplaced, oldCardRefusal, oldCardAnswer, oldMillimetresAnswer, asSigned}
-use Rattle.code_theory.specs.Offsets.{CheckedAsBefore, DistanceAsBefore, SameButOffset, AnsweredAlike}
+use Rattle.code_theory.specs.Offsets.{CheckedAsBefore, DistanceAsBefore, CheckPromises, MillimetresPromises, SameButOffset, AnsweredAlike}
 
 -- ---- old cards
 
@@ -62,6 +62,13 @@ pub distance-as-before : (card : List ℕ) (position : ℕ) → DistanceAsBefore
 unfolding DistanceAsBefore millimetresAnswer millimetresRefusal millimetresOf oldMillimetresAnswer
 distance-as-before card position old =
     rw (old-refusal card old, old-offset card old, zero-add (50 * position)) (signed-unless-refused _ (50 * position))
+
+-- so all that is promised of a check and of a distance holds of what the definitions answer
+pub check-promises : (card : List ℕ) → CheckPromises card (cardAnswer card)
+check-promises card = record { old-card = checked-as-before card }
+
+pub millimetres-promises : (card : List ℕ) (position : ℕ) → MillimetresPromises card position (millimetresAnswer card position)
+millimetres-promises card position = record { old-card = distance-as-before card position }
 
 -- ---- two cards with different offsets
 

@@ -73,6 +73,13 @@ CheckedAsBefore card answer = OldCard card → answer ≡ oldCardAnswer card
 unfoldable pub DistanceAsBefore : (card : List ℕ) (position : ℕ) → MillimetresAnswer → Type 0
 DistanceAsBefore card position answer = OldCard card → answer ≡ asSigned (oldMillimetresAnswer card position)
 
+-- what is promised of a check of a card, and of a distance, beside the equation
+pub record CheckPromises (card : List ℕ) (answer : CardAnswer) : Type 0 where
+  pub old-card : CheckedAsBefore card answer
+
+pub record MillimetresPromises (card : List ℕ) (position : ℕ) (answer : MillimetresAnswer) : Type 0 where
+  pub old-card : DistanceAsBefore card position answer
+
 -- ---- two cards with different offsets
 
 -- all bytes but those of the offset and of the check are the same, each card carries the check that it should, and each offset is

@@ -13,9 +13,9 @@ use Rattle.model.specs.declared.LevelsAnswer.{LevelsAnswer}
 use Rattle.model.specs.declared.LevelsAnswer.the-variants.{Refused}
 use Rattle.code_theory.proofs.Refusals.{refused-by-card}
 use Rattle.level_theory.specs.LevelPromises.{NearestOverHeard, TellsWrongOfChunks, AsPlainReading, OffByAtMostTwiceWrongAndLost}
+use Rattle.level_theory.specs.LevelPromises.{LevelsReadOnlyIfParityAgrees, PastedLevelsNeverRead, LevelsAsBeforeUnlessContradicted}
 use Rattle.level_theory.proofs.LevelPromises.{levels-sound, nearest-over-heard, tells-wrong-of-chunks}
 use Rattle.level_theory.proofs.LevelPromises.{as-plain-reading, off-by-at-most-twice-wrong-and-lost}
-use Rattle.level_theory.specs.LevelContradictions.{LevelsReadOnlyIfParityAgrees, PastedLevelsNeverRead, LevelsAsBeforeUnlessContradicted}
 use Rattle.level_theory.proofs.LevelContradictions.{levels-read-only-if-parity-agrees, pasted-levels-never-read}
 use Rattle.level_theory.proofs.LevelContradictions.{levels-as-before-unless-contradicted}
 use Rattle.linear_code.specs.DecodedFrom.{DecodedFrom}

@@ -10,13 +10,12 @@ use Rattle.model.specs.declared.Decoded.{Decoded}
 use Rattle.model.specs.declared.ReadAnswer.{ReadAnswer}
 use Rattle.model.specs.declared.ReadAnswer.the-variants.{Refused}
 use Rattle.code_theory.proofs.Refusals.{refused-by-card}
-use Rattle.position_theory.specs.Demands.{NearestOfAllowed, OffByAtMostTwiceTurned, OffByAtMostTurnedAndResidual}
-use Rattle.position_theory.specs.DividedChunks.{ReadWithDividedAtWill, BarHoldsPosition}
+use Rattle.position_theory.specs.ReadPromises.{NearestOfAllowed, OffByAtMostTwiceTurned, OffByAtMostTurnedAndResidual}
+use Rattle.position_theory.specs.ReadPromises.{ReadWithDividedAtWill, BarHoldsPosition, TellsBitsOfChunks, NeededAsTurned}
+use Rattle.position_theory.specs.ReadPromises.{ReadOnlyIfParityAgrees, PastedNeverRead, AsBeforeUnlessContradicted}
 use Rattle.position_theory.proofs.Demands.{read-sound, nearest-of-allowed, off-by-at-most-twice-turned, off-by-at-most-turned-and-residual}
 use Rattle.position_theory.proofs.Demands.{read-with-divided-at-will, bar-holds-position}
-use Rattle.position_theory.specs.ChunkBits.{TellsBitsOfChunks, NeededAsTurned}
 use Rattle.position_theory.proofs.ChunkBits.{tells-bits-of-chunks, needed-as-turned}
-use Rattle.position_theory.specs.Contradictions.{ReadOnlyIfParityAgrees, PastedNeverRead, AsBeforeUnlessContradicted}
 use Rattle.position_theory.proofs.Contradictions.{read-only-if-parity-agrees, pasted-never-read, as-before-unless-contradicted}
 use Rattle.linear_code.specs.DecodedFrom.{DecodedFrom}
 use Rattle.depot.proofs.Statuses.{read-told}

@@ -18,7 +18,7 @@ use Rattle.model.specs.WriteWord.{writeRefusal, writeAnswer, lentAfterWrite, wr
 use Rattle.model.specs.declared.Decoded.{Decoded}
 use Rattle.model.specs.declared.WriteAnswer.{WriteAnswer}
 use Rattle.model.specs.declared.WriteAnswer.the-variants.{Written, Refused}
-use Rattle.position_theory.specs.Demands.{WrittenIfServable, UnchangedIfRefused, NeighboursDifferInOneBit, NoOtherPositionsWord}
+use Rattle.position_theory.specs.WritePromises.{WrittenIfServable, UnchangedIfRefused, NeighboursDifferInOneBit, NoOtherPositionsWord}
 use Rattle.position_theory.proofs.Demands.{neighbours-differ-in-one-bit, no-other-positions-word}
 use Rattle.position_theory.proofs.Writing.{written-if-servable, unchanged-if-refused, written-means}
 use Rattle.linear_code.specs.DecodedFrom.{DecodedFrom}

@@ -11,8 +11,8 @@ use lib.ListN.{length}
 use Rattle.model.specs.Refusals.{ifServed}
 use Rattle.model.specs.ReadLevels.{levelsAnswer, levelsFigures, positionAnswer, levelsStatus, levelsValues, strengthValues}
 use Rattle.model.specs.declared.LevelsAnswer.{LevelsAnswer}
-use Rattle.level_theory.specs.LevelPromises.{AsPlainReading, OffByAtMostTwiceWrongAndLost}
-use Rattle.level_theory.specs.LevelContradictions.{LevelsReadOnlyIfParityAgrees, PastedLevelsNeverRead}
+use Rattle.level_theory.specs.LevelPromises.{AsPlainReading, OffByAtMostTwiceWrongAndLost, LevelsReadOnlyIfParityAgrees}
+use Rattle.level_theory.specs.LevelPromises.{PastedLevelsNeverRead}
 use Rattle.dunnavish.specs.Crossing.{readCount, strengthCount, wrongCount, statusFor, leftBy, UnchangedUnlessZero}
 use Rattle.dunnavish.specs.Demands.{ServedWithinTwiceWrongAndLost, LeavesAsPlain}
 use Rattle.dunnavish.specs.Contradictions.{LevelsServedOnlyIfParityAgrees, PastedLevelsNeverServed}

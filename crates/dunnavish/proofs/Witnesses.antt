@@ -29,12 +29,13 @@ use Rattle.model.specs.declared.ReadAnswer.the-variants.{At}
 use Rattle.model.specs.declared.VoteAnswer.the-variants.{Voted}
 use Rattle.code_theory.specs.Offsets.{OldCard, oldMillimetresAnswer, asSigned, CheckedAsBefore, DistanceAsBefore}
 use Rattle.position_theory.specs.Damage.{Near, residualOf}
-use Rattle.position_theory.specs.Demands.{OffByAtMostTwiceTurned, OffByAtMostTurnedAndResidual}
-use Rattle.position_theory.specs.DividedChunks.{ReadWithDividedAtWill, BarHoldsPosition}
-use Rattle.position_theory.specs.ChunkBits.{TellsBits, BitsOfChunks, TellsBitsOfChunks, AreTurned, NeededAsTurned}
-use Rattle.position_theory.specs.Contradictions.{ParityAgrees, AgreesIfRead, ReadOnlyIfParityAgrees, PastedNeverRead}
-use Rattle.level_theory.specs.LevelPromises.{AsPlainReading, OffByAtMostTwiceWrongAndLost}
-use Rattle.level_theory.specs.LevelContradictions.{seenOf, LevelsReadOnlyIfParityAgrees, PastedLevelsNeverRead}
+use Rattle.position_theory.specs.ReadPromises.{OffByAtMostTwiceTurned, OffByAtMostTurnedAndResidual, ReadWithDividedAtWill}
+use Rattle.position_theory.specs.ReadPromises.{BarHoldsPosition, TellsBitsOfChunks, NeededAsTurned, ReadOnlyIfParityAgrees, PastedNeverRead}
+use Rattle.position_theory.specs.ChunkBits.{TellsBits, BitsOfChunks, AreTurned}
+use Rattle.position_theory.specs.Contradictions.{ParityAgrees, AgreesIfRead}
+use Rattle.level_theory.specs.LevelPromises.{AsPlainReading, OffByAtMostTwiceWrongAndLost, LevelsReadOnlyIfParityAgrees}
+use Rattle.level_theory.specs.LevelPromises.{PastedLevelsNeverRead}
+use Rattle.level_theory.specs.LevelsSeen.{seenOf}
 use Rattle.reed_muller_theory.specs.Votes.{ReadAsPromised}
 use Rattle.dunnavish.specs.Crossing.{readCount, strengthCount, voteCount, leftBy, UnchangedUnlessZero}
 use Rattle.dunnavish.specs.Demands.{residualLeft, ruleLeft, bits₁Left, bits₂Left, ServedNear, LeavesBits, LeftAsPromised}

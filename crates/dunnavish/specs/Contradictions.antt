@@ -9,7 +9,8 @@ use Rattle.bits.specs.Places.{place}
 use Rattle.model.specs.Card.{Code, codeOf}
 use Rattle.model.specs.Reading.{Seen, seen}
 use Rattle.position_theory.specs.Contradictions.{ParityAgrees, Pasted}
-use Rattle.level_theory.specs.LevelContradictions.{seenOf, PastedLevels}
+use Rattle.level_theory.specs.LevelContradictions.{PastedLevels}
+use Rattle.level_theory.specs.LevelsSeen.{seenOf}
 use Rattle.dunnavish.specs.Demands.{ruleLeft}
 
 -- of whatever is seen of a word

@@ -25,7 +25,7 @@ use Rattle.code_theory.specs.Offsets.{OldCard, oldCardAnswer, oldMillimetresAns
 use Rattle.position_theory.specs.Damage.{WithinRadius, turned, ChunksBelowD, wrongInAll, lostInAll}
 use Rattle.position_theory.specs.ChunkBits.{CountsDiffering, BitsOfChunks, AreTurned}
 use Rattle.level_theory.specs.UnitLevels.{OneLevels, UnitLevels}
-use Rattle.level_theory.specs.LevelPromises.{heardOf, bitsOf, wordOfBits}
+use Rattle.level_theory.specs.LevelsSeen.{heardOf, bitsOf, wordOfBits}
 use Rattle.reed_muller_theory.specs.MadeCards.{IsReedMullerCard}
 use Rattle.dunnavish.specs.Crossing.{cardBytes, cardCount, numberCount, readCount, strengthCount, voteCount, leftBy}
 

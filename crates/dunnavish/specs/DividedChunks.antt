@@ -6,8 +6,7 @@ use Prim.Native.Nat.{ℕ, _+_, _*_, _≤_}
 use lib.ListN.{length}
 use Rattle.model.specs.Card.{codeOf, SoundCard}
 use Rattle.model.specs.Order.{lastPosition}
-use Rattle.position_theory.specs.Damage.{turned}
-use Rattle.position_theory.specs.DividedChunks.{UndividedWithinRadius}
+use Rattle.position_theory.specs.Damage.{turned, UndividedWithinRadius}
 use Rattle.dunnavish.specs.Crossing.{readCount}
 use Rattle.dunnavish.specs.Demands.{residualLeft, ServedNear}
 

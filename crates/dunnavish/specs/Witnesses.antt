@@ -26,13 +26,11 @@ use Rattle.model.specs.declared.ReadAnswer.the-variants.{At, Refused as ReadRef
 use Rattle.model.specs.declared.VoteAnswer.{VoteAnswer}
 use Rattle.model.specs.declared.VoteAnswer.the-variants.{Voted, Refused as VoteRefused}
 use Rattle.code_theory.specs.Offsets.{OldCard, CheckedAsBefore, DistanceAsBefore}
-use Rattle.position_theory.specs.Demands.{OffByAtMostTwiceTurned, OffByAtMostTurnedAndResidual}
-use Rattle.position_theory.specs.DividedChunks.{ReadWithDividedAtWill, BarHoldsPosition}
-use Rattle.position_theory.specs.ChunkBits.{TellsBitsOfChunks, NeededAsTurned}
-use Rattle.position_theory.specs.Contradictions.{ReadOnlyIfParityAgrees, PastedNeverRead}
+use Rattle.position_theory.specs.ReadPromises.{OffByAtMostTwiceTurned, OffByAtMostTurnedAndResidual, ReadWithDividedAtWill}
+use Rattle.position_theory.specs.ReadPromises.{BarHoldsPosition, TellsBitsOfChunks, NeededAsTurned, ReadOnlyIfParityAgrees, PastedNeverRead}
 use Rattle.level_theory.specs.UnitLevels.{OneLevels}
-use Rattle.level_theory.specs.LevelPromises.{AsPlainReading, OffByAtMostTwiceWrongAndLost}
-use Rattle.level_theory.specs.LevelContradictions.{LevelsReadOnlyIfParityAgrees, PastedLevelsNeverRead}
+use Rattle.level_theory.specs.LevelPromises.{AsPlainReading, OffByAtMostTwiceWrongAndLost, LevelsReadOnlyIfParityAgrees}
+use Rattle.level_theory.specs.LevelPromises.{PastedLevelsNeverRead}
 use Rattle.reed_muller_theory.specs.MadeCards.{IsReedMullerCard}
 use Rattle.reed_muller_theory.specs.Votes.{KeepsPromise, AnswersAsSearch}
 use Rattle.dunnavish.specs.Crossing.{cardBytes, cardCount, numberCount, readCount, strengthCount, voteCount, leftBy, UnchangedUnlessZero}

@@ -15,11 +15,12 @@ use Rattle.position_theory.specs.Contradictions.{contradicted}
 use Rattle.position_theory.proofs.RuleReads.{reads-in-code}
 use Rattle.position_theory.proofs.Contradictions.{parity-agrees, separator-from, pasted-refused, seventeen-past-card}
 use Rattle.position_theory.proofs.Demands.{card-promise}
-use Rattle.level_theory.specs.LevelContradictions.{seenOf, LevelsReadOnlyIfParityAgrees, PastedLevelsNeverRead}
-use Rattle.level_theory.specs.LevelContradictions.{levelsAnswerBefore, LevelsAsBeforeUnlessContradicted}
+use Rattle.level_theory.specs.LevelPromises.{LevelsReadOnlyIfParityAgrees, PastedLevelsNeverRead, LevelsAsBeforeUnlessContradicted, LevelPromises}
+use Rattle.level_theory.specs.LevelsSeen.{seenOf}
+use Rattle.level_theory.specs.LevelContradictions.{levelsAnswerBefore}
 use Rattle.level_theory.proofs.UnitsTold.{unit-told}
 use Rattle.level_theory.proofs.LevelsSeen.{told-sees-chunks, told-sees}
-use Rattle.level_theory.proofs.LevelPromises.{position-answered, levels-show}
+use Rattle.level_theory.proofs.LevelPromises.{position-answered, levels-show, nearest-over-heard, tells-wrong-of-chunks, as-plain-reading}
 
 module _ (card : List ℕ) (levels : List Float) where
   pub levels-read-only-if-parity-agrees : LevelsReadOnlyIfParityAgrees card levels (positionAnswer (levelsAnswer card levels))
@@ -48,3 +49,15 @@ module _ (card : List ℕ) (levels : List Float) where
   unfolding LevelsAsBeforeUnlessContradicted levelsAnswerBefore levelsAnswer levelsRefusal rowsOfLevels rowsSeen rows9To12 numbered
   levels-as-before-unless-contradicted =
       position-answered (codeOf card) levels _ ∙ seventeen-past-card (cardRefusal card) _ refl (contradicted (seenOf card levels)) _
+
+  -- all that is promised of a read of levels beside its bound
+  pub level-promises : LevelPromises card levels (positionAnswer (levelsAnswer card levels))
+  level-promises =
+      record {
+        nearest = nearest-over-heard card levels;
+        bits = tells-wrong-of-chunks card levels;
+        plain = as-plain-reading card levels;
+        agrees = levels-read-only-if-parity-agrees;
+        pasted = pasted-levels-never-read;
+        before = levels-as-before-unless-contradicted;
+      }

@@ -40,8 +40,10 @@ use Rattle.position_theory.proofs.ChunkBits.{wrong-of-chunks}
 use Rattle.position_theory.proofs.ReadWords.{read-if-served}
 use Rattle.position_theory.proofs.Demands.{card-promise, read-sound}
 use Rattle.level_theory.specs.UnitLevels.{OneLevels, UnitLevels, one}
-use Rattle.level_theory.specs.LevelPromises.{ChunksReadBelowD, heardOf, bitsOf, NearestOverHeard, TellsWrongOfChunks}
-use Rattle.level_theory.specs.LevelPromises.{wordOfBits, AsPlainReading, OffByAtMostTwiceWrongAndLost}
+use Rattle.level_theory.specs.LevelPromises.{NearestOverHeard, TellsWrongOfChunks}
+use Rattle.level_theory.specs.LevelsSeen.{heardOf, bitsOf, wordOfBits}
+use Rattle.level_theory.specs.ReadsBelowD.{ChunksReadBelowD}
+use Rattle.level_theory.specs.LevelPromises.{AsPlainReading, OffByAtMostTwiceWrongAndLost}
 use Rattle.level_theory.proofs.UnitsTold.{UnitOrLost, one-told, unit-told, one-heard, unit-inside}
 use Rattle.level_theory.proofs.HeardCounts.{told-bit}
 use Rattle.level_theory.proofs.LevelsSeen.{told-sees-chunks, told-sees, as-plain-seen, as-plain-residual}

@@ -39,10 +39,13 @@ use Rattle.position_theory.specs.Contradictions.{NamedChunk, unlessContradicted
 use Rattle.position_theory.specs.Witnesses.{ReadAs, ReadWithin, NoneReads}
 use Rattle.position_theory.proofs.Witnesses.{computed, near-within, read-as, refused-as, first-codeword, first-agrees, second-agrees}
 use Rattle.level_theory.specs.UnitLevels.{OneLevel, plus-one, minus-one, OneLevels, UnitLevel, one, zero-level, UnitLevels}
-use Rattle.level_theory.specs.LevelPromises.{ChunksReadBelowD, heardOf, bitsOf, NearestOverHeard, TellsWrongOfChunks}
-use Rattle.level_theory.specs.LevelPromises.{AsPlainReading, OffByAtMostTwiceWrongAndLost}
-use Rattle.level_theory.specs.LevelContradictions.{seenOf, LevelsReadOnlyIfParityAgrees, SeparatorFrom, PastedLevels}
-use Rattle.level_theory.specs.LevelContradictions.{PastedLevelsNeverRead, levelsAnswerBefore, LevelsAsBeforeUnlessContradicted}
+use Rattle.level_theory.specs.LevelPromises.{NearestOverHeard, TellsWrongOfChunks}
+use Rattle.level_theory.specs.LevelsSeen.{heardOf, bitsOf, seenOf}
+use Rattle.level_theory.specs.ReadsBelowD.{ChunksReadBelowD}
+use Rattle.level_theory.specs.LevelPromises.{AsPlainReading, OffByAtMostTwiceWrongAndLost, LevelsReadOnlyIfParityAgrees}
+use Rattle.level_theory.specs.LevelPromises.{PastedLevelsNeverRead, LevelsAsBeforeUnlessContradicted}
+use Rattle.level_theory.specs.LevelContradictions.{SeparatorFrom, PastedLevels}
+use Rattle.level_theory.specs.LevelContradictions.{levelsAnswerBefore}
 use Rattle.level_theory.specs.LevelWitnesses.{levelOf, levelsOf, sevenWrong, lastWrong, lastLost, allDamaged, zeroDamaged}
 use Rattle.level_theory.specs.LevelWitnesses.{wrongAndLost, threeLost, mixed, mixedLost, mixedWrong, LevelsWitnessed}
 

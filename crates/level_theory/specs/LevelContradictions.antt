@@ -1,6 +1,5 @@
--- Document 02, P6, of words of levels: what is promised of every word that is read, that a word pasted from two telegrams is never read, and
--- which words are answered otherwise than without P6. The definitions are those of plain words, applied to what the levels tell.
--- Assumes nothing.
+-- Document 02, P6, of words of levels: that levels are pasted from two telegrams, and what was answered without P6. The definitions are those
+-- of plain words, applied to what the levels tell. Assumes nothing.
 use mathlib.Core.Path.{_≡_}
 use mathlib.Core.Bool.{not}
 use mathlib.Core.List.{List, _∷_}
@@ -14,24 +13,14 @@ use Rattle.model.specs.Card.{Code, codeOf, cardRefusal}
 use Rattle.model.specs.Order.{lastCodeword}
 use Rattle.model.specs.Words.{wordBits, word}
 use Rattle.model.specs.Reading.{Seen, ruleSeen, separatorBy, twoEnds, rows9To12}
-use Rattle.model.specs.Levels.{anyOutside, toldAt, seenTold}
+use Rattle.model.specs.Levels.{anyOutside, toldAt}
 use Rattle.model.specs.ReadLevels.{readingTold}
-use Rattle.model.specs.declared.Reading.{Reading}
 use Rattle.model.specs.declared.ReadAnswer.{ReadAnswer}
 use Rattle.model.specs.declared.ReadAnswer.the-variants.{At, Refused}
 use Rattle.position_theory.specs.Damage.{ChunkBelowD}
-use Rattle.position_theory.specs.Contradictions.{AgreesIfRead, separatorChunk, NamedChunk, contradicted, unlessContradicted}
+use Rattle.position_theory.specs.Contradictions.{separatorChunk, NamedChunk}
 use Rattle.level_theory.specs.UnitLevels.{UnitLevels}
-use Rattle.level_theory.specs.LevelPromises.{heardOf, bitsOf}
-
--- what is seen of a word of levels
-abbrev pub seenOf : (card : List ℕ) (levels : List Float) → Seen
-seenOf card levels = seenTold (codeOf card) (toldAt levels)
-
--- Of every word of levels that is read, on every card: the code chunks that its rule names read as one codeword c(p), and the rule's
--- separator, by the sum of its levels, reads as the parity of p
-unfoldable pub LevelsReadOnlyIfParityAgrees : (card : List ℕ) (levels : List Float) → ReadAnswer → Type 0
-LevelsReadOnlyIfParityAgrees card levels answer = AgreesIfRead (codeOf card) (seenOf card levels) answer
+use Rattle.level_theory.specs.LevelsSeen.{heardOf, bitsOf, seenOf}
 
 -- the rule's separator is from w(i): whatever the levels are, it reads as the parity of i, or they are 1, -1 and 0, and it has
 -- 2 × wrong + lost below D
@@ -52,10 +41,6 @@ pub record PastedLevels (card : List ℕ) (levels : List Float) (i j c : ℕ) : 
   pub separator : SeparatorFrom card levels i
   pub chunk : ChunkBelowD (codeOf card) (heardOf levels) (word (codeOf card) j) (bitsOf levels) c
 
--- such a word is never read
-unfoldable pub PastedLevelsNeverRead : (card : List ℕ) (levels : List Float) → ReadAnswer → Type 0
-PastedLevelsNeverRead card levels answer = (i j c : ℕ) → PastedLevels card levels i j c → (r : Reading) → answer ≡ At r → ⊥
-
 -- the answer without P6: rows 9 to 12 are the last
 unfoldable pub levelsAnswerBefore : (card : List ℕ) (levels : List Float) → ReadAnswer
 levelsAnswerBefore card levels =
@@ -68,9 +53,3 @@ levelsAnswerBefore card levels =
     ∷ refuses 16 (anyOutside (wordBits C) levels)
     ∷ rows9To12 (twoEnds C) s (ruleSeen s)))
     Refused (At (readingTold C (toldAt levels)))
-
--- The words that were read and no longer are: those in which that separator differs, each refused by 17. Every other word, on every card,
--- is answered as before, with the same values or the same refusal. (The strength goes with the reading.)
-unfoldable pub LevelsAsBeforeUnlessContradicted : (card : List ℕ) (levels : List Float) → ReadAnswer → Type 0
-LevelsAsBeforeUnlessContradicted card levels answer =
-    answer ≡ unlessContradicted (contradicted (seenOf card levels)) (levelsAnswerBefore card levels)

@@ -18,10 +18,10 @@ use Rattle.model.specs.declared.ReadAnswer.{ReadAnswer}
 use Rattle.model.specs.declared.ReadAnswer.the-variants.{At, Refused}
 use Rattle.position_theory.specs.Witnesses.{ReadAs, ReadWithin, NoneReads}
 use Rattle.level_theory.specs.UnitLevels.{plusOne, minusOne}
-use Rattle.level_theory.specs.LevelPromises.{ChunksReadBelowD, NearestOverHeard, TellsWrongOfChunks, AsPlainReading}
-use Rattle.level_theory.specs.LevelPromises.{OffByAtMostTwiceWrongAndLost}
-use Rattle.level_theory.specs.LevelContradictions.{LevelsReadOnlyIfParityAgrees, PastedLevelsNeverRead}
-use Rattle.level_theory.specs.LevelContradictions.{LevelsAsBeforeUnlessContradicted}
+use Rattle.level_theory.specs.LevelPromises.{NearestOverHeard, TellsWrongOfChunks, AsPlainReading}
+use Rattle.level_theory.specs.ReadsBelowD.{ChunksReadBelowD}
+use Rattle.level_theory.specs.LevelPromises.{OffByAtMostTwiceWrongAndLost, LevelsReadOnlyIfParityAgrees, PastedLevelsNeverRead}
+use Rattle.level_theory.specs.LevelPromises.{LevelsAsBeforeUnlessContradicted}
 
 -- ---- words of levels of card B, whose D is 3
 

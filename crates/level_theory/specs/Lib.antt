@@ -1,4 +1,6 @@
 pub mod UnitLevels
-pub mod LevelPromises
+pub mod LevelsSeen
+pub mod ReadsBelowD
 pub mod LevelContradictions
+pub mod LevelPromises
 pub mod LevelWitnesses

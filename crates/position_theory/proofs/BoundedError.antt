@@ -23,8 +23,7 @@ use Rattle.model.specs.declared.ReadAnswer.{ReadAnswer}
 use Rattle.model.specs.declared.ReadAnswer.the-variants.{At, Refused}
 use Rattle.code_theory.specs.Promise.{ChunkPromise}
 use Rattle.position_theory.specs.Damage.{turnedIn, wrongIn, ChunkBelowD, ChunksBelowD, ChunksWithin}
-use Rattle.position_theory.specs.Damage.{WithinRadius, turned, Near, residualOf}
-use Rattle.position_theory.specs.DividedChunks.{UndividedWithinRadius}
+use Rattle.position_theory.specs.Damage.{WithinRadius, turned, Near, residualOf, UndividedWithinRadius}
 use Rattle.position_theory.proofs.Words.{chunk-fits, five-distance}
 use Rattle.position_theory.proofs.WordBytes.{place-of-word, readingOfSeen, read-if-whole}
 use Rattle.position_theory.proofs.Blocks.{next-codeword, on-the-way, word-in-block}

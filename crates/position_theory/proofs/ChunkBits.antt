@@ -28,7 +28,7 @@ use Rattle.position_theory.specs.Damage.{turnedIn}
 use Rattle.position_theory.specs.SeenChunks.{SeesChunk, SeesChunks, NamedReads}
 use Rattle.position_theory.specs.Nearest.{refusalOf, allowedBy}
 use Rattle.position_theory.specs.ChunkBits.{TellsBits, TellsWrong, BitsOfChunks, WrongOfChunks}
-use Rattle.position_theory.specs.ChunkBits.{TellsBitsOfChunks, NeededAsTurned}
+use Rattle.position_theory.specs.ReadPromises.{TellsBitsOfChunks, NeededAsTurned}
 use Rattle.position_theory.proofs.RuleReads.{reads-in-code, word-reads}
 use Rattle.position_theory.proofs.PlainSeen.{plain-sees-chunks}
 use Rattle.position_theory.proofs.WordBytes.{place-of-word, readingOfSeen, reading, read-if-whole}

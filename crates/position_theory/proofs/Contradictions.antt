@@ -24,8 +24,9 @@ use Rattle.code_theory.proofs.Refusals.{numbered, rows-after, refused-if-some, 
 use Rattle.position_theory.specs.Damage.{ChunkBelowD}
 use Rattle.position_theory.specs.SeenChunks.{SeesChunks}
 use Rattle.position_theory.specs.Nearest.{refusalOf}
-use Rattle.position_theory.specs.Contradictions.{ParityAgrees, ReadOnlyIfParityAgrees, separatorChunk, NamedChunk, PastedNeverRead}
-use Rattle.position_theory.specs.Contradictions.{contradicted, unlessContradicted, answerBefore, AsBeforeUnlessContradicted}
+use Rattle.position_theory.specs.Contradictions.{ParityAgrees, separatorChunk, NamedChunk}
+use Rattle.position_theory.specs.ReadPromises.{ReadOnlyIfParityAgrees, PastedNeverRead, AsBeforeUnlessContradicted}
+use Rattle.position_theory.specs.Contradictions.{contradicted, unlessContradicted, answerBefore}
 use Rattle.position_theory.proofs.Separators.{of-every-rule}
 use Rattle.position_theory.proofs.Words.{word-chunk}
 use Rattle.position_theory.proofs.Telling.{Tells, Sees, first-tells, second-tells, word-tells}

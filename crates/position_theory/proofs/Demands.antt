@@ -17,11 +17,12 @@ use Rattle.code_theory.specs.Promise.{ChunkPromise}
 use Rattle.code_theory.proofs.Refusals.{past-card}
 use Rattle.code_theory.proofs.SoundCard.{sound-card}
 use Rattle.code_theory.proofs.Promise.{promise}
-use Rattle.position_theory.specs.Damage.{ChunksWithin, WithinRadius}
+use Rattle.position_theory.specs.Damage.{ChunksWithin, WithinRadius, UndividedWithinRadius}
 use Rattle.position_theory.specs.Nearest.{IsReading}
-use Rattle.position_theory.specs.Demands.{NeighboursDifferInOneBit, NoOtherPositionsWord, NearestOfAllowed}
-use Rattle.position_theory.specs.Demands.{OffByAtMostTwiceTurned, OffByAtMostTurnedAndResidual}
-use Rattle.position_theory.specs.DividedChunks.{UndividedWithinRadius, ReadWithDividedAtWill, BarHoldsPosition, AtMostOneDivided}
+use Rattle.position_theory.specs.WritePromises.{NeighboursDifferInOneBit, NoOtherPositionsWord}
+use Rattle.position_theory.specs.ReadPromises.{NearestOfAllowed, OffByAtMostTwiceTurned, OffByAtMostTurnedAndResidual}
+use Rattle.position_theory.specs.ReadPromises.{ReadWithDividedAtWill, BarHoldsPosition}
+use Rattle.position_theory.specs.DividedChunks.{AtMostOneDivided}
 use Rattle.position_theory.proofs.WordBytes.{differing-words, residual-counts, reading, read-if-whole}
 use Rattle.position_theory.proofs.RuleReads.{reads-in-code}
 use Rattle.position_theory.proofs.PlainSeen.{plain-sees-chunks}

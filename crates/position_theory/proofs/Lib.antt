@@ -21,4 +21,6 @@ pub mod ReadWords
 pub mod ChunkBits
 pub mod Contradictions
 pub mod Writing
+pub mod WritePromises
+pub mod ReadPromises
 pub mod Witnesses

@@ -34,13 +34,16 @@ use Rattle.model.specs.declared.ReadAnswer.{ReadAnswer}
 use Rattle.model.specs.declared.ReadAnswer.the-variants.{At, Refused}
 use Rattle.code_theory.proofs.Witnesses.{card-B-sound}
 use Rattle.position_theory.specs.Damage.{turnedIn, turnedInAll, turned, ChunksWithin, WithinRadius, Near, residualOf}
+use Rattle.position_theory.specs.Damage.{UndividedWithinRadius}
 use Rattle.position_theory.specs.Nearest.{refusalOf, allowedBy, NearestOf, IsReadingOf}
-use Rattle.position_theory.specs.Demands.{WrittenIfServable, UnchangedIfRefused, NeighboursDifferInOneBit, NoOtherPositionsWord}
-use Rattle.position_theory.specs.Demands.{NearestOfAllowed, OffByAtMostTwiceTurned, OffByAtMostTurnedAndResidual}
-use Rattle.position_theory.specs.DividedChunks.{UndividedWithinRadius, ReadWithDividedAtWill, BarHoldsPosition, AtMostOneDivided}
-use Rattle.position_theory.specs.ChunkBits.{TellsBits, BitsOfChunks, TellsBitsOfChunks, NeededAsTurned}
-use Rattle.position_theory.specs.Contradictions.{ParityAgrees, separatorChunk, NamedChunk, Pasted, ReadOnlyIfParityAgrees, PastedNeverRead}
-use Rattle.position_theory.specs.Contradictions.{unlessContradicted, answerBefore, AsBeforeUnlessContradicted}
+use Rattle.position_theory.specs.WritePromises.{WrittenIfServable, UnchangedIfRefused, NeighboursDifferInOneBit, NoOtherPositionsWord}
+use Rattle.position_theory.specs.ReadPromises.{NearestOfAllowed, OffByAtMostTwiceTurned, OffByAtMostTurnedAndResidual}
+use Rattle.position_theory.specs.ReadPromises.{ReadWithDividedAtWill, BarHoldsPosition, TellsBitsOfChunks, NeededAsTurned}
+use Rattle.position_theory.specs.ReadPromises.{ReadOnlyIfParityAgrees, PastedNeverRead, AsBeforeUnlessContradicted}
+use Rattle.position_theory.specs.DividedChunks.{AtMostOneDivided}
+use Rattle.position_theory.specs.ChunkBits.{TellsBits, BitsOfChunks}
+use Rattle.position_theory.specs.Contradictions.{ParityAgrees, separatorChunk, NamedChunk, Pasted}
+use Rattle.position_theory.specs.Contradictions.{unlessContradicted, answerBefore}
 use Rattle.position_theory.specs.Witnesses.{ReadAs, ReadWithin, ReadInBar, NoneReads, Witnessed}
 use Rattle.position_theory.specs.Witnesses.{sevenDamaged, lastDamaged, lastAllDamaged, eleven, zeroDamaged, tenDamaged, sevenInChunk2, dividedTurned, unreadableA}
 use Rattle.position_theory.specs.Witnesses.{mixed, mixedDamaged, mixedInChunk2, mixedByRule1, mixedByRule2}

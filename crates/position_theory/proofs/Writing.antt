@@ -16,7 +16,7 @@ use Rattle.model.specs.Order.{lastPosition}
 use Rattle.model.specs.Words.{wordBytes, wordLength}
 use Rattle.model.specs.WriteWord.{writeRefusal, writeAnswer, lentAfterWrite}
 use Rattle.model.specs.declared.WriteAnswer.the-variants.{Written, Refused}
-use Rattle.position_theory.specs.Demands.{WrittenIfServable, UnchangedIfRefused}
+use Rattle.position_theory.specs.WritePromises.{WrittenIfServable, UnchangedIfRefused}
 
 module _ (card : List ℕ) (position : ℕ) (lent : List ℕ) where
   -- the refusal's number, or 0

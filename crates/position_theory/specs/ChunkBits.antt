@@ -6,17 +6,14 @@ use mathlib.Core.List.{List}
 use Prim.Native.Nat.{ℕ, _+_, _*_, _≤_, _<_}
 use Rattle.bits.specs.Sums.{lostBelow}
 use Rattle.bits.specs.Places.{place}
-use Rattle.model.specs.Card.{Code, codeOf, SoundCard, radius}
-use Rattle.model.specs.Order.{lastCodeword, lastPosition}
+use Rattle.model.specs.Card.{Code, radius}
+use Rattle.model.specs.Order.{lastCodeword}
 use Rattle.model.specs.Words.{chunk₁, chunk₂, wordBytes}
-use Rattle.model.specs.Reading.{chunkDistance, Seen, seen, ruleSeen, namesFirst, namesSecond, twoEnds, bitsValue}
+use Rattle.model.specs.Reading.{chunkDistance, Seen, seen, ruleSeen, namesFirst, namesSecond, twoEnds}
 use Rattle.model.specs.Levels.{chunkWrong}
 use Rattle.model.specs.declared.ChunkBits.{ChunkBits}
 use Rattle.model.specs.declared.ChunkBits.the-variants.{Differing, NotRead}
-use Rattle.model.specs.declared.Reading.{Reading}
-use Rattle.model.specs.declared.ReadAnswer.{ReadAnswer}
-use Rattle.model.specs.declared.ReadAnswer.the-variants.{At}
-use Rattle.position_theory.specs.Damage.{turnedIn, WithinRadius}
+use Rattle.position_theory.specs.Damage.{turnedIn}
 use Rattle.position_theory.specs.Nearest.{allowedBy}
 
 -- a number is the count of places in which a code chunk and c(p) differ, and it is at most t
@@ -59,23 +56,9 @@ WrongOfChunks C heard x s =
     (λ named. TellsWrong C named (chunk₁ C heard) (chunk₁ C x))
     (λ named. TellsWrong C named (chunk₂ C heard) (chunk₂ C x))
 
--- of every plain word that is read, on every card
-unfoldable pub TellsBitsOfChunks : (card received : List ℕ) → ReadAnswer → Type 0
-TellsBitsOfChunks card received answer =
-    (r : Reading) → answer ≡ At r
-    → BitsOfChunks ChunkBits TellsBits (codeOf card) (place received) (r .rule) (r .chunk1) (r .chunk2)
-
 -- as numbers, the bits of either code chunk, where the rule names it, are those of the position's word that are turned in it (of the five
 -- chunks, 0 to 4, the code chunks are 1 and 3)
 abbrev pub AreTurned : Code → (position : ℕ) (received : List ℕ) (rule bits₁ bits₂ : ℕ) → Type 0
 AreTurned C position received rule bits₁ bits₂ =
     (namesFirst rule ≡ true → bits₁ ≡ turnedIn C 1 (place (wordBytes C position)) (place received))
     × (namesSecond rule ≡ true → bits₂ ≡ turnedIn C 3 (place (wordBytes C position)) (place received))
-
--- Damage per chunk: for a sound card, every position on its track and whichever bits of that position's word are turned, at most t in
--- each of the five chunks, a chunk that is read needed as many bits as are turned in it
-unfoldable pub NeededAsTurned : (card received : List ℕ) → ReadAnswer → Type 0
-NeededAsTurned card received answer =
-    (position : ℕ) → SoundCard card → position ≤ lastPosition (codeOf card) → WithinRadius (codeOf card) position received
-    → (r : Reading) → answer ≡ At r
-    → AreTurned (codeOf card) position received (r .rule) (bitsValue (r .chunk1)) (bitsValue (r .chunk2))

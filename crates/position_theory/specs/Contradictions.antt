@@ -1,5 +1,5 @@
--- Document 02, P6, "Separators that contradict the codeword": what is promised of every word that is read, that a word pasted from two
--- telegrams is never read, and which words are answered otherwise than without P6. Assumes nothing.
+-- Document 02, P6, "Separators that contradict the codeword": that a word's separator has the parity of its
+-- codeword, that a word is pasted from two telegrams, and what was answered without P6. Assumes nothing.
 use mathlib.Core.Path.{_≡_}
 use mathlib.Core.Bool.{Bool, true, false, cond, not}
 use mathlib.Core.List.{List, _∷_}
@@ -34,12 +34,9 @@ pub record ParityAgrees (C : Code) (s : Seen) (rule : ℕ) : Type 0 where
   pub second : NamedReads (namesSecond rule) (s .read₂) p
   pub parity : separatorBy s rule ≡ p % 2
 
--- this holds of every word that is read: said of whatever is seen of a word, then of plain words, on every card
+-- this holds of a word that is read, whatever is seen of it
 abbrev pub AgreesIfRead : Code → Seen → ReadAnswer → Type 0
 AgreesIfRead C s answer = (r : Reading) → answer ≡ At r → ParityAgrees C s (r .rule)
-
-unfoldable pub ReadOnlyIfParityAgrees : (card received : List ℕ) → ReadAnswer → Type 0
-ReadOnlyIfParityAgrees card received answer = AgreesIfRead (codeOf card) (seen (codeOf card) (place received)) answer
 
 -- ---- words pasted from two telegrams
 
@@ -60,11 +57,6 @@ pub record Pasted (C : Code) (x : ℕ → ℕ) (i j c : ℕ) : Type 0 where
   pub named : NamedChunk (ruleNamed C x) c
   pub separator : turnedIn C (separatorChunk (ruleNamed C x)) (word C i) x ≤ radius C
   pub chunk : turnedIn C c (word C j) x ≤ radius C
-
--- such a word is never read
-unfoldable pub PastedNeverRead : (card received : List ℕ) → ReadAnswer → Type 0
-PastedNeverRead card received answer =
-    (i j c : ℕ) → Pasted (codeOf card) (place received) i j c → (r : Reading) → answer ≡ At r → ⊥
 
 -- ---- what is answered otherwise than without P6
 
@@ -90,9 +82,3 @@ answerBefore card received =
     ∷ refuses 8 (spareSet C received)
     ∷ rows9To12 (twoEnds C) (seen C x) (ruleNamed C x)))
     Refused (At (readingOf C received))
-
--- The words that were read and no longer are: those in which that separator differs, each refused by 17. Every other word, on every card,
--- is answered as before, with the same values or the same refusal.
-unfoldable pub AsBeforeUnlessContradicted : (card received : List ℕ) → ReadAnswer → Type 0
-AsBeforeUnlessContradicted card received answer =
-    answer ≡ unlessContradicted (contradicted (seen (codeOf card) (place received))) (answerBefore card received)

@@ -1,5 +1,6 @@
 -- Document 01, "Reading a word", last paragraph: the bits that the cable turns, chunk by chunk, and how far one position is
--- from another. Document 02, P5: the bits of a chunk that are wrong and those that are lost. Assumes nothing.
+-- from another. Document 02, P5: the bits of a chunk that are wrong and those that are lost; and P7: words whose
+-- divided chunk is turned at will. Assumes nothing.
 use mathlib.Core.Path.{_≡_}
 use mathlib.Core.Bool.{Bool, false}
 use mathlib.Core.List.{List}
@@ -8,7 +9,7 @@ use lib.ListN.{length}
 use Rattle.bits.specs.Sums.{sumBelow, distance, distanceHeard, lostBelow}
 use Rattle.bits.specs.Places.{place}
 use Rattle.model.specs.Card.{Code, radius}
-use Rattle.model.specs.Words.{chunkSize, chunkOf, wordBytes, wordLength}
+use Rattle.model.specs.Words.{chunkSize, chunkOf, wordBytes, wordLength, divided}
 use Rattle.model.specs.ReadWord.{spareSet}
 use Rattle.model.specs.declared.ReadAnswer.{ReadAnswer}
 use Rattle.model.specs.declared.ReadAnswer.the-variants.{At, Refused}
@@ -56,6 +57,14 @@ pub record WithinRadius (C : Code) (position : ℕ) (received : List ℕ) : Type
   pub right-length : length received ≡ wordLength C
   pub spare-zero : spareSet C received ≡ false
   pub chunks : ChunksWithin C (radius C) (place (wordBytes C position)) (place received)
+
+-- The received bytes are a word with spare bits zero in which each chunk of the position's word that is not divided has at most t bits
+-- turned. A divided chunk may be turned at will; where none is divided, the limit binds all five, as in `WithinRadius`.
+pub record UndividedWithinRadius (C : Code) (position : ℕ) (received : List ℕ) : Type 0 where
+  pub right-length : length received ≡ wordLength C
+  pub spare-zero : spareSet C received ≡ false
+  pub chunks : (c : ℕ) → c < 5 → divided C position c ≡ false
+      → turnedIn C c (place (wordBytes C position)) (place received) ≤ radius C
 
 -- an answer that is no refusal, whose position is at most e steps from this one
 unfoldable pub Near : ReadAnswer → (position e : ℕ) → Type 0

@@ -16,11 +16,11 @@ use Rattle.model.specs.declared.WriteAnswer.the-variants.{Written, Refused as W
 use Rattle.model.specs.declared.Reading.{Reading}
 use Rattle.model.specs.declared.ReadAnswer.{ReadAnswer}
 use Rattle.model.specs.declared.ReadAnswer.the-variants.{At, Refused}
-use Rattle.position_theory.specs.Demands.{WrittenIfServable, UnchangedIfRefused, NeighboursDifferInOneBit, NoOtherPositionsWord}
-use Rattle.position_theory.specs.Demands.{NearestOfAllowed, OffByAtMostTwiceTurned, OffByAtMostTurnedAndResidual}
-use Rattle.position_theory.specs.DividedChunks.{ReadWithDividedAtWill, BarHoldsPosition, AtMostOneDivided}
-use Rattle.position_theory.specs.ChunkBits.{TellsBitsOfChunks, NeededAsTurned}
-use Rattle.position_theory.specs.Contradictions.{ReadOnlyIfParityAgrees, PastedNeverRead, AsBeforeUnlessContradicted}
+use Rattle.position_theory.specs.WritePromises.{WrittenIfServable, UnchangedIfRefused, NeighboursDifferInOneBit, NoOtherPositionsWord}
+use Rattle.position_theory.specs.ReadPromises.{NearestOfAllowed, OffByAtMostTwiceTurned, OffByAtMostTurnedAndResidual}
+use Rattle.position_theory.specs.ReadPromises.{ReadWithDividedAtWill, BarHoldsPosition, TellsBitsOfChunks, NeededAsTurned}
+use Rattle.position_theory.specs.ReadPromises.{ReadOnlyIfParityAgrees, PastedNeverRead, AsBeforeUnlessContradicted}
+use Rattle.position_theory.specs.DividedChunks.{AtMostOneDivided}
 
 -- ---- what rows say of an answer
 

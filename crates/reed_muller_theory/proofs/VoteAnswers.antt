@@ -16,7 +16,7 @@ use Rattle.model.specs.declared.Chunk.{Chunk}
 use Rattle.model.specs.declared.Chunk.the-variants.{Codeword, Unreadable}
 use Rattle.model.specs.declared.VoteAnswer.{VoteAnswer}
 use Rattle.model.specs.declared.VoteAnswer.the-variants.{Voted, Refused}
-use Rattle.reed_muller_theory.specs.Votes.{ReadAsPromised, KeepsPromise, AnswersAsSearch}
+use Rattle.reed_muller_theory.specs.Votes.{ReadAsPromised, KeepsPromise, AnswersAsSearch, VotePromises}
 use Rattle.reed_muller_theory.proofs.OrderLimits.{limits-of-test}
 use Rattle.reed_muller_theory.proofs.LeastDistance.{sound-code}
 use Rattle.reed_muller_theory.proofs.MadeCards.{code-of-made}
@@ -73,3 +73,6 @@ vote-keeps-promise r m chunk within narrow = promised r m chunk within narrow
 pub vote-as-search : (r m chunk : ℕ) → AnswersAsSearch r m chunk (voteAnswer r m chunk)
 vote-as-search r m chunk track within narrow =
     rw (alike r m chunk within narrow track) (told r m chunk within narrow (chunkReading (codeOf (reedMullerCard track r m)) (bit chunk)))
+
+pub vote-promises : (r m chunk : ℕ) → VotePromises r m chunk (voteAnswer r m chunk)
+vote-promises r m chunk = record { promised = vote-keeps-promise r m chunk; as-search = vote-as-search r m chunk }

@@ -30,3 +30,8 @@ AnswersAsSearch r m chunk answer =
     (track : ℕ) → orderWithinLimits r m ≡ true → chunk < 2 ^ 2 ^ m
     → let read : Chunk = chunkReading (codeOf (reedMullerCard track r m)) (bit chunk) in
     (voteStatus answer ≡ chunkStatus read) × (voteValues answer ≡ chunkValues read)
+
+-- what is promised of a vote on a chunk beside the equation
+pub record VotePromises (r m chunk : ℕ) (answer : VoteAnswer) : Type 0 where
+  pub promised : KeepsPromise r m chunk answer
+  pub as-search : AnswersAsSearch r m chunk answer

@@ -6,7 +6,7 @@ use native.Mathlib.Omega.{arith}
 use borrow.Author.Needs.{needs}
 use Rattle.model.specs.declared.WriteAnswer.{WriteAnswer}
 use Rattle.model.specs.declared.WriteAnswer.the-variants.{Written, Refused}
-use Rattle.position_theory.specs.Demands.{UnchangedIfRefused}
+use Rattle.position_theory.specs.WritePromises.{UnchangedIfRefused}
 use Rattle.model.specs.WriteWord.{writeStatus}
 use Rattle.dunnavish.specs.Crossing.{UnchangedUnlessZero}
 use Rattle.dunnavish.proofs.dunnavish_write_word.Statement.{statement}

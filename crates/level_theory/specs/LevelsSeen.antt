@@ -1,0 +1,26 @@
+-- What the levels of a word tell: the places that are heard, the bits there, what is seen of the word, and the word of these bits. Assumes
+-- nothing.
+use mathlib.Core.Bool.{Bool}
+use mathlib.Core.List.{List}
+use Prim.Native.Nat.{ℕ}
+use lib.Ieee.{Float}
+use Rattle.bits.specs.Places.{pack}
+use Rattle.model.specs.Card.{codeOf}
+use Rattle.model.specs.Words.{wordBits}
+use Rattle.model.specs.Reading.{Seen}
+use Rattle.model.specs.Levels.{toldAt, heardIn, bitsIn, seenTold}
+
+-- the places that are heard, and the bits there
+abbrev pub heardOf : (levels : List Float) (p : ℕ) → Bool
+heardOf levels = heardIn (toldAt levels)
+
+abbrev pub bitsOf : (levels : List Float) (p : ℕ) → ℕ
+bitsOf levels = bitsIn (toldAt levels)
+
+-- what is seen of a word of levels
+abbrev pub seenOf : (card : List ℕ) (levels : List Float) → Seen
+seenOf card levels = seenTold (codeOf card) (toldAt levels)
+
+-- the word of the bits of levels, as it travels
+abbrev pub wordOfBits : (card : List ℕ) (levels : List Float) → List ℕ
+wordOfBits card levels = pack (wordBits (codeOf card)) (bitsOf levels)

@@ -1,0 +1,25 @@
+-- Document 02, P5: what a code chunk with lost bits reads as. Assumes nothing.
+use mathlib.Core.Path.{_≡_}
+use mathlib.Core.Bool.{Bool}
+use mathlib.Core.List.{List}
+use Prim.Native.Nat.{ℕ, _+_, _*_, _≤_, _<_}
+use Rattle.bits.specs.Sums.{lostBelow}
+use Rattle.model.specs.Card.{Code, codeOf, SoundCard}
+use Rattle.model.specs.Order.{lastCodeword}
+use Rattle.model.specs.Levels.{chunkWrong, heardReading}
+use Rattle.model.specs.declared.Chunk.the-variants.{Codeword}
+
+-- codeword p is one for which 2 × wrong + lost is below D, of a chunk of which these places are heard
+abbrev pub BelowD : Code → (heard : ℕ → Bool) (chunk : ℕ → ℕ) (p : ℕ) → Type 0
+BelowD C heard chunk p = (p ≤ lastCodeword C) × (2 * chunkWrong C heard chunk p + lostBelow heard (C .n) < C .D)
+
+-- A code chunk reads as the codeword for which 2 × wrong + lost is below D: there is one at most, it is what is read, with its count of
+-- wrong places, and nothing else is
+pub record ReadsBelowD (C : Code) (heard : ℕ → Bool) (chunk : ℕ → ℕ) : Type 0 where
+  pub one : (p q : ℕ) → BelowD C heard chunk p → BelowD C heard chunk q → p ≡ q
+  pub read : (p : ℕ) → BelowD C heard chunk p → heardReading C heard chunk ≡ Codeword p (chunkWrong C heard chunk p)
+  pub below : (p e : ℕ) → heardReading C heard chunk ≡ Codeword p e → BelowD C heard chunk p × (e ≡ chunkWrong C heard chunk p)
+
+-- for every sound card, every chunk and whichever places of it are heard
+unfoldable pub ChunksReadBelowD : (card : List ℕ) → Type 0
+ChunksReadBelowD card = SoundCard card → (heard : ℕ → Bool) (chunk : ℕ → ℕ) → ReadsBelowD (codeOf card) heard chunk
