@@ -4,7 +4,7 @@
 use mathlib.Core.Path.{_≡_, refl, sym, ap, _∙_}
 use mathlib.Core.Logic.{⊎-elim}
 use Prim.Native.Nat.{ℕ, zero, suc, _+_, _*_, _/_, _%_, _^_, _≤_, _<_, min, max}
-use native.Mathlib.Nat.{lt-of-lt-of-le, zero-lt-suc, zero-add, add-zero, pow-succ', div-one, zero-div, div-eq-of-lt, div-self}
+use native.Mathlib.Nat.{lt-of-lt-of-le, le-dest, zero-lt-suc, zero-add, add-zero, pow-succ', div-one, zero-div, div-eq-of-lt, div-self}
 use native.Mathlib.Nat.{div-div-eq-div-mul, mod-lt, mod-one, mod-eq-of-lt, mod-add-mod, add-mod-mod, mul-add-mod-self-right}
 use native.Mathlib.Numerals.{one-add}
 use native.Mathlib.Omega.{arith}
@@ -15,7 +15,7 @@ use lib.Pow.{pow-pos, pow-mono, mod-pow-add}
 use Rattle.bits.specs.Sums.{sumBelow, unlike, distance}
 use Rattle.bits.specs.Places.{bit, weight}
 use Rattle.bits.proofs.Numbers.{eq-or-ne}
-use Rattle.bits.proofs.Sums.{sum-ext, sum-zero, sum-of-bits, summand-le}
+use Rattle.bits.proofs.Sums.{sum-ext, sum-zero, sum-split, sum-of-bits, summand-le}
 
 -- ---- the digits of a number
 
@@ -155,6 +155,15 @@ weight-zero n = sum-zero n (λ p l. bit-zero p)
 pub zero-of-weight : (n x : ℕ) → x < 2 ^ n → weight n x ≡ 0 → x ≡ 0
 unfolding weight
 zero-of-weight n x h e = bit-ext-below n x 0 h (pow-pos n) (λ p l. omega (arith, summand-le (bit x) n p l) ∙ sym (bit-zero p))
+
+-- a number below 2 ^ m weighs as much in a wider range
+pub weight-wider : (m n x : ℕ) → m ≤ n → x < 2 ^ m → weight n x ≡ weight m x
+unfolding weight
+weight-wider m n x wider l =
+    let (more, is) = le-dest wider in
+    ap (sumBelow (bit x)) (sym is)
+    ∙ sum-split (bit x) m more
+    ∙ omega (arith, sum-zero {f = λ q. bit x (m + q)} more (λ q h. bit-high x m (m + q) l (omega arith)))
 
 -- the weight of an exclusive-or is the distance of the two
 pub weight-xor : (n x y : ℕ) → weight n (bitXor x y) ≡ distance n (bit x) (bit y)

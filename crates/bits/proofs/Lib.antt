@@ -11,3 +11,4 @@ pub mod ByteLists
 pub mod Masks
 pub mod LowestOne
 pub mod Shifts
+pub mod Counting

@@ -2,3 +2,4 @@ pub mod Sums
 pub mod Walk
 pub mod Places
 pub mod Searches
+pub mod Counting

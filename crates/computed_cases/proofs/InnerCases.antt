@@ -5,12 +5,13 @@ use Rattle.bits.specs.Sums.{sumBelow, distance, joinAt}
 use Rattle.bits.specs.Walk.{walk}
 use Rattle.bits.specs.Places.{weight, listOf}
 use Rattle.bits.specs.Searches.{anyBelow, greatest}
+use Rattle.bits.specs.Counting.{those}
 use Rattle.model.specs.Refusals.{firstRefusal, unlessRefused}
 use Rattle.model.specs.Card.{highFirst, rowOf, twosComplement, offsetOf, sumOfRows, leastWeight, codeOf}
 use Rattle.model.specs.CardBytes.{bytesOf, rowBytes, sealed, cardOf}
 use Rattle.model.specs.Order.{sumAfterRow, sumBeforeRow, gray, lastCodeword, codeword, changedRow, changedWeight, start, lastPosition}
 use Rattle.model.specs.Words.{millimetresOf, chunkSize, placesBefore, fiveChunks, word, blockOf, wordAt, divided}
-use Rattle.model.specs.ReedMuller.{those, orderWithinLimits}
+use Rattle.model.specs.ReedMuller.{orderWithinLimits}
 use Rattle.model.specs.MakeCard.{makeRefusal, makeAnswer}
 use Rattle.model.specs.CardsToTry.{cardA, cardB}
 use Rattle.computed_cases.specs.InnerCases.{Figures, innerCases, cardOfUnlikeBlocks, whereDivided, Divisions, dividedCases}

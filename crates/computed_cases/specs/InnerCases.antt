@@ -7,10 +7,10 @@ use Prim.Native.Nat.{ℕ, suc}
 use lib.IntN.{ℤ, pos, negℤ}
 use lib.ListN.{replicate}
 use Rattle.bits.specs.Places.{listOf}
+use Rattle.bits.specs.Counting.{those}
 use Rattle.model.specs.Card.{Code, offsetOf, codeOf}
 use Rattle.model.specs.Order.{rowShare, sumAfterRow, sumBeforeRow, lastPosition}
 use Rattle.model.specs.Words.{millimetresOf, divided}
-use Rattle.model.specs.ReedMuller.{those}
 use Rattle.model.specs.MakeCard.{makeAnswer}
 use Rattle.model.specs.CardsToTry.{cardWith, cardA, cardB}
 use Rattle.model.specs.declared.MadeCard.{MadeCard}

@@ -2,7 +2,7 @@
 -- A set of variables is an m-bit number S, whose bit v tells whether variable v is in it. A position p of the code, one of 2^m, gives
 -- variable v the value of its bit v. A bit function y gives each position 0 or 1. Assumes nothing.
 use mathlib.Core.Bool.{Bool, cond, _&&_}
-use mathlib.Core.List.{List, [], _∷_, _++_}
+use mathlib.Core.List.{List, _++_}
 use Prim.Native.Nat.{ℕ, zero, suc, _+_, _-_, _*_, _%_, _^_}
 use lib.Bits.{bitAnd, bitOr}
 use lib.Dec.{leb, ltb, eqb}
@@ -10,6 +10,7 @@ use lib.ListN.{length, getD}
 use Rattle.bits.specs.Sums.{sumBelow, sumOver}
 use Rattle.bits.specs.Places.{weight}
 use Rattle.bits.specs.Searches.{first}
+use Rattle.bits.specs.Counting.{those}
 use Rattle.model.specs.Card.{Code, codeWith}
 use Rattle.model.specs.CardBytes.{cardOf}
 use Rattle.model.specs.Order.{gray}
@@ -22,11 +23,6 @@ use Rattle.model.specs.declared.Chunk.the-variants.{Codeword, Unreadable
 -- the product of the variables of S: position p is 1 exactly when p has every bit of S
 unfoldable pub product : (S p : ℕ) → ℕ
 product S p = cond (eqb (bitAnd p S) S) 1 0
-
--- the numbers below b of which a test holds, in rising order
-unfoldable pub those : (test : ℕ → Bool) (b : ℕ) → List ℕ
-those test zero = []
-those test (suc b) = cond (test b) (those test b ++ (b ∷ [])) (those test b)
 
 -- the sets of s of the m variables, by S
 unfoldable pub setsOf : (m s : ℕ) → List ℕ

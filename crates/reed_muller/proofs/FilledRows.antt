@@ -13,10 +13,11 @@ use lib.Seq.{take-suc, take-length, getD-at, getD-set-same, getD-set-other}
 use borrow.Author.Tests.{lt-ltb, le-ltb}
 use Rattle.bits.proofs.Numbers.{lt-or-le, eq-or-ne}
 use Rattle.bits.proofs.ByteLists.{zero-byte}
+use Rattle.bits.proofs.Counting.{kept, kept-append, kept-below, kept-above}
 use Rattle.model.specs.ReedMuller.{setsUpTo, countOfSets, productRow, productOf}
 use Rattle.reed_muller_theory.proofs.Sets.{count-low}
 use Rattle.reed_muller_theory.proofs.ClassSums.{product-of-none}
-use Rattle.reed_muller_theory.proofs.FewerVariables.{kept, kept-append, kept-below, kept-above, kept-sets, first-empty}
+use Rattle.reed_muller_theory.proofs.FewerVariables.{kept-sets, first-empty}
 
 -- row z of the sets in a list; past them zero
 abbrev pub rowAt : (m : ℕ) (l : List ℕ) (z : ℕ) → ℕ

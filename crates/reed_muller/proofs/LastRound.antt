@@ -10,10 +10,11 @@ use lib.ListN.{getD}
 use lib.Pow.{pow-pos}
 use Rattle.bits.specs.Sums.{sumBelow, distance, unlike}
 use Rattle.bits.specs.Places.{bit, weight}
+use Rattle.bits.specs.Counting.{those}
 use Rattle.bits.proofs.Sums.{sum-ext, sum-add, sum-of-ones}
 use Rattle.bits.proofs.Binary.{bit-bit, weight-zero, weight-ones, ones-xor}
 use Rattle.bits.proofs.Shifts.{bit-all-ones}
-use Rattle.model.specs.ReedMuller.{those, setsOf, setsUpTo, countOfSets, productRow, classes, votesForOne}
+use Rattle.model.specs.ReedMuller.{setsOf, setsUpTo, countOfSets, productRow, classes, votesForOne}
 use Rattle.reed_muller_theory.proofs.Classes.{count-of-classes}
 use Rattle.reed_muller_theory.proofs.ClassSums.{product-of-none, class-sum-alone}
 use Rattle.reed_muller.specs.Table.{setsBefore}

@@ -16,14 +16,14 @@ use borrow.Author.Tests.{lt-ltb, le-ltb, eqb-true}
 use Rattle.bits.specs.Sums.{sumOver, unlike}
 use Rattle.bits.specs.Places.{bit, weight}
 use Rattle.bits.proofs.Sums.{sum-mono}
-use Rattle.bits.proofs.Binary.{bit-bit, bit-xor, weight-zero}
+use Rattle.bits.proofs.Binary.{bit-bit, bit-xor, weight-zero, weight-wider}
+use Rattle.bits.proofs.Counting.{those-pass, kept, kept-below, kept-above}
 use Rattle.model.specs.ReedMuller.{product, setsOf, setsUpTo, countOfSets, productRow, classSum, classes, votesForOne, coefficient, round}
-use Rattle.reed_muller_theory.proofs.Sets.{those-pass, weight-wider}
 use Rattle.reed_muller_theory.proofs.OrderLimits.{count-grows}
 use Rattle.reed_muller_theory.proofs.Vote.{vote-bit}
 use Rattle.reed_muller_theory.proofs.LeastDistance.{classes-of-largest}
 use Rattle.reed_muller_theory.proofs.Polynomials.{product-row-bit, product-row-narrow}
-use Rattle.reed_muller_theory.proofs.FewerVariables.{kept, kept-below, kept-above, kept-sets-of, kept-sets}
+use Rattle.reed_muller_theory.proofs.FewerVariables.{kept-sets-of, kept-sets}
 use Rattle.reed_muller.specs.Table.{setsBefore}
 use Rattle.reed_muller.specs.Rounds.{bitsThen, rowsAfter, LeftBy}
 use Rattle.reed_muller.proofs.FilledRows.{kept-last}

@@ -10,11 +10,12 @@ use lib.Pow.{pow-pos}
 use borrow.Author.Tests.{lt-ltb, le-ltb}
 use Rattle.bits.specs.Sums.{sumBelow}
 use Rattle.bits.specs.Places.{bit, weight, listOf}
+use Rattle.bits.specs.Counting.{those}
 use Rattle.bits.proofs.Numbers.{lt-or-le}
 use Rattle.bits.proofs.Binary.{bit-high}
 use Rattle.bits.proofs.Shifts.{bit-all-ones}
 use Rattle.bits.proofs.Places.{getD-listOf}
-use Rattle.model.specs.ReedMuller.{those, setsOf, setsUpTo, countOfSets, productRow}
+use Rattle.model.specs.ReedMuller.{setsOf, setsUpTo, countOfSets, productRow}
 use Rattle.reed_muller_theory.proofs.Sets.{set-below}
 use Rattle.reed_muller_theory.proofs.OrderLimits.{count-grows}
 use Rattle.reed_muller_theory.proofs.FewerVariables.{sets-first}

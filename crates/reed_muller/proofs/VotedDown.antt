@@ -16,13 +16,13 @@ use Rattle.bits.specs.Sums.{sumBelow, sumOver}
 use Rattle.bits.specs.Places.{bit, weight}
 use Rattle.bits.proofs.Sums.{sum-ext}
 use Rattle.bits.proofs.Binary.{weight-ones}
+use Rattle.bits.proofs.Counting.{those-pass}
 use Rattle.model.specs.Card.{radius}
 use Rattle.model.specs.Order.{gray}
 use Rattle.model.specs.Reading.{withinRadius}
 use Rattle.model.specs.ReedMuller.{setsOf, setsUpTo, countOfSets, reedMuller, classSum, classes, votesForOne, coefficient, round, afterRounds, voted}
 use Rattle.model.specs.ReedMuller.{product, votedRows, votedNumber, votedDistance, votedWithin, votedReading}
 use Rattle.model.specs.declared.Chunk.the-variants.{Codeword, Unreadable}
-use Rattle.reed_muller_theory.proofs.Sets.{those-pass}
 use Rattle.reed_muller_theory.proofs.Vote.{vote-bit}
 use Rattle.reed_muller_theory.proofs.LeastDistance.{least-distance}
 use Rattle.reed_muller_theory.proofs.VotedReading.{rows-below, number-is, tied-is-unreadable}

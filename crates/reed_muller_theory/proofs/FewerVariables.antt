@@ -1,75 +1,23 @@
 -- The sets of m variables among those of n: they are the ones below 2^m, in the same order. So one table of sets serves every m up to n.
 -- Assumes nothing.
-use mathlib.Core.Path.{_≡_, refl, sym, ap, ap₂, _∙_}
-use mathlib.Core.Bool.{Bool, true, false, cond}
-use mathlib.Core.List.{List, [], _∷_, _++_, append-nil}
+use mathlib.Core.Path.{_≡_, sym, ap, ap₂, _∙_}
+use mathlib.Core.List.{List, _++_}
 use mathlib.Core.Logic.{⊎-elim}
-use Prim.Native.Nat.{ℕ, zero, suc, _+_, _-_, _^_, _≤_, _<_, min}
-use native.Mathlib.Nat.{eq-zero-or-pos, le-dest, add-zero, add-suc, min-zero, min-eq-left, min-eq-right}
+use Prim.Native.Nat.{ℕ, zero, suc, _+_, _^_, _≤_, _<_}
+use native.Mathlib.Nat.{eq-zero-or-pos, le-dest, add-zero, add-suc, min-eq-left}
 use native.Mathlib.Omega.{arith}
-use lib.Dec.{ltb, eqb}
+use lib.Dec.{eqb}
 use lib.ListN.{length, getD, List·getD-append}
 use lib.Pow.{pow-mono}
-use borrow.Author.Tests.{lt-ltb, le-ltb}
 use Rattle.bits.specs.Places.{weight}
-use Rattle.bits.proofs.Numbers.{lt-or-le}
-use Rattle.bits.proofs.Binary.{zero-of-weight}
-use Rattle.model.specs.ReedMuller.{those, setsOf, setsUpTo, setOf, countOfSets}
-use Rattle.reed_muller_theory.proofs.Sets.{weight-wider, set-below, set-size, count-low, twice}
+use Rattle.bits.specs.Counting.{those}
+use Rattle.bits.proofs.Binary.{zero-of-weight, weight-wider}
+use Rattle.bits.proofs.Counting.{kept, kept-append, kept-those}
+use Rattle.model.specs.ReedMuller.{setsOf, setsUpTo, setOf, countOfSets}
+use Rattle.reed_muller_theory.proofs.Sets.{set-below, set-size, count-low, twice}
 use Rattle.reed_muller_theory.proofs.OrderLimits.{count-grows}
 
 -- ---- the sets
-
--- the entries of a list that are below b
-unfoldable pub kept : (b : ℕ) (l : List ℕ) → List ℕ
-kept b [] = []
-kept b (x ∷ l) = cond (ltb x b) (x ∷ kept b l) (kept b l)
-
-pub kept-below : (b x : ℕ) (l : List ℕ) → x < b → kept b (x ∷ l) ≡ x ∷ kept b l
-unfolding kept
-kept-below b x l h = rw (lt-ltb x b h)
-
-pub kept-above : (b x : ℕ) (l : List ℕ) → b ≤ x → kept b (x ∷ l) ≡ kept b l
-unfolding kept
-kept-above b x l h = rw (le-ltb x b h)
-
-pub kept-append : (b : ℕ) (k l : List ℕ) → kept b (k ++ l) ≡ kept b k ++ kept b l
-unfolding kept
-kept-append b [] l = refl
-kept-append b (x ∷ k) l = by-test (ltb x b) (kept-append b k l)
-  where
-    by-test : (t : Bool) → kept b (k ++ l) ≡ kept b k ++ kept b l
-        → cond t (x ∷ kept b (k ++ l)) (kept b (k ++ l)) ≡ cond t (x ∷ kept b k) (kept b k) ++ kept b l
-    by-test true e = ap (λ (r : List ℕ). x ∷ r) e
-    by-test false e = e
-
--- of the numbers below c that pass a test, those below b
-kept-those : (test narrow : ℕ → Bool) (b c : ℕ) → ((S : ℕ) → S < b → test S ≡ narrow S)
-    → kept b (those test c) ≡ those narrow (min b c)
-unfolding those kept
-kept-those test narrow b zero same = rw (min-zero b)
-kept-those test narrow b (suc c) same =
-    ⊎-elim
-    (λ (l : c < b).
-    let before : min b c ≡ c = min-eq-right (omega arith) in
-    let after : min b (suc c) ≡ suc c = min-eq-right l in
-    rw (after, ← same c l) (one-more (test c) l (kept-those test narrow b c same ∙ ap (those narrow) before)))
-    (λ (l : b ≤ c).
-    let before : min b c ≡ b = min-eq-left l in
-    let after : min b (suc c) ≡ b = min-eq-left (omega arith) in
-    rw after (none-more (test c) l (kept-those test narrow b c same ∙ ap (those narrow) before)))
-    (lt-or-le c b)
-  where
-    one-more : (t : Bool) → c < b → kept b (those test c) ≡ those narrow c
-        → kept b (cond t (those test c ++ (c ∷ [])) (those test c)) ≡ cond t (those narrow c ++ (c ∷ [])) (those narrow c)
-    one-more true l e = kept-append b (those test c) (c ∷ []) ∙ ap₂ (λ (x y : List ℕ). x ++ y) e (kept-below b c [] l)
-    one-more false l e = e
-
-    none-more : (t : Bool) → b ≤ c → kept b (those test c) ≡ those narrow b
-        → kept b (cond t (those test c ++ (c ∷ [])) (those test c)) ≡ those narrow b
-    none-more true l e =
-        kept-append b (those test c) (c ∷ []) ∙ ap₂ (λ (x y : List ℕ). x ++ y) e (kept-above b c [] l) ∙ append-nil (those narrow b)
-    none-more false l e = e
 
 pub kept-sets-of : (m n s : ℕ) → m ≤ n → kept (2 ^ m) (setsOf n s) ≡ setsOf m s
 unfolding setsOf

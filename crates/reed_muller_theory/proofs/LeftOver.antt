@@ -11,11 +11,12 @@ use Rattle.bits.specs.Sums.{sumBelow, sumOver, distance, unlike}
 use Rattle.bits.specs.Places.{bit, weight}
 use Rattle.bits.proofs.Numbers.{eq-or-ne}
 use Rattle.bits.proofs.Sums.{sum-ext, sum-over-append, sum-over-entries}
+use Rattle.bits.proofs.Counting.{where-true}
 use Rattle.model.specs.Order.{codeword}
 use Rattle.model.specs.Reading.{chunkDistance}
 use Rattle.model.specs.ReedMuller.{product, setsOf, setsUpTo, setOf, countOfSets, productOf, reedMuller, coefficient, round, afterRounds, voted}
 use Rattle.model.specs.ReedMuller.{votedRows, votedNumber, votedDistance}
-use Rattle.reed_muller_theory.proofs.Sets.{where-true, sum-over-sets-of}
+use Rattle.reed_muller_theory.proofs.Sets.{sum-over-sets-of}
 use Rattle.reed_muller_theory.proofs.Polynomials.{bit-of-rows, product-row-bit, row-is-product}
 use Rattle.reed_muller_theory.proofs.VotedReading.{row-voted, number-found}
 

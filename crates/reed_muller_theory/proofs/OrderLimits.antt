@@ -15,12 +15,14 @@ use borrow.Author.Tests.{le-leb, lt-leb, leb-true, ltb-true, eqb-true, not-false
 use Rattle.bits.specs.Sums.{sumBelow}
 use Rattle.bits.specs.Places.{weight}
 use Rattle.bits.specs.Searches.{anyBelow}
+use Rattle.bits.specs.Counting.{those}
 use Rattle.bits.proofs.Numbers.{lt-or-le, and-true-left, and-true-right}
 use Rattle.bits.proofs.Sums.{sum-ext, sum-of-ones, sum-longer}
-use Rattle.bits.proofs.Binary.{weight-le}
+use Rattle.bits.proofs.Binary.{weight-le, weight-wider}
 use Rattle.bits.proofs.Searches.{none-of-any}
-use Rattle.model.specs.ReedMuller.{those, setsOf, setsUpTo, countOfSets, orderWithinLimits}
-use Rattle.reed_muller_theory.proofs.Sets.{where-true, sum-over-rows, weight-wider}
+use Rattle.bits.proofs.Counting.{where-true}
+use Rattle.model.specs.ReedMuller.{setsOf, setsUpTo, countOfSets, orderWithinLimits}
+use Rattle.reed_muller_theory.proofs.Sets.{sum-over-rows}
 
 -- ---- k grows with the order
 

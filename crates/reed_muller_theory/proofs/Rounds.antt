@@ -13,8 +13,9 @@ use Rattle.bits.specs.Sums.{sumBelow, sumOver}
 use Rattle.bits.specs.Places.{weight}
 use Rattle.bits.proofs.Numbers.{lt-or-le, eq-or-ne}
 use Rattle.bits.proofs.Sums.{sum-ext, sum-add}
+use Rattle.bits.proofs.Counting.{where-true}
 use Rattle.model.specs.ReedMuller.{product, setsOf, classes, votesForOne, coefficient, round, afterRounds, voted}
-use Rattle.reed_muller_theory.proofs.Sets.{where-true, sum-over-sets-of}
+use Rattle.reed_muller_theory.proofs.Sets.{sum-over-sets-of}
 use Rattle.reed_muller_theory.proofs.Polynomials.{valueAt, DegreeAtMost}
 use Rattle.reed_muller_theory.proofs.LeastDistance.{classes-at-least}
 use Rattle.reed_muller_theory.proofs.Vote.{Turned, no-tie, vote-right}

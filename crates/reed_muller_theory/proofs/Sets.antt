@@ -2,59 +2,26 @@
 -- So each of them stands in the order once, and nothing else does. Assumes nothing.
 use mathlib.Core.Path.{_≡_, refl, sym, ap, _∙_}
 use mathlib.Core.Bool.{Bool, true, false, cond, _&&_}
-use mathlib.Core.List.{[], _∷_, _++_}
 use mathlib.Core.Logic.{⊎-elim}
 use Prim.Native.Nat.{ℕ, zero, suc, _+_, _^_, _≤_, _<_}
-use native.Mathlib.Nat.{le-dest, le-trans}
+use native.Mathlib.Nat.{le-trans}
 use native.Mathlib.Omega.{arith}
 use lib.Dec.{leb, ltb, eqb}
-use lib.ListN.{length, getD, length-append, List·getD-append}
-use lib.Seq.{getD-at}
 use lib.Pow.{pow-pos}
 use borrow.Author.Tests.{le-leb, lt-leb, leb-true, lt-ltb, ltb-true, eq-eqb, ne-eqb}
 use Rattle.bits.specs.Sums.{sumBelow, sumOver}
-use Rattle.bits.specs.Places.{bit, weight}
+use Rattle.bits.specs.Places.{weight}
 use Rattle.bits.specs.Searches.{first}
 use Rattle.bits.proofs.Numbers.{lt-or-le, eq-or-ne, and-true-left, and-true-right}
-use Rattle.bits.proofs.Sums.{sum-ext, sum-mono, sum-add, sum-zero, sum-split, sum-of-ones, sum-of-bits, sum-over-append, sum-over-entries}
+use Rattle.bits.proofs.Sums.{sum-ext, sum-mono, sum-add, sum-zero, sum-of-ones, sum-of-bits, sum-over-append, sum-over-entries}
 use Rattle.bits.proofs.Sums.{summand-le, two-summands-le, some-summand}
-use Rattle.bits.proofs.Binary.{weight-zero, bit-high}
+use Rattle.bits.proofs.Binary.{weight-zero}
 use Rattle.bits.proofs.Searches.{first-is}
-use Rattle.model.specs.ReedMuller.{those, setsOf, setsUpTo, setOf, countOfSets}
+use Rattle.bits.proofs.Counting.{where-true, sum-over-those}
+use Rattle.model.specs.ReedMuller.{setsOf, setsUpTo, setOf, countOfSets}
 use Rattle.reed_muller_theory.proofs.LowestVariable.{same, same-yes, same-no, same-once}
 
 -- ---- sums over sets
-
--- the values of f where a test holds
-abbrev pub where-true : (test : ℕ → Bool) (f : ℕ → ℕ) (S : ℕ) → ℕ
-where-true test f S = cond (test S) (f S) 0
-
-pub sum-over-those : (test : ℕ → Bool) (b : ℕ) (f : ℕ → ℕ) → sumOver (those test b) f ≡ sumBelow (where-true test f) b
-unfolding sumOver sumBelow those
-sum-over-those test zero f = refl
-sum-over-those test (suc b) f = by-case (test b) (sum-over-those test b f)
-  where
-    by-case : (t : Bool) → sumOver (those test b) f ≡ sumBelow (where-true test f) b
-        → sumOver (cond t (those test b ++ (b ∷ [])) (those test b)) f ≡ sumBelow (where-true test f) b + cond t (f b) 0
-    by-case true before = sum-over-append (those test b) (b ∷ []) f ∙ (omega (arith, before))
-    by-case false before = omega (arith, before)
-
--- every entry passes the test
-pub those-pass : (test : ℕ → Bool) (b i : ℕ) → i < length (those test b) → test (getD (those test b) i 0) ≡ true
-unfolding those
-those-pass test zero i h = absurd (omega arith)
-those-pass test (suc b) i h = by-case (test b) refl (those-pass test b i) h
-  where
-    by-case : (t : Bool) → test b ≡ t → (i < length (those test b) → test (getD (those test b) i 0) ≡ true)
-        → i < length (cond t (those test b ++ (b ∷ [])) (those test b))
-        → test (getD (cond t (those test b ++ (b ∷ [])) (those test b)) i 0) ≡ true
-    by-case true e before h =
-        ⊎-elim (λ (l : i < length (those test b)). rw (List·getD-append (those test b) (b ∷ []) 0 i l) (before l))
-        (λ (l : length (those test b) ≤ i).
-        let last : length (those test b) ≡ i = omega (arith, length-append (those test b) (b ∷ [])) in
-        rw (getD-at (those test b) b [] 0 i last) e)
-        (lt-or-le i (length (those test b)))
-    by-case false e before h = before h
 
 -- the sets of just s variables, and those of at most r
 pub sum-over-sets-of : (m s : ℕ) (f : ℕ → ℕ) → sumOver (setsOf m s) f ≡ sumBelow (where-true (λ S. eqb (weight m S) s) f) (2 ^ m)
@@ -173,12 +140,3 @@ module _ (r m : ℕ) where
       bit-or-none : (t : Bool) → cond t 1 0 < 2
       bit-or-none true = omega arith
       bit-or-none false = omega arith
-
--- a set of m variables is as large among more
-pub weight-wider : (m n S : ℕ) → m ≤ n → S < 2 ^ m → weight n S ≡ weight m S
-unfolding weight
-weight-wider m n S wider l =
-    let (more, is) = le-dest wider in
-    ap (sumBelow (bit S)) (sym is)
-    ∙ sum-split (bit S) m more
-    ∙ omega (arith, sum-zero {f = λ q. bit S (m + q)} more (λ q h. bit-high S m (m + q) l (omega arith)))

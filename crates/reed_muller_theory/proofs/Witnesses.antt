@@ -8,12 +8,13 @@ use borrow.Author.Tests.{leb-true}
 use Rattle.bits.specs.Sums.{sumBelow, distance}
 use Rattle.bits.specs.Places.{weight, bit}
 use Rattle.bits.specs.Searches.{anyBelow, firstFrom, first}
+use Rattle.bits.specs.Counting.{those}
 use Rattle.bits.proofs.Searches.{none-of-any}
 use Rattle.model.specs.Refusals.{unlessRefused}
 use Rattle.model.specs.Card.{sumOfRows, leastWeight}
 use Rattle.model.specs.Order.{gray, lastCodeword, codeword, start, lastPosition}
 use Rattle.model.specs.Reading.{chunkDistance, withinRadius, readFirst, chunkReading, chunkStatus, chunkValues}
-use Rattle.model.specs.ReedMuller.{product, those, setsOf, setsUpTo, countOfSets, productRow, productOf, reedMuller, orderWithinLimits}
+use Rattle.model.specs.ReedMuller.{product, setsOf, setsUpTo, countOfSets, productRow, productOf, reedMuller, orderWithinLimits}
 use Rattle.model.specs.CheckCard.{summaryOf, cardAnswer}
 use Rattle.reed_muller_theory.specs.Witnesses.{twoOff, VotesWitnessed}
 use Rattle.reed_muller_theory.proofs.MadeCards.{code-of-made}

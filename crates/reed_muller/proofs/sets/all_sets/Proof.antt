@@ -2,7 +2,8 @@
 use mathlib.Core.Path.{refl}
 use Rattle.bits.specs.Sums.{sumBelow}
 use Rattle.bits.specs.Places.{weight}
-use Rattle.model.specs.ReedMuller.{those, setsOf, setsUpTo}
+use Rattle.bits.specs.Counting.{those}
+use Rattle.model.specs.ReedMuller.{setsOf, setsUpTo}
 use Rattle.reed_muller.proofs.sets.all_sets.Statement.{statement}
 use Rattle.reed_muller.proofs.sets.all_sets.Tie as tie
 

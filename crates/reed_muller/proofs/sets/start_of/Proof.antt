@@ -6,7 +6,8 @@ use borrow.Author.Needs.{needs}
 use lib.ListN.{getD}
 use Rattle.bits.specs.Sums.{sumBelow}
 use Rattle.bits.specs.Places.{weight, listOf}
-use Rattle.model.specs.ReedMuller.{those, setsOf, setsUpTo, countOfSets}
+use Rattle.bits.specs.Counting.{those}
+use Rattle.model.specs.ReedMuller.{setsOf, setsUpTo, countOfSets}
 use Rattle.reed_muller.specs.Table.{setsBefore}
 use Rattle.reed_muller.proofs.Tables.{entry-of-table, start-bound}
 use Rattle.reed_muller.proofs.sets.start_of.Statement.{statement}
