@@ -9,7 +9,7 @@ ghost use lib.ListN.{getD};
 ghost use Rattle.model.specs.Card.{sumOfRows};
 ghost use Rattle.model.specs.Order.{gray};
 ghost use Rattle.code_theory.specs.LeastOfSets.{leastOfSets};
-use super::powers;
+use bit_arithmetic::powers;
 
 // How many of k rows are low ones: five at most, for the table has room for 32 sums. The compiler would clear a longer table by a
 // call of memset, for every card that is checked.

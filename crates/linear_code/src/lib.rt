@@ -4,5 +4,4 @@ pub mod codeword;
 pub mod decode;
 pub mod least_weight;
 pub mod offset;
-pub mod powers;
 pub mod search;

@@ -12,7 +12,7 @@ ghost use Rattle.model.specs.Reading.{chunkReading, chunkRefusal, chunkFigures,
 ghost use Rattle.model.specs.Levels.{heardReading};
 ghost use Rattle.code_theory.specs.Promise.{Sound};
 ghost use Rattle.linear_code.specs.FirstWithin.{firstWithin};
-use super::powers;
+use bit_arithmetic::powers;
 use model::Chunk;
 use model::DecodedCode;
 

@@ -6,8 +6,8 @@ ghost use Rattle.model.specs.Order.{lastCodeword, changedWeight, start, lastPos
 ghost use Rattle.model.specs.Words.{blockOf};
 ghost use Rattle.code_theory.specs.Promise.{Sound};
 ghost use Rattle.position.specs.RowWeights.{RowWeights};
+use bit_arithmetic::powers;
 use linear_code::codeword;
-use linear_code::powers;
 use model::DecodedCode;
 
 // The number of the last codeword, 2^k - 1.

@@ -7,7 +7,7 @@ ghost use lib.ListN.{getD};
 ghost use Rattle.bits.specs.Sums.{sumBelow, fromPlace};
 ghost use Rattle.bits.specs.Places.{bit, place};
 ghost use Rattle.model.specs.Reading.{majority};
-use linear_code::powers;
+use bit_arithmetic::powers;
 
 // The bit at place p of any word of which `byte` is byte p / 8. It takes the byte, since its callers go from place to place of
 // the same words: a whole word, by value, was copied at each place, 14 % more instructions for a read on the benchmark's rm64.

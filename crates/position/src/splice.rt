@@ -5,7 +5,7 @@ ghost use Prim.Native.Nat.{ℕ, _≤_, _<_};
 ghost use lib.Dec.{ltb};
 ghost use Rattle.bits.specs.Places.{bit};
 ghost use Rattle.position.specs.Spliced.{Spliced};
-use linear_code::powers;
+use bit_arithmetic::powers;
 
 // The bits of `low` below place q, and those of `high` from there on.
 fn mixed(low: u8, high: u8, q: u32) -> u8

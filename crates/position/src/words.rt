@@ -16,8 +16,8 @@ use super::blocks;
 use super::hamming;
 use super::layout;
 use super::splice;
+use bit_arithmetic::powers;
 use linear_code::codeword;
-use linear_code::powers;
 use model::DecodedCode;
 
 // The lowest bits of a value moved up to bit q of a byte; what lies above the byte is left out.

@@ -3,7 +3,7 @@ ghost use mathlib.Core.Path.{_≡_};
 ghost use mathlib.Core.Bool.{true};
 ghost use Rattle.model.specs.ReedMuller.{reedMullerCard, orderWithinLimits};
 use super::rows;
-use linear_code::powers;
+use bit_arithmetic::powers;
 
 // The card's 512 bytes: n is 2^m, and the rows are the products of at most r variables.
 pub fn made_card(track: u16, r: u32, m: u32) -> [u8; 512]

@@ -6,7 +6,7 @@ ghost use lib.ListN.{getD};
 ghost use Rattle.model.specs.ReedMuller.{countOfSets, productOf, orderWithinLimits};
 use super::products;
 use super::sets;
-use linear_code::powers;
+use bit_arithmetic::powers;
 
 // How many rows there are, and the rows. Those past them are zero.
 pub struct Rows {

@@ -10,7 +10,7 @@ ghost use Rattle.reed_muller.specs.Rounds.{rowsAfter, Tied, LeftBy};
 use super::products;
 use super::rows;
 use super::sets;
-use linear_code::powers;
+use bit_arithmetic::powers;
 use model::Chunk;
 
 // The number of the codeword that is the sum of the rows named by a number's bits: the one of which that is the Gray number. What is

@@ -1,11 +1,11 @@
--- `linear_code::powers::low_bits` meets its contract: 64 ones moved down by 64 - n places are n ones. Assumes nothing.
+-- `bit_arithmetic::powers::low_bits` meets its contract: 64 ones moved down by 64 - n places are n ones. Assumes nothing.
 use mathlib.Core.Path.{_≡_}
 use Prim.Native.Nat.{_+_, _-_}
 use native.Mathlib.Omega.{arith}
 use borrow.Author.Needs.{needs}
 use Rattle.bits.proofs.Shifts.{all-ones-moved}
-use Rattle.linear_code.proofs.powers.low_bits.Statement.{statement}
-use Rattle.linear_code.proofs.powers.low_bits.Tie as tie
+use Rattle.bit_arithmetic.proofs.powers.low_bits.Statement.{statement}
+use Rattle.bit_arithmetic.proofs.powers.low_bits.Tie as tie
 
 returns : tie.Need-returns
 returns c = rw (c .if1 .taken) (omega arith)
