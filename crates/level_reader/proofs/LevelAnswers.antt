@@ -18,7 +18,7 @@ use Rattle.bits.proofs.Places.{cut-below, cut-above}
 use Rattle.model.specs.Refusals.{firstRefusal, unlessRefused}
 use Rattle.model.specs.Card.{Code}
 use Rattle.model.specs.Words.{wordBits}
-use Rattle.model.specs.Reading.{ruleSeen, separatorBy, rows9To12, rowsSeen}
+use Rattle.model.specs.Reading.{ruleSeen, separatorBy, twoEnds, rows9To12, rowsSeen}
 use Rattle.model.specs.Levels.{anyOutside, toldAt, heardIn, bitsIn, separatorReading, seenTold, residualHeard, strengthOf}
 use Rattle.model.specs.ReadLevels.{rowsOfLevels, levelsAnswered, readLevels}
 use Rattle.model.specs.declared.Reading.{Reading}
@@ -118,18 +118,18 @@ module _ (C : Code) (levels : List Float) (whole : length levels ≡ wordBits C)
     answered = answerTold C (toldAt levels) (ruleSeen (seenTold C (toldAt levels)))
 
     -- the refusal is that of what is seen
-    refusal-is : firstRefusal (rowsOfLevels C levels) ≡ refusalOf C (seenTold C (toldAt levels))
+    refusal-is : firstRefusal (rowsOfLevels C levels) ≡ refusalOf (twoEnds C) (seenTold C (toldAt levels))
     unfolding rowsOfLevels firstRefusal
     refusal-is = rw (eq-eqb (length levels) (wordBits C) whole, inside)
 
     pub word-read : (r : Reading) → answered ≡ At r → LevelsAt r (strengthOf (toldAt levels) (wordBits C)) ≡ readLevels C levels
     unfolding readLevels levelsAnswered unlessRefused answerBy
     word-read r is =
-        let (none, same) = read-if-served (refusalOf C (seenTold C (toldAt levels))) _ r is in
+        let (none, same) = read-if-served (refusalOf (twoEnds C) (seenTold C (toldAt levels))) _ r is in
         rw (refusal-is, none, same)
 
     pub rule-refused : (refusal : ℕ) → answered ≡ Refused refusal → LevelsRefused refusal ≡ readLevels C levels
     unfolding readLevels levelsAnswered answerBy
     rule-refused refusal is =
-        let (some, same) = refused-if-answered (refusalOf C (seenTold C (toldAt levels))) _ refusal is in
+        let (some, same) = refused-if-answered (refusalOf (twoEnds C) (seenTold C (toldAt levels))) _ refusal is in
         rw (refusal-is, same, refused-if-some refusal LevelsRefused _ some)

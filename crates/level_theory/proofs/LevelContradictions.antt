@@ -6,7 +6,7 @@ use mathlib.Core.Logic.{⊎-elim}
 use Prim.Native.Nat.{ℕ, _%_}
 use lib.Ieee.{Float}
 use Rattle.model.specs.Card.{codeOf, cardRefusal}
-use Rattle.model.specs.Reading.{ruleSeen, separatorBy, rows9To12, rowsSeen, nearest}
+use Rattle.model.specs.Reading.{ruleSeen, separatorBy, twoEnds, rows9To12, rowsSeen, nearest}
 use Rattle.model.specs.Levels.{toldAt}
 use Rattle.model.specs.ReadLevels.{rowsOfLevels, levelsRefusal, levelsAnswer, positionAnswer}
 use Rattle.code_theory.proofs.Refusals.{numbered}
@@ -29,7 +29,8 @@ module _ (card : List ℕ) (levels : List Float) where
       let C = codeOf card in
       let (sound, none, is) = levels-show card levels r answered in
       rw (← is)
-      (parity-agrees C (seenOf card levels) (reads-in-code C (told-sees-chunks C (card-promise card sound) (toldAt levels))) none)
+      (parity-agrees C (twoEnds C) (seenOf card levels) (reads-in-code C (told-sees-chunks C (card-promise card sound) (toldAt levels)))
+      none)
 
   pub pasted-levels-never-read : PastedLevelsNeverRead card levels (positionAnswer (levelsAnswer card levels))
   unfolding PastedLevelsNeverRead toldAt
@@ -42,8 +43,8 @@ module _ (card : List ℕ) (levels : List Float) where
       (λ (units, below).
       separator-from C (told-sees C (sound-card card sound) (toldAt levels) (λ p b. unit-told (units p b))) i (pasted .in-code) below)
       (pasted .separator) in
-      pasted-refused C (told-sees-chunks C (card-promise card sound) (toldAt levels)) i j c (pasted .in-code′) (pasted .differ) reads
-      (pasted .named) (pasted .chunk) none
+      pasted-refused C (twoEnds C) (told-sees-chunks C (card-promise card sound) (toldAt levels)) i j c (pasted .in-code′) (pasted .differ)
+      reads (pasted .named) (pasted .chunk) none
 
   pub levels-as-before-unless-contradicted : LevelsAsBeforeUnlessContradicted card levels (positionAnswer (levelsAnswer card levels))
   unfolding LevelsAsBeforeUnlessContradicted levelsAnswerBefore levelsAnswer levelsRefusal rowsOfLevels rowsSeen rows9To12 numbered

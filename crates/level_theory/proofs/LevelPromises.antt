@@ -4,7 +4,7 @@ use mathlib.Core.Path.{_≡_, refl, sym, _∙_}
 use mathlib.Core.Bool.{true, false}
 use mathlib.Core.List.{List}
 use mathlib.Core.Logic.{⊎-elim}
-use Prim.Native.Nat.{ℕ, _+_, _<_}
+use Prim.Native.Nat.{ℕ, _<_}
 use native.Mathlib.Omega.{arith}
 use borrow.Author.Tests.{eq-eqb, ltb-true, lt-ltb}
 use lib.Ieee.{Float}
@@ -13,13 +13,13 @@ use Rattle.bits.specs.Places.{place}
 use Rattle.bits.proofs.Numbers.{eq-or-ne}
 use Rattle.bits.proofs.Heard.{heard-ext-left}
 use Rattle.bits.proofs.Searches.{any-none}
-use Rattle.bits.proofs.Places.{length-pack, place-packed, place-spare}
+use Rattle.bits.proofs.Places.{length-pack, place-packed}
 use Rattle.model.specs.Refusals.{firstRefusal, unlessRefused}
 use Rattle.model.specs.Card.{Code, cardRefusal, codeOf, SoundCard}
 use Rattle.model.specs.Words.{wordBits, wordBytes}
-use Rattle.model.specs.Reading.{rows9To12, rowsSeen}
+use Rattle.model.specs.Reading.{twoEnds, rows9To12, rowsSeen}
 use Rattle.model.specs.Levels.{anyOutside, toldAt, withinLosses, seenTold, residualHeard}
-use Rattle.model.specs.ReadWord.{spareSet, readWord, readRefusal, readAnswer}
+use Rattle.model.specs.ReadWord.{readWord, readRefusal, readAnswer}
 use Rattle.model.specs.ReadLevels.{rowsTold, rowsOfLevels, levelsAnswered, readLevels, readingTold, levelsRefusal, levelsAnswer}
 use Rattle.model.specs.ReadLevels.{positionAnswer}
 use Rattle.model.specs.declared.Reading.{Reading}
@@ -32,9 +32,9 @@ use Rattle.code_theory.proofs.SoundCard.{sound-card}
 use Rattle.position_theory.specs.Damage.{wrongInAll}
 use Rattle.position_theory.specs.Nearest.{refusalOf}
 use Rattle.position_theory.proofs.Words.{five-wrong, five-lost}
-use Rattle.position_theory.proofs.WordBytes.{readingOfSeen, reading, read-if-whole, place-of-word}
+use Rattle.position_theory.proofs.WordBytes.{packed-none-spare, readingOfSeen, reading, read-if-whole, place-of-word}
 use Rattle.position_theory.proofs.RuleReads.{reads-in-code}
-use Rattle.position_theory.proofs.Nearest.{reading-is-nearest}
+use Rattle.position_theory.proofs.Nearest.{two-ends-nearest}
 use Rattle.position_theory.proofs.BoundedError.{all-below, error-of-seen, near-loosen}
 use Rattle.position_theory.proofs.ChunkBits.{wrong-of-chunks}
 use Rattle.position_theory.proofs.ReadWords.{read-if-served}
@@ -77,7 +77,7 @@ position-answered C levels refusal =
 -- d levels, none of them outside the limits, are answered by what is seen of them
 pub read-if-inside : (C : Code) (levels : List Float) → length levels ≡ wordBits C → anyOutside (wordBits C) levels ≡ false
     → positionAnswer (readLevels C levels)
-    ≡ readingOfSeen C (seenTold C (toldAt levels)) (residualHeard C (heardOf levels) (bitsOf levels))
+    ≡ readingOfSeen (twoEnds C) (seenTold C (toldAt levels)) (residualHeard C (heardOf levels) (bitsOf levels))
 unfolding readLevels rowsOfLevels firstRefusal readingOfSeen
 read-if-inside C levels whole inside =
     position-answered C levels (firstRefusal (rowsOfLevels C levels)) ∙ rw (eq-eqb (length levels) (wordBits C) whole, inside)
@@ -96,11 +96,11 @@ nearest-over-heard card levels sound whole inside =
     let promised = card-promise card sound in
     let word = toldAt levels in
     rw (levels-sound card levels sound, read-if-inside C levels whole inside)
-    (reading-is-nearest C promised (seenTold C word) (reads-in-code C (told-sees-chunks C promised word)) _)
+    (two-ends-nearest C promised (seenTold C word) (reads-in-code C (told-sees-chunks C promised word)) _)
 
 -- a word that is read shows that its card is sound and that no row holds of what its levels tell, and the answer is its reading
 pub levels-show : (card : List ℕ) (levels : List Float) (r : Reading) → positionAnswer (levelsAnswer card levels) ≡ At r
-    → (cardRefusal card ≡ 0) × (refusalOf (codeOf card) (seenTold (codeOf card) (toldAt levels)) ≡ 0)
+    → (cardRefusal card ≡ 0) × (refusalOf (twoEnds (codeOf card)) (seenTold (codeOf card) (toldAt levels)) ≡ 0)
     × (readingTold (codeOf card) (toldAt levels) ≡ r)
 unfolding levelsAnswer levelsRefusal rowsOfLevels rowsSeen rows9To12 NoneHolds numbered
 levels-show card levels r answered =
@@ -117,7 +117,7 @@ tells-wrong-of-chunks card levels r answered =
     let C = codeOf card in
     let word = toldAt levels in
     let (sound, none, is) = levels-show card levels r answered in
-    rw (← is) (wrong-of-chunks C (seenTold C word) (told-sees-chunks C (card-promise card sound) word) _ none)
+    rw (← is) (wrong-of-chunks C (twoEnds C) (seenTold C word) (told-sees-chunks C (card-promise card sound) word) _ none)
 
 -- ---- levels of 1 and -1
 
@@ -130,16 +130,12 @@ module _ (card : List ℕ) (levels : List Float) where
   unfolding anyOutside
   units-inside units = any-none _ _ (λ p b. unit-inside (units p b))
 
-  -- the plain word of these bits has the right length and no spare bit set
+  -- the plain word of these bits has the right length and no spare bit set, so it is read
   bits-in-place : (p : ℕ) → bitsOf levels p < 2
   bits-in-place p = told-bit (toldAt levels p)
 
-  none-spare : spareSet C (wordOfBits card levels) ≡ false
-  unfolding spareSet
-  none-spare = any-none _ _ (λ q b. rw (place-spare (wordBits C) (bitsOf levels) bits-in-place (wordBits C + q) (omega arith)))
-
   plain-read : readWord C (wordOfBits card levels) ≡ reading C (place (wordOfBits card levels))
-  plain-read = read-if-whole C (wordOfBits card levels) (length-pack (wordBits C) (bitsOf levels)) none-spare
+  plain-read = read-if-whole C (wordOfBits card levels) (length-pack (wordBits C) (bitsOf levels)) (packed-none-spare C bits-in-place)
 
   sound-as-plain : SoundCard card → length levels ≡ wordBits C → OneLevels levels (wordBits C)
       → positionAnswer (levelsAnswer card levels) ≡ readAnswer card (wordOfBits card levels)

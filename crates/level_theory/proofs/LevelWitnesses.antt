@@ -151,10 +151,10 @@ unfolding sumBelow distance distanceHeard lostBelow joinAt walk weight place cut
 levels-witnessed =
     record {
       two-lost = λ promise. promise card-B-sound (λ p. eqb p 1) (λ p. 1) .read 1 (computed refl, computed refl);
-      smaller-of-two = λ answer promise. read-as _ _ _ answer (promise card-B-sound refl refl) refl;
-      smallest-of-wrong = λ answer promise. read-as _ _ _ answer (promise card-B-sound refl refl) refl;
-      smallest-of-lost = λ answer promise. read-as _ _ _ answer (promise card-B-sound refl refl) refl;
-      by-17 = λ answer promise. refused-as _ _ _ answer (promise card-B-sound refl refl) 16 refl;
+      smaller-of-two = λ answer promise. read-as _ _ _ _ answer (promise card-B-sound refl refl) refl;
+      smallest-of-wrong = λ answer promise. read-as _ _ _ _ answer (promise card-B-sound refl refl) refl;
+      smallest-of-lost = λ answer promise. read-as _ _ _ _ answer (promise card-B-sound refl refl) refl;
+      by-17 = λ answer promise. refused-as _ _ _ _ answer (promise card-B-sound refl refl) 16 refl;
       below-D = λ r promise.
           let B = codeOf cardB in
           let levels = levelsOf zeroDamaged in

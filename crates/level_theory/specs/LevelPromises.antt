@@ -10,6 +10,7 @@ use Rattle.bits.specs.Places.{place}
 use Rattle.model.specs.Card.{Code, codeOf, SoundCard}
 use Rattle.model.specs.Order.{lastPosition}
 use Rattle.model.specs.Words.{wordBits, wordBytes}
+use Rattle.model.specs.Reading.{twoEnds}
 use Rattle.model.specs.Levels.{anyOutside, residualHeard}
 use Rattle.model.specs.ReadWord.{readAnswer}
 use Rattle.model.specs.declared.Reading.{Reading}
@@ -42,7 +43,7 @@ unfoldable pub NearestOverHeard : (card : List ℕ) (levels : List Float) → Re
 NearestOverHeard card levels answer =
     let C : Code = codeOf card in
     SoundCard card → length levels ≡ wordBits C → anyOutside (wordBits C) levels ≡ false
-    → IsReadingOf C (seenOf card levels) (residualHeard C (heardOf levels) (bitsOf levels)) answer
+    → IsReadingOf (twoEnds C) (lastPosition C) (seenOf card levels) (residualHeard C (heardOf levels) (bitsOf levels)) answer
 
 -- Of every word that is read, the counts of the chunks that the rule names are those of their wrong places
 unfoldable pub TellsWrongOfChunks : (card : List ℕ) (levels : List Float) → ReadAnswer → Type 0

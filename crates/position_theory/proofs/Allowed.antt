@@ -7,18 +7,17 @@ use native.Mathlib.Nat.{le-dest, add-sub-cancel}
 use native.Mathlib.Omega.{arith}
 use borrow.Author.Tests.{eqb-false}
 use Rattle.bits.proofs.Numbers.{or-false-left}
-use Rattle.model.specs.Refusals.{firstRefusal}
 use Rattle.model.specs.Card.{Code}
 use Rattle.model.specs.Order.{lastCodeword, changedWeight, start, lastPosition}
 use Rattle.model.specs.Words.{wordBits, wordAt}
-use Rattle.model.specs.Reading.{Seen, ruleSeen, Range, range₁, range₂, range₃, Rules, twoEnds, rowsSeen, rangeSeen}
+use Rattle.model.specs.Reading.{Seen, Range, range₁, range₂, range₃, Rules, twoEnds, rangeSeen}
 use Rattle.code_theory.specs.Promise.{ChunkPromise}
 use Rattle.position_theory.specs.Nearest.{refusalOf, allowedBy}
 use Rattle.position_theory.proofs.Blocks.{start-on-track}
-use Rattle.position_theory.proofs.Ranges.{isometric-part}
+use Rattle.position_theory.proofs.Ranges.{isometric-part, IsometricRange}
 use Rattle.position_theory.proofs.Separators.{of-every-rule}
 use Rattle.position_theory.proofs.RuleReads.{BothRead, InCode, RuleReads, rule-reads}
-use Rattle.position_theory.proofs.Isometry.{IsometricTrack, isometric-block, isometric-around}
+use Rattle.position_theory.proofs.Isometry.{isometric-block, isometric-around}
 
 -- What is allowed goes by what is seen: what holds of the range of each rule, where its chunks read a number of some kind and its
 -- block exists, holds of all that is allowed where chunks read such numbers only.
@@ -28,7 +27,7 @@ module _ (R : Rules) (P : Range → Type 0) (Kind : ℕ → Type 0) where
   Rule rule = (p : ℕ) → Kind p → R .noBlock rule p ≡ false → P (R .range rule p)
 
   module _ (s : Seen) (kinds : BothRead Kind s) where
-    pub of-all-allowed : Rule 1 → Rule 2 → Rule 3 → firstRefusal (rowsSeen R s (ruleSeen s)) ≡ 0 → P (rangeSeen R s (ruleSeen s))
+    pub of-all-allowed : Rule 1 → Rule 2 → Rule 3 → refusalOf R s ≡ 0 → P (allowedBy R s)
     of-all-allowed rule₁ rule₂ rule₃ none =
         of-every-rule (λ rule. RuleReads R s Kind rule → P (rangeSeen R s rule))
         (λ reads. absurd (reads .some-rule refl))
@@ -37,13 +36,10 @@ module _ (R : Rules) (P : Range → Type 0) (Kind : ℕ → Type 0) where
         (λ reads. rule₃ _ (reads .kind) (reads .block))
         (s .s₁) (s .s₂) (s .s₃) (rule-reads R s Kind kinds none)
 
--- a range that is not empty, on the track, and isometric
-pub record IsometricOnTrack (C : Code) (range : Range) : Type 0 where
-  pub some : range .low ≤ range .high
-  pub on-track : range .high ≤ lastPosition C
-  pub isometric : IsometricTrack C (range .low) (range .high)
-
 -- on a track with two ends, where chunks read codewords of the code
+abbrev IsometricOnTrack : Code → Range → Type 0
+IsometricOnTrack C = IsometricRange (wordBits C) (wordAt C) (lastPosition C)
+
 module _ (C : Code) (promise : ChunkPromise C) where
   -- rule 1: the part of block i from offset D + A(i) on
   end-of-block : (i : ℕ) → i + 1 ≤ lastCodeword C
@@ -79,7 +75,8 @@ module _ (C : Code) (promise : ChunkPromise C) where
   rule₃-isometric p h =
       record { some = omega (arith, start-on-track C promise p h); on-track = omega arith; isometric = isometric-around C promise p h }
 
-  pub allowed-isometric : (s : Seen) → BothRead (InCode C) s → refusalOf C s ≡ 0 → IsometricOnTrack C (allowedBy C s)
+  pub allowed-isometric : (s : Seen) → BothRead (InCode C) s → refusalOf (twoEnds C) s ≡ 0
+      → IsometricOnTrack C (allowedBy (twoEnds C) s)
   unfolding twoEnds
   allowed-isometric s kinds =
       of-all-allowed (twoEnds C) (IsometricOnTrack C) (InCode C) s kinds

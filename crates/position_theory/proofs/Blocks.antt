@@ -1,7 +1,7 @@
 -- Blocks follow one another from 0 to the last position: the starts rise, each position lies in exactly one block, and
 -- the word of the position m steps into block i is the walk of m steps from w(i) to w(i+1), the block's end included: w(i+1) below
 -- some place, and w(i) from there on. Assumes nothing.
-use mathlib.Core.Path.{_≡_, refl, sym, _∙_}
+use mathlib.Core.Path.{_≡_, sym, _∙_}
 use mathlib.Core.Bool.{cond}
 use mathlib.Core.Logic.{_⊎_, inl, inr, ⊎-elim}
 use Prim.Native.Nat.{ℕ, zero, suc, _+_, _-_, _*_, _≤_, _<_}
@@ -12,15 +12,15 @@ use lib.Dec.{leb, ltb}
 use borrow.Author.Tests.{le-leb, lt-leb, leb-true, leb-false}
 use Rattle.bits.specs.Sums.{distance}
 use Rattle.bits.specs.Walk.{walk}
-use Rattle.bits.proofs.Distance.{distance-longer}
-use Rattle.bits.proofs.Walk.{walk-none, walk-before, walk-spliced}
+use Rattle.bits.proofs.Walk.{walk-none, walk-before}
 use Rattle.bits.proofs.Searches.{greatest-is, greatest-le, greatest-holds, greatest-above}
 use Rattle.model.specs.Card.{Code}
 use Rattle.model.specs.Order.{lastCodeword, changedWeight, blockLength, start, lastPosition}
 use Rattle.model.specs.Words.{wordBits, chunkSize, placesBefore, word, blockOf, wordAt}
 use Rattle.code_theory.specs.Promise.{ChunkPromise}
 use Rattle.position_theory.proofs.Words.{word-bit}
-use Rattle.position_theory.proofs.Between.{Next, stepsBefore, apart-before, words-apart}
+use Rattle.position_theory.proofs.Between.{Next, apart-before, words-apart}
+use Rattle.position_theory.proofs.Ways.{Way, way-steps, way-passed}
 
 -- the position is one of the steps of block i, or, in the last block, which has none, its start
 pub record InBlock (C : Code) (position i : ℕ) : Type 0 where
@@ -48,10 +48,6 @@ module _ (C : Code) (promise : ChunkPromise C) (i : ℕ) (inside : i < lastCodew
         codewords = promise .step i inside;
       }
 
-  pub block-steps : stepsBefore C (changedWeight C i) 5 ≡ blockLength C i
-  unfolding placesBefore chunkSize
-  block-steps = omega arith
-
   -- how far w(i) and w(i+1) are apart up to the end of each chunk
   pub apart-separator₁ : distance (C .D) (word C i) (word C (i + 1)) ≡ C .D
   unfolding placesBefore chunkSize
@@ -70,7 +66,7 @@ module _ (C : Code) (promise : ChunkPromise C) (i : ℕ) (inside : i < lastCodew
   apart-chunk₂ = apart-before C next-codeword 4 (omega arith) ∙ omega arith
 
   pub apart : distance (wordBits C) (word C i) (word C (i + 1)) ≡ blockLength C i
-  apart = words-apart C next-codeword ∙ block-steps
+  apart = words-apart C next-codeword ∙ way-steps C (changedWeight C i)
 
 module _ (C : Code) where
   -- the block of a position is the last that starts at or before it
@@ -205,15 +201,16 @@ module _ (C : Code) (promise : ChunkPromise C) where
       (λ (l : m < blockLength C i). rw (block-inside i m inside l, add-sub-cancel-left))
       (eq-or-lt-of-le h)
 
--- stepping through a block place by place, of which each that differs is one step
-module _ (C : Code) (promise : ChunkPromise C) (i : ℕ) (inside : i < lastCodeword C) where
-  -- no more steps are made below any place than the block has
-  steps-room : (q : ℕ) → q ≤ wordBits C → distance q (word C i) (word C (i + 1)) ≤ blockLength C i
-  steps-room q h = rw (← (apart C promise i inside)) (distance-longer (word C i) (word C (i + 1)) h)
+  -- so the block is a way from w(i) to w(i+1)
+  pub block-way : (i : ℕ) → i < lastCodeword C → Way C (wordAt C) (start C i) (start C (i + 1)) i (i + 1) (changedWeight C i)
+  block-way i inside =
+      record {
+        next = next-codeword C promise i inside;
+        ends = sym (promise .start-next i inside);
+        walked = λ m room. word-in-block i m inside (omega (arith, promise .start-next i inside));
+      }
 
   -- where the places below a have been passed, the word is w(i+1) below a and w(i) from there on
-  pub word-passed : (a p : ℕ) → a ≤ wordBits C → p < wordBits C
+  pub word-passed : (i : ℕ) → i < lastCodeword C → (a p : ℕ) → a ≤ wordBits C → p < wordBits C
       → wordAt C (start C i + distance a (word C i) (word C (i + 1))) p ≡ cond (ltb p a) (word C (i + 1) p) (word C i p)
-  word-passed a p h b =
-      rw (word-in-block C promise i (distance a (word C i) (word C (i + 1))) inside (steps-room a h) p b)
-      (sym (walk-spliced (word-bit C i) (word-bit C (i + 1)) _ a refl p))
+  word-passed i inside = way-passed C (block-way i inside)

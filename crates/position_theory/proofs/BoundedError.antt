@@ -8,14 +8,13 @@ use mathlib.Core.List.{List}
 use Prim.Native.Nat.{ℕ, _+_, _≤_, _<_}
 use native.Mathlib.Omega.{arith}
 use Rattle.bits.specs.Sums.{lostBelow, everywhere}
-use Rattle.bits.specs.Walk.{walk}
 use Rattle.bits.specs.Places.{place}
 use Rattle.bits.proofs.Distance.{distance-ext-left}
 use Rattle.bits.proofs.Heard.{heard-ext-left, none-lost}
 use Rattle.bits.proofs.Places.{place-bit}
 use Rattle.model.specs.Card.{Code}
 use Rattle.model.specs.Order.{lastCodeword, blockLength, start, lastPosition}
-use Rattle.model.specs.Words.{wordBits, chunkOf, word, wordAt, wordBytes, divided}
+use Rattle.model.specs.Words.{wordBits, chunkOf, wordAt, wordBytes, divided}
 use Rattle.model.specs.Reading.{Seen, seen, twoEnds, residual}
 use Rattle.model.specs.Levels.{residualHeard}
 use Rattle.model.specs.ReadWord.{readWord}
@@ -26,14 +25,17 @@ use Rattle.position_theory.specs.Damage.{turnedIn, wrongIn, ChunkBelowD,
 use Rattle.position_theory.specs.Damage.{WithinRadius, turned, Near, residualOf, UndividedWithinRadius}
 use Rattle.position_theory.proofs.Words.{chunk-fits, five-distance}
 use Rattle.position_theory.proofs.WordBytes.{place-of-word, readingOfSeen, read-if-whole}
-use Rattle.position_theory.proofs.Blocks.{next-codeword, on-the-way, word-in-block}
+use Rattle.position_theory.proofs.Between.{WholeAt}
+use Rattle.position_theory.proofs.Ways.{Way}
+use Rattle.position_theory.proofs.Blocks.{block-way, on-the-way}
 use Rattle.position_theory.proofs.WhereDivided.{undivided-if-whole}
 use Rattle.position_theory.proofs.TrueAllowed.{Allows, true-allowed}
 use Rattle.position_theory.proofs.Telling.{Sees, whole-tell}
 use Rattle.position_theory.proofs.PlainSeen.{plain-sees, within-radius-below, plain-residual}
 use Rattle.position_theory.proofs.Ranges.{counted-residuals}
 use Rattle.position_theory.proofs.RuleReads.{reads-in-code}
-use Rattle.position_theory.proofs.TrueCases.{true-case}
+use Rattle.position_theory.proofs.TrueCases.{TrueCase, true-case}
+use Rattle.position_theory.proofs.Allowed.{allowed-isometric}
 use Rattle.position_theory.proofs.Nearest.{answer-near}
 
 -- each chunk of the position's word that is not divided has 2 × wrong + lost below D; which is so where each of the five has
@@ -71,6 +73,17 @@ module _ (C : Code) where
       sym (five-distance C (place (wordBytes C position)) (place received))
       ∙ distance-ext-left (wordBits C) (place received) (place-of-word C position)
 
+module _ (C : Code) {heard : ℕ → Bool} {x : ℕ → ℕ} {s : Seen} (sees : Sees C heard x s) where
+  -- m steps on the way from one codeword's word to the next one's, on any track, where every whole chunk has 2 × wrong + lost below D: what
+  -- is seen is one of the four cases
+  pub case-on-way : {words : ℕ → ℕ → ℕ} {from to i j A : ℕ} → Way C words from to i j A → (m : ℕ) → from + m ≤ to
+      → (u : ℕ → ℕ) → ((p : ℕ) → p < wordBits C → u p ≡ words (from + m) p)
+      → ((c : ℕ) → c < 5 → WholeAt C A m c → ChunkBelowD C heard u x c) → TrueCase (C .D) A i j m s
+  case-on-way way m room u same within =
+      true-case (way .next .parities)
+      (whole-tell C sees (way .next) m
+      (λ c b whole. rw (wrong-in-ext C heard x (λ p l. same p l ∙ way .walked m room p l) c b) at (within c b whole)))
+
 module _ (C : Code) (promise : ChunkPromise C) {heard : ℕ → Bool} {x : ℕ → ℕ} {s : Seen} (sees : Sees C heard x s) where
   -- a word with 2 × wrong + lost below D in every chunk that is not divided, so in every whole one, allows the true position; of a divided
   -- chunk nothing is asked
@@ -78,13 +91,9 @@ module _ (C : Code) (promise : ChunkPromise C) {heard : ℕ → Bool} {x : ℕ �
       → ((p : ℕ) → p < wordBits C → u p ≡ wordAt C (start C i + m) p)
       → UndividedBelowD C heard (start C i + m) u x → Allows (twoEnds C) s (start C i + m)
   steps-allowed i m u inside room same within =
-      let next = next-codeword C promise i inside in
-      let walked : (p : ℕ) → p < wordBits C → u p ≡ walk (word C i) (word C (i + 1)) m p =
-      λ p b. same p b ∙ word-in-block C promise i m inside room p b in
-      let told =
-      whole-tell C sees next m
-      (λ c b whole. rw (wrong-in-ext C heard x walked c b) at (within c b (undivided-if-whole C promise i m c inside room b whole))) in
-      true-allowed C promise s i m inside room (true-case (next .parities) told)
+      true-allowed C promise s i m inside room
+      (case-on-way C sees (block-way C promise i inside) m (omega (arith, promise .start-next i inside)) u same
+      (λ c b whole. within c b (undivided-if-whole C promise i m c inside room b whole)))
 
   position-allowed : (position : ℕ) (u : ℕ → ℕ) → position ≤ lastPosition C → ((p : ℕ) → p < wordBits C → u p ≡ wordAt C position p)
       → UndividedBelowD C heard position u x → Allows (twoEnds C) s position
@@ -98,12 +107,13 @@ module _ (C : Code) (promise : ChunkPromise C) {heard : ℕ → Bool} {x : ℕ �
   -- and the answer is as near to that position as the residuals and the lost bits say
   pub error-of-seen : (position : ℕ) (u : ℕ → ℕ) → position ≤ lastPosition C → ((p : ℕ) → p < wordBits C → u p ≡ wordAt C position p)
       → UndividedBelowD C heard position u x
-      → let answer = readingOfSeen C s (residualHeard C heard x) in
+      → let answer = readingOfSeen (twoEnds C) s (residualHeard C heard x) in
       Near answer position (residualHeard C heard x position + residualOf answer + lostBelow heard (wordBits C))
       × (residualOf answer ≤ residualHeard C heard x position)
   unfolding residualHeard
   error-of-seen position u h same within =
-      answer-near C promise s (reads-in-code C (sees .chunks)) (residualHeard C heard x) (lostBelow heard (wordBits C))
+      answer-near (twoEnds C) (wordBits C) (wordAt C) (lastPosition C) s
+      (allowed-isometric C promise s (reads-in-code C (sees .chunks))) (residualHeard C heard x) (lostBelow heard (wordBits C))
       (counted-residuals heard (wordBits C) (wordAt C) x) position (position-allowed position u h same within)
 
 -- a bound may be loosened
@@ -136,4 +146,4 @@ module _ (C : Code) (promise : ChunkPromise C) where
       error-of-seen C promise (plain-sees C promise (place-bit received)) position (place (wordBytes C position)) h
       (place-of-word C position) (plain-below position received d) in
       rw (read-if-whole C received (d .right-length) (d .spare-zero), turned-is-residual C position received, plain-residual C x)
-      (near-loosen (readingOfSeen C (seen C x) (residualHeard C everywhere x)) position _ _ (omega (arith, none)) near, least)
+      (near-loosen (readingOfSeen (twoEnds C) (seen C x) (residualHeard C everywhere x)) position _ _ (omega (arith, none)) near, least)

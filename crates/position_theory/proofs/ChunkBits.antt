@@ -15,7 +15,7 @@ use Rattle.model.specs.Card.{Code, codeOf}
 use Rattle.model.specs.Order.{codeword}
 use Rattle.model.specs.Words.{chunkSize, placesBefore, chunk₁, chunk₂, wordAt, wordBytes}
 use Rattle.model.specs.Reading.{chunkDistance, Seen, seen, ruleSeen, ruleNamed, namesFirst, namesSecond, numberBy}
-use Rattle.model.specs.Reading.{allowed, residual, bitsNeeded, nearest, bitsValue}
+use Rattle.model.specs.Reading.{Rules, twoEnds, allowed, residual, bitsNeeded, nearest, bitsValue}
 use Rattle.model.specs.Levels.{withinLosses}
 use Rattle.model.specs.ReadWord.{readAnswer}
 use Rattle.model.specs.declared.Chunk.{Chunk}
@@ -27,9 +27,9 @@ use Rattle.code_theory.proofs.ChunkReading.{plain-count}
 use Rattle.position_theory.specs.Damage.{turnedIn}
 use Rattle.position_theory.specs.SeenChunks.{SeesChunk, SeesChunks, NamedReads}
 use Rattle.position_theory.specs.Nearest.{refusalOf, allowedBy}
-use Rattle.position_theory.specs.ChunkBits.{TellsBits, TellsWrong, BitsOfChunks, WrongOfChunks}
+use Rattle.position_theory.specs.ChunkBits.{TellsBits, TellsWrong, BitsSeen, BitsOfChunks}
 use Rattle.position_theory.specs.ReadPromises.{TellsBitsOfChunks, NeededAsTurned}
-use Rattle.position_theory.proofs.RuleReads.{reads-in-code, word-reads}
+use Rattle.position_theory.proofs.RuleReads.{InCode, reads-in-code, rule-reads}
 use Rattle.position_theory.proofs.PlainSeen.{plain-sees-chunks}
 use Rattle.position_theory.proofs.WordBytes.{place-of-word, readingOfSeen, reading, read-if-whole}
 use Rattle.position_theory.proofs.NamedChunks.{InRange, named-hold}
@@ -48,13 +48,15 @@ module _ (C : Code) where
       (e, rw reads-p, counted, rw counted (ltb-true _ _ near))
   tells-wrong false heard chunk read sees p reads = refl
 
-  -- the reading of whatever is seen of a word of which no row holds, by any residual
-  pub wrong-of-chunks : {heard : ℕ → Bool} {x : ℕ → ℕ} (s : Seen) → SeesChunks C heard x s → (residual : ℕ → ℕ) → refusalOf C s ≡ 0
-      → let r : Reading = nearest residual s (ruleSeen s) (allowedBy C s) in
-      WrongOfChunks C heard x s (r .rule) (r .chunk1) (r .chunk2)
+  -- the reading of whatever is seen of a word of which no row holds, on a track with any rules and by any residual
+  pub wrong-of-chunks : (R : Rules) {heard : ℕ → Bool} {x : ℕ → ℕ} (s : Seen) → SeesChunks C heard x s → (residual : ℕ → ℕ)
+      → refusalOf R s ≡ 0
+      → let r : Reading = nearest residual s (ruleSeen s) (allowedBy R s) in
+      BitsSeen ChunkBits C R s (λ named. TellsWrong C named (chunk₁ C heard) (chunk₁ C x))
+      (λ named. TellsWrong C named (chunk₂ C heard) (chunk₂ C x)) (r .rule) (r .chunk1) (r .chunk2)
   unfolding nearest
-  wrong-of-chunks s sees residual none =
-      let reads = word-reads C s (reads-in-code C sees) none in
+  wrong-of-chunks R s sees residual none =
+      let reads = rule-reads R s (InCode C) (reads-in-code C sees) none in
       record {
         by-rule = refl;
         p = numberBy s (ruleSeen s);
@@ -72,11 +74,11 @@ module _ (C : Code) where
       (count, told, (counted ∙ ap (λ (wrong : ℕ → ℕ). wrong p) (sym (plain-count C chunk)), omega arith))
   plain-tells false chunk p answered not-read = not-read
 
-  bits-of-chunks : ChunkPromise C → (x : ℕ → ℕ) → refusalOf C (seen C x) ≡ 0
-      → let r : Reading = nearest (residual C x) (seen C x) (ruleSeen (seen C x)) (allowedBy C (seen C x)) in
+  bits-of-chunks : ChunkPromise C → (x : ℕ → ℕ) → refusalOf (twoEnds C) (seen C x) ≡ 0
+      → let r : Reading = nearest (residual C x) (seen C x) (ruleSeen (seen C x)) (allowedBy (twoEnds C) (seen C x)) in
       BitsOfChunks ChunkBits TellsBits C x (r .rule) (r .chunk1) (r .chunk2)
   bits-of-chunks promise x none =
-      let bits = wrong-of-chunks (seen C x) (plain-sees-chunks C promise x) (residual C x) none in
+      let bits = wrong-of-chunks (twoEnds C) (seen C x) (plain-sees-chunks C promise x) (residual C x) none in
       record {
         by-rule = bits .by-rule;
         p = bits .p;
@@ -104,8 +106,8 @@ needed-is C false chunk p answered not-read whole holds named = absurd (false≢
 
 module _ (C : Code) (promise : ChunkPromise C) where
   -- at every position that a word allows: the bits needed are those in which a chunk differs from that of the position's word
-  unlike-allowed : (x : ℕ → ℕ) → refusalOf C (seen C x) ≡ 0 → (q : ℕ) → InRange (allowedBy C (seen C x)) q
-      → let r : Reading = nearest (residual C x) (seen C x) (ruleSeen (seen C x)) (allowedBy C (seen C x)) in
+  unlike-allowed : (x : ℕ → ℕ) → refusalOf (twoEnds C) (seen C x) ≡ 0 → (q : ℕ) → InRange (allowedBy (twoEnds C) (seen C x)) q
+      → let r : Reading = nearest (residual C x) (seen C x) (ruleSeen (seen C x)) (allowedBy (twoEnds C) (seen C x)) in
       (namesFirst (r .rule) ≡ true → bitsValue (r .chunk1) ≡ turnedIn C 1 (wordAt C q) x)
       × (namesSecond (r .rule) ≡ true → bitsValue (r .chunk2) ≡ turnedIn C 3 (wordAt C q) x)
   unfolding nearest turnedIn placesBefore chunkSize bits-of-chunks wrong-of-chunks

@@ -16,7 +16,7 @@ use Rattle.model.specs.Card.{Code, codeOf, cardRefusal}
 use Rattle.model.specs.Order.{lastCodeword}
 use Rattle.model.specs.Words.{word}
 use Rattle.model.specs.Reading.{Seen, seen, ruleSeen, ruleNamed, numberBy, separatorOf, separatorBy}
-use Rattle.model.specs.Reading.{rows9To12, rowsSeen, rowsOf, nearest}
+use Rattle.model.specs.Reading.{Rules, twoEnds, rows9To12, rowsSeen, rowsOf, nearest}
 use Rattle.model.specs.ReadWord.{rowsOfWord, readRefusal, readAnswer}
 use Rattle.model.specs.declared.Reading.{Reading}
 use Rattle.model.specs.declared.ReadAnswer.the-variants.{At, Refused}
@@ -30,16 +30,16 @@ use Rattle.position_theory.specs.Contradictions.{contradicted, unlessCon
 use Rattle.position_theory.proofs.Separators.{of-every-rule}
 use Rattle.position_theory.proofs.Words.{word-chunk}
 use Rattle.position_theory.proofs.Telling.{Tells, Sees, first-tells, second-tells, word-tells}
-use Rattle.position_theory.proofs.RuleReads.{BothRead, InCode, WordReads, number-of, reads-in-code, word-reads}
+use Rattle.position_theory.proofs.RuleReads.{BothRead, InCode, RuleReads, number-of, reads-in-code, rule-reads}
 use Rattle.position_theory.proofs.PlainSeen.{plain-sees-chunks, plain-sees, within-radius-below}
 use Rattle.position_theory.proofs.ReadWords.{read-shows}
 use Rattle.position_theory.proofs.Demands.{card-promise}
 
 -- ---- whatever is seen of a word, where no row holds
 
-pub parity-agrees : (C : Code) (s : Seen) → BothRead (InCode C) s → refusalOf C s ≡ 0 → ParityAgrees C s (ruleSeen s)
-parity-agrees C s kinds none =
-    let reads = word-reads C s kinds none in
+pub parity-agrees : (C : Code) (R : Rules) (s : Seen) → BothRead (InCode C) s → refusalOf R s ≡ 0 → ParityAgrees C s (ruleSeen s)
+parity-agrees C R s kinds none =
+    let reads = rule-reads R s (InCode C) kinds none in
     record {
       by-rule = refl;
       some-rule = reads .some-rule;
@@ -59,10 +59,10 @@ separator-from C {heard} {x} {s} sees i in-code =
     of-every-rule (λ rule. ChunkBelowD C heard (word C i) x (separatorChunk rule) → separatorBy s rule ≡ i % 2)
     (tells 0 (omega arith)) (tells 0 (omega arith)) (tells 4 (omega arith)) (tells 0 (omega arith)) (s .s₁) (s .s₂) (s .s₃)
 
-module _ (C : Code) {heard : ℕ → Bool} {x : ℕ → ℕ} {s : Seen} (sees : SeesChunks C heard x s) where
+module _ (C : Code) (R : Rules) {heard : ℕ → Bool} {x : ℕ → ℕ} {s : Seen} (sees : SeesChunks C heard x s) where
   -- a code chunk from w(j), likewise, reads as codeword j; so where the rule names it and no row holds, j is the number that is read
   chunk-from : (j c : ℕ) → j ≤ lastCodeword C → NamedChunk (ruleSeen s) c → ChunkBelowD C heard (word C j) x c
-      → WordReads C s (ruleSeen s) → numberBy s (ruleSeen s) ≡ j
+      → RuleReads R s (InCode C) (ruleSeen s) → numberBy s (ruleSeen s) ≡ j
   chunk-from j c in-code named below reads =
       ⊎-elim
       (λ (is, first).
@@ -75,9 +75,9 @@ module _ (C : Code) {heard : ℕ → Bool} {x : ℕ → ℕ} {s : Seen} (sees : 
 
   -- so a word whose rule's separator has another parity than j is refused
   pub pasted-refused : (i j c : ℕ) → j ≤ lastCodeword C → (i % 2 ≡ j % 2 → ⊥) → separatorBy s (ruleSeen s) ≡ i % 2
-      → NamedChunk (ruleSeen s) c → ChunkBelowD C heard (word C j) x c → refusalOf C s ≡ 0 → ⊥
+      → NamedChunk (ruleSeen s) c → ChunkBelowD C heard (word C j) x c → refusalOf R s ≡ 0 → ⊥
   pasted-refused i j c in-code differ reads-i named below none =
-      let reads = word-reads C s (reads-in-code C sees) none in
+      let reads = rule-reads R s (InCode C) (reads-in-code C sees) none in
       differ (sym reads-i ∙ reads .parity ∙ ap (λ (p : ℕ). p % 2) (chunk-from j c in-code named below reads))
 
 -- ---- row 17 is the last
@@ -128,7 +128,7 @@ read-only-if-parity-agrees card received r answered =
     let C = codeOf card in
     let (sound, none, is) = read-shows card received r answered in
     let promise = card-promise card sound in
-    rw (← is) (parity-agrees C (seen C (place received)) (reads-in-code C (plain-sees-chunks C promise (place received))) none)
+    rw (← is) (parity-agrees C (twoEnds C) (seen C (place received)) (reads-in-code C (plain-sees-chunks C promise (place received))) none)
 
 pub pasted-never-read : (card received : List ℕ) → PastedNeverRead card received (readAnswer card received)
 unfolding PastedNeverRead ruleNamed
@@ -139,7 +139,7 @@ pasted-never-read card received i j c pasted r answered =
     let promise = card-promise card sound in
     let separator = within-radius-below C promise (word C i) x _ (pasted .separator) in
     let chunk = within-radius-below C promise (word C j) x _ (pasted .chunk) in
-    pasted-refused C (plain-sees-chunks C promise x) i j c (pasted .in-code′) (pasted .differ)
+    pasted-refused C (twoEnds C) (plain-sees-chunks C promise x) i j c (pasted .in-code′) (pasted .differ)
     (separator-from C (plain-sees C promise (place-bit received)) i (pasted .in-code) separator) (pasted .named) chunk none
 
 pub as-before-unless-contradicted : (card received : List ℕ) → AsBeforeUnlessContradicted card received (readAnswer card received)

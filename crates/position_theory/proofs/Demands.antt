@@ -26,7 +26,7 @@ use Rattle.position_theory.specs.DividedChunks.{AtMostOneDivided}
 use Rattle.position_theory.proofs.WordBytes.{differing-words, residual-counts, reading, read-if-whole}
 use Rattle.position_theory.proofs.RuleReads.{reads-in-code}
 use Rattle.position_theory.proofs.PlainSeen.{plain-sees-chunks}
-use Rattle.position_theory.proofs.Nearest.{reading-is-nearest}
+use Rattle.position_theory.proofs.Nearest.{two-ends-nearest}
 use Rattle.position_theory.proofs.WhereDivided.{divided-one-by-one}
 use Rattle.position_theory.proofs.BoundedError.{all-within, error-bounded, near-loosen}
 use Rattle.position_theory.proofs.DistinctWords.{neighbours-differ, words-distinct}
@@ -64,7 +64,7 @@ read-sound card received sound = past-card (cardRefusal card) _ _ _ sound
 -- demand 2, reading: of a plain word's bits, and of a card and a word as bytes
 plain-nearest : (C : Code) → ChunkPromise C → (x : ℕ → ℕ) → IsReading C x (reading C x)
 plain-nearest C promise x =
-    reading-is-nearest C promise (seen C x) (reads-in-code C (plain-sees-chunks C promise x)) (residual C x)
+    two-ends-nearest C promise (seen C x) (reads-in-code C (plain-sees-chunks C promise x)) (residual C x)
 
 pub nearest-of-allowed : (card received : List ℕ) → NearestOfAllowed card received (readAnswer card received)
 unfolding NearestOfAllowed

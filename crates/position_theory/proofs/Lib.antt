@@ -1,6 +1,7 @@
 pub mod Ranges
 pub mod Words
 pub mod Between
+pub mod Ways
 pub mod WordBytes
 pub mod Separators
 pub mod Telling

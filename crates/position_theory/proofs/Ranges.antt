@@ -42,6 +42,12 @@ module _ (d : ℕ) (words : ℕ → ℕ → ℕ) where
       (λ (b : q′ ≤ q). omega (arith, far q′ q l′ b h, distance-comm d (words q) (words q′)))
       (lt-or-le q q′)
 
+-- a range that is not empty, of positions up to the last, and isometric
+pub record IsometricRange (d : ℕ) (words : ℕ → ℕ → ℕ) (last : ℕ) (range : Range) : Type 0 where
+  pub some : range .low ≤ range .high
+  pub on-track : range .high ≤ last
+  pub isometric : Isometric d words (range .low) (range .high)
+
 -- no two words are further apart than their residuals and so many lost places together
 abbrev pub WithinResiduals : (d : ℕ) (words : ℕ → ℕ → ℕ) (residual : ℕ → ℕ) (lost : ℕ) → Type 0
 WithinResiduals d words residual lost = (q q′ : ℕ) → distance d (words q) (words q′) ≤ residual q + residual q′ + lost

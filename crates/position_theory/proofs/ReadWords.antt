@@ -9,7 +9,7 @@ use Rattle.bits.specs.Places.{place}
 use Rattle.bits.proofs.Numbers.{eq-or-ne}
 use Rattle.model.specs.Refusals.{unlessRefused}
 use Rattle.model.specs.Card.{codeOf, cardRefusal}
-use Rattle.model.specs.Reading.{seen, ruleNamed, rows9To12, rowsSeen, rowsOf}
+use Rattle.model.specs.Reading.{seen, twoEnds, ruleNamed, rows9To12, rowsSeen, rowsOf}
 use Rattle.model.specs.ReadWord.{rowsOfWord, readingOf, readRefusal, readAnswer}
 use Rattle.model.specs.declared.Reading.{Reading}
 use Rattle.model.specs.declared.ReadAnswer.the-variants.{At, Refused}
@@ -29,7 +29,8 @@ read-if-served refusal reading r answered =
 
 -- of a card and a word as bytes
 pub read-shows : (card received : List ℕ) (r : Reading) → readAnswer card received ≡ At r
-    → (cardRefusal card ≡ 0) × (refusalOf (codeOf card) (seen (codeOf card) (place received)) ≡ 0) × (readingOf (codeOf card) received ≡ r)
+    → (cardRefusal card ≡ 0) × (refusalOf (twoEnds (codeOf card)) (seen (codeOf card) (place received)) ≡ 0)
+    × (readingOf (codeOf card) received ≡ r)
 unfolding readAnswer readRefusal rowsOfWord rowsOf ruleNamed rowsSeen rows9To12 NoneHolds numbered
 read-shows card received r answered =
     let (none, is) = read-if-served _ _ _ answered in

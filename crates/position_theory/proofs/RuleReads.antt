@@ -8,11 +8,10 @@ use native.Mathlib.Omega.{arith}
 use borrow.Author.Tests.{eqb-true}
 use lib.Dec.{eqb}
 use Rattle.bits.proofs.Numbers.{or-false-left, or-false-right}
-use Rattle.model.specs.Refusals.{firstRefusal}
 use Rattle.model.specs.Card.{Code}
 use Rattle.model.specs.Order.{lastCodeword}
 use Rattle.model.specs.Reading.{unreadable, numberRead, Seen, ruleSeen, namesFirst, namesSecond, numberBy}
-use Rattle.model.specs.Reading.{separatorOf, separatorBy, parityDiffers, Rules, twoEnds, rows9To12, rowsSeen}
+use Rattle.model.specs.Reading.{separatorOf, separatorBy, parityDiffers, Rules, rows9To12, rowsSeen}
 use Rattle.model.specs.declared.Chunk.{Chunk}
 use Rattle.model.specs.declared.Chunk.the-variants.{Codeword, Unreadable}
 use Rattle.code_theory.proofs.Refusals.{NoneHolds, numbered, none-holds}
@@ -67,7 +66,7 @@ same-number a b alike = eqb-true a b (holds (eqb a b) alike)
     holds false e = absurd (true≢false e)
 
 module _ (R : Rules) (s : Seen) (Kind : ℕ → Type 0) (kinds : BothRead Kind s) where
-  pub rule-reads : firstRefusal (rowsSeen R s (ruleSeen s)) ≡ 0 → RuleReads R s Kind (ruleSeen s)
+  pub rule-reads : refusalOf R s ≡ 0 → RuleReads R s Kind (ruleSeen s)
   unfolding NoneHolds numbered rowsSeen rows9To12 numberBy separatorOf parityDiffers
   rule-reads none =
       of-every-rule (λ rule. NoneHolds (rowsSeen R s rule) → RuleReads R s Kind rule)
@@ -104,10 +103,3 @@ module _ (R : Rules) (s : Seen) (Kind : ℕ → Type 0) (kinds : BothRead Kind s
         parity = same-number _ _ agrees;
       })
       (s .s₁) (s .s₂) (s .s₃) (none-holds _ refl none)
-
--- on a track with two ends, where the numbers are those of the code
-abbrev pub WordReads : Code → Seen → (rule : ℕ) → Type 0
-WordReads C s rule = RuleReads (twoEnds C) s (InCode C) rule
-
-pub word-reads : (C : Code) (s : Seen) → BothRead (InCode C) s → refusalOf C s ≡ 0 → WordReads C s (ruleSeen s)
-word-reads C s kinds none = rule-reads (twoEnds C) s (InCode C) kinds none

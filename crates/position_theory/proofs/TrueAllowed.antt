@@ -13,27 +13,28 @@ use Rattle.model.specs.Reading.{unreadable, numberRead, Seen, ruleSeen, numberB
 use Rattle.model.specs.Reading.{Rules, twoEnds, rows9To12, rowsSeen, rangeSeen}
 use Rattle.code_theory.specs.Promise.{ChunkPromise}
 use Rattle.position_theory.specs.SeenChunks.{ReadsAs}
+use Rattle.position_theory.specs.Nearest.{refusalOf, allowedBy}
 use Rattle.position_theory.proofs.Blocks.{start-on-track}
 use Rattle.position_theory.proofs.RuleReads.{number-of}
 use Rattle.position_theory.proofs.TrueCases.{TrueCase, around-first, first-part, last-part, around-last}
 
 -- no row of the table holds of what is seen, and what is allowed holds this position
 pub record Allows (R : Rules) (s : Seen) (position : ℕ) : Type 0 where
-  pub none-refuses : firstRefusal (rowsSeen R s (ruleSeen s)) ≡ 0
-  pub from-low : rangeSeen R s (ruleSeen s) .low ≤ position
-  pub to-high : position ≤ rangeSeen R s (ruleSeen s) .high
+  pub none-refuses : refusalOf R s ≡ 0
+  pub from-low : allowedBy R s .low ≤ position
+  pub to-high : position ≤ allowedBy R s .high
 
 -- by each rule, where its chunks read p, its block exists, and its separator has the parity of p
 module _ (R : Rules) (s : Seen) (p position : ℕ) where
   -- the range of the rule holds the position
-  abbrev Within : (rule : ℕ) → Type 0
+  abbrev pub Within : (rule : ℕ) → Type 0
   Within rule = (R .range rule p .low ≤ position) × (position ≤ R .range rule p .high)
 
   -- the allowed positions are those of a rule and the number that its chunks read
-  range-is : (rule : ℕ) → ruleSeen s ≡ rule → numberBy s rule ≡ p → rangeSeen R s (ruleSeen s) ≡ R .range rule p
+  range-is : (rule : ℕ) → ruleSeen s ≡ rule → numberBy s rule ≡ p → allowedBy R s ≡ R .range rule p
   range-is rule named number = ap (rangeSeen R s) named ∙ ap (R .range rule) number
 
-  by-rule₁ : ruleSeen s ≡ 1 → ReadsAs (s .read₁) p → s .s₁ ≡ p % 2 → R .noBlock 1 p ≡ false → Within 1 → Allows R s position
+  pub by-rule₁ : ruleSeen s ≡ 1 → ReadsAs (s .read₁) p → s .s₁ ≡ p % 2 → R .noBlock 1 p ≡ false → Within 1 → Allows R s position
   unfolding rowsSeen rows9To12 numberBy separatorOf parityDiffers unreadable numberRead firstRefusal
   by-rule₁ rule r parity block within =
       let range = range-is 1 rule (number-of (s .read₁) r) in
@@ -43,7 +44,7 @@ module _ (R : Rules) (s : Seen) (p position : ℕ) where
         to-high = rw range (within .1);
       }
 
-  by-rule₂ : ruleSeen s ≡ 2 → ReadsAs (s .read₂) p → s .s₃ ≡ p % 2 → R .noBlock 2 p ≡ false → Within 2 → Allows R s position
+  pub by-rule₂ : ruleSeen s ≡ 2 → ReadsAs (s .read₂) p → s .s₃ ≡ p % 2 → R .noBlock 2 p ≡ false → Within 2 → Allows R s position
   unfolding rowsSeen rows9To12 numberBy separatorOf parityDiffers unreadable numberRead firstRefusal
   by-rule₂ rule r parity block within =
       let range = range-is 2 rule (number-of (s .read₂) r) in
@@ -53,7 +54,7 @@ module _ (R : Rules) (s : Seen) (p position : ℕ) where
         to-high = rw range (within .1);
       }
 
-  by-rule₃ : ruleSeen s ≡ 3 → ReadsAs (s .read₁) p → ReadsAs (s .read₂) p → s .s₁ ≡ p % 2 → R .noBlock 3 p ≡ false → Within 3
+  pub by-rule₃ : ruleSeen s ≡ 3 → ReadsAs (s .read₁) p → ReadsAs (s .read₂) p → s .s₁ ≡ p % 2 → R .noBlock 3 p ≡ false → Within 3
       → Allows R s position
   unfolding rowsSeen rows9To12 numberBy separatorOf parityDiffers unreadable numberRead firstRefusal
   by-rule₃ rule r r′ parity block within =

@@ -23,7 +23,8 @@ use Rattle.code_theory.specs.Promise.{ChunkPromise}
 use Rattle.position_theory.specs.DividedChunks.{DividedOneByOne}
 use Rattle.position_theory.proofs.Words.{word-bit, word-chunk, chunk-ends, chunk-fits, places-rise}
 use Rattle.position_theory.proofs.Between.{Next, stepsBefore, WholeAt, apart-before, chunk-ahead, chunk-passed}
-use Rattle.position_theory.proofs.Blocks.{OnTheWay, next-codeword, block-steps, block-inside, block-start, on-the-way}
+use Rattle.position_theory.proofs.Ways.{way-steps}
+use Rattle.position_theory.proofs.Blocks.{OnTheWay, next-codeword, block-inside, block-start, on-the-way}
 use Rattle.position_theory.proofs.Blocks.{word-at-start, word-in-block}
 
 -- ---- by the places in which u and v differ, some of them taken from v in w
@@ -164,7 +165,7 @@ module _ (C : Code) (promise : ChunkPromise C) where
       (λ (h : m < stepsBefore C A (suc c)).
       rw (lt-ltb _ _ l, lt-ltb _ _ h)
       (divided-inside i m c inside
-      (omega (arith, block-steps C promise i inside, places-rise (C .D) A (suc c) 5 b)) b l h))
+      (omega (arith, way-steps C A, places-rise (C .D) A (suc c) 5 b)) b l h))
       (λ (passed : stepsBefore C A (suc c) ≤ m).
       rw (lt-ltb _ _ l, le-ltb _ _ passed) (undivided-if-whole i m c inside room b (inr passed)))
       (lt-or-le m (stepsBefore C A (suc c))))

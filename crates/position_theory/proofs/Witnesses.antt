@@ -23,7 +23,7 @@ use Rattle.model.specs.Order.{gray, lastCodeword, codeword, changedRow, changed
 use Rattle.model.specs.Words.{chunk₁, chunk₂, chunkSize, placesBefore, fiveChunks, word, blockOf, wordAt, wordBytes, divided, wordLength}
 use Rattle.model.specs.Reading.{majority, chunkDistance, withinRadius, readFirst, chunkReading, unreadable, numberRead, seen}
 use Rattle.model.specs.Reading.{ruleOf, numberBy, separatorOf, parityDiffers, twoEnds, rows9To12, rowsSeen, ruleNamed}
-use Rattle.model.specs.Reading.{Seen, Range, ruleSeen, namesFirst, namesSecond, separatorBy}
+use Rattle.model.specs.Reading.{Seen, Range, Rules, ruleSeen, namesFirst, namesSecond, separatorBy}
 use Rattle.model.specs.Reading.{allowed, residual, nearestIn, bitsNeeded, nearest}
 use Rattle.model.specs.ReadWord.{spareSet}
 use Rattle.model.specs.CardsToTry.{cardA, cardB}
@@ -103,12 +103,12 @@ bar-holds position e received sound on-track within few answer promise =
 
 -- ---- what is nearest, and what is refused
 
-module _ (C : Code) (s : Seen) (residualAt : ℕ → ℕ) where
+module _ (R : Rules) (last : ℕ) (s : Seen) (residualAt : ℕ → ℕ) where
   -- there is one nearest position
-  nearest-is-one : (q e rule : ℕ) → NearestOf C s residualAt q e rule → q ≡ nearestIn residualAt (allowedBy C s)
+  nearest-is-one : (q e rule : ℕ) → NearestOf R last s residualAt q e rule → q ≡ nearestIn residualAt (allowedBy R s)
   nearest-is-one q e rule n =
-      let q′ = nearestIn residualAt (allowedBy C s) in
-      let n′ = nearest-in residualAt (allowedBy C s) (omega (arith, n .from-low, n .to-high)) in
+      let q′ = nearestIn residualAt (allowedBy R s) in
+      let n′ = nearest-in residualAt (allowedBy R s) (omega (arith, n .from-low, n .to-high)) in
       ⊎-elim
       (λ (below : q < q′).
       absurd (omega (arith, n′ .none-smaller q (n .from-low) below, n .none-nearer q′ (n′ .from-low) (n′ .to-high), n .counted)))
@@ -119,14 +119,14 @@ module _ (C : Code) (s : Seen) (residualAt : ℕ → ℕ) where
       (eq-or-lt-of-le up))
       (lt-or-le q q′)
 
-  pub read-as : (answer : ReadAnswer) → IsReadingOf C s residualAt answer → refusalOf C s ≡ 0
-      → let q = nearestIn residualAt (allowedBy C s) in ReadAs q (residualAt q) (ruleSeen s) answer
+  pub read-as : (answer : ReadAnswer) → IsReadingOf R last s residualAt answer → refusalOf R s ≡ 0
+      → let q = nearestIn residualAt (allowedBy R s) in ReadAs q (residualAt q) (ruleSeen s) answer
   unfolding IsReadingOf ReadAs
   read-as (At r) n none =
       let is = nearest-is-one (r .position) (r .residual) (r .rule) n in (is, rw is at (n .counted), n .by-rule)
   read-as (Refused refusal) (is, some) none = some (sym is ∙ none)
 
-  pub refused-as : (answer : ReadAnswer) → IsReadingOf C s residualAt answer → (refusal : ℕ) → refusalOf C s ≡ suc refusal
+  pub refused-as : (answer : ReadAnswer) → IsReadingOf R last s residualAt answer → (refusal : ℕ) → refusalOf R s ≡ suc refusal
       → answer ≡ Refused (suc refusal)
   unfolding IsReadingOf
   refused-as (At r) n refusal some = let none = n .none-refuses in absurd (omega arith)
@@ -207,10 +207,10 @@ witnessed =
       before-last = λ word promise. promise 14 (computed refl) (inr refl);
       zero-is-before = λ word promise. promise 0 (computed refl) (inr refl);
       alone = λ position promise. sym (promise 15 (computed refl) refl);
-      smaller-of-two = λ answer promise. read-as _ _ _ answer (promise card-B-sound refl refl .0) refl;
-      smaller-at-last = λ answer promise. read-as _ _ _ answer (promise card-B-sound refl refl .0) refl;
+      smaller-of-two = λ answer promise. read-as _ _ _ _ answer (promise card-B-sound refl refl .0) refl;
+      smaller-at-last = λ answer promise. read-as _ _ _ _ answer (promise card-B-sound refl refl .0) refl;
       residual-counts = λ answer promise. promise card-B-sound refl refl .1 15;
-      by-17 = λ answer promise. refused-as _ _ _ answer (promise card-B-sound refl refl .0) 16 refl;
+      by-17 = λ answer promise. refused-as _ _ _ _ answer (promise card-B-sound refl refl .0) 16 refl;
       twice = λ answer promise. near-within answer 7 2 (promise 7 card-B-sound (computed refl) (within _ 7 sevenDamaged refl refl refl));
       twice-at-last = λ answer promise. near-within answer 15 2 (promise 15 card-B-sound (computed refl) (within _ 15 lastDamaged refl refl refl));
       twice-in-all = λ answer promise.

@@ -1,6 +1,6 @@
--- The bytes of a position's word: its d places, then spare bits that are zero. So the bytes of two words differ in as many bits as
--- the words, a received word of the right length with spare bits zero is read, and a residual is the count of bits in which the
--- position's bytes and the received ones differ. Assumes nothing.
+-- The bytes of a word, a position's or any other: its d places, then spare bits that are zero. So the bytes of two words differ in as many
+-- bits as the words, a received word of the right length with spare bits zero is read, and a residual is the count of bits in which
+-- the position's bytes and the received ones differ. Assumes nothing.
 use mathlib.Core.Path.{_≡_, sym, _∙_}
 use mathlib.Core.Bool.{false}
 use mathlib.Core.List.{List}
@@ -11,7 +11,7 @@ use lib.Dec.{eqb}
 use lib.ListN.{length}
 use borrow.Author.Tests.{eq-eqb, eqb-false}
 use Rattle.bits.specs.Sums.{distance}
-use Rattle.bits.specs.Places.{place, differingBits}
+use Rattle.bits.specs.Places.{place, pack, differingBits}
 use Rattle.bits.proofs.Distance.{distance-ext-left}
 use Rattle.bits.proofs.Walk.{walk-bit}
 use Rattle.bits.proofs.Searches.{any-none, none-of-any}
@@ -20,12 +20,19 @@ use Rattle.bits.proofs.ByteLists.{differing-below, packed-distance}
 use Rattle.model.specs.Refusals.{firstRefusal, unlessRefused}
 use Rattle.model.specs.Card.{Code}
 use Rattle.model.specs.Words.{wordBits, blockOf, wordAt, wordBytes, wordLength}
-use Rattle.model.specs.Reading.{Seen, seen, ruleSeen, ruleNamed, rowsOf, allowed, residual, nearest}
+use Rattle.model.specs.Reading.{Seen, seen, ruleSeen, Rules, twoEnds, ruleNamed, rowsOf, allowed, residual, nearest}
 use Rattle.model.specs.ReadWord.{spareSet, rowsOfWord, readWord}
 use Rattle.model.specs.declared.ReadAnswer.{ReadAnswer}
 use Rattle.model.specs.declared.ReadAnswer.the-variants.{At, Refused}
 use Rattle.position_theory.specs.Nearest.{refusalOf, allowedBy}
 use Rattle.position_theory.proofs.Words.{word-bit}
+
+-- the bytes of any word have no spare bit set
+pub packed-none-spare : (C : Code) {w : ℕ → ℕ} → ((p : ℕ) → w p < 2) → spareSet C (pack (wordBits C) w) ≡ false
+unfolding spareSet
+packed-none-spare C {w} bits = any-none _ _ (λ q b. rw (place-spare (wordBits C) w bits (wordBits C + q) (omega arith)))
+
+-- ---- the word of a position
 
 pub word-at-bit : (C : Code) (position p : ℕ) → wordAt C position p < 2
 unfolding wordAt
@@ -40,26 +47,24 @@ module _ (C : Code) (position : ℕ) where
   unfolding wordBytes
   place-of-word = place-packed (wordBits C) (wordAt C position) (word-at-bit C position)
 
-  spare-of-word : (p : ℕ) → wordBits C ≤ p → place (wordBytes C position) p ≡ 0
-  unfolding wordBytes
-  spare-of-word = place-spare (wordBits C) (wordAt C position) (word-at-bit C position)
-
   pub no-spare-set : spareSet C (wordBytes C position) ≡ false
-  unfolding spareSet
-  no-spare-set = any-none _ _ (λ q b. rw (spare-of-word (wordBits C + q) (omega arith)))
+  unfolding wordBytes
+  no-spare-set = packed-none-spare C (word-at-bit C position)
 
 pub differing-words : (C : Code) (p q : ℕ)
     → differingBits (wordBytes C p) (wordBytes C q) ≡ distance (wordBits C) (wordAt C p) (wordAt C q)
 unfolding wordBytes
 differing-words C p q = packed-distance (wordBits C) (word-at-bit C p) (word-at-bit C q)
 
--- the reading of what is seen of a word: refusals 9 to 12 and 17, or the nearest allowed position
-unfoldable pub readingOfSeen : Code → Seen → (residual : ℕ → ℕ) → ReadAnswer
-readingOfSeen C s residual = unlessRefused (refusalOf C s) Refused (At (nearest residual s (ruleSeen s) (allowedBy C s)))
+-- ---- the reading of a word
 
--- of a plain word, given as a bit function
+-- the reading of what is seen of a word: refusals 9 to 12 and 17, or the nearest allowed position
+unfoldable pub readingOfSeen : Rules → Seen → (residual : ℕ → ℕ) → ReadAnswer
+readingOfSeen R s residual = unlessRefused (refusalOf R s) Refused (At (nearest residual s (ruleSeen s) (allowedBy R s)))
+
+-- of a plain word, given as a bit function, on a track with two ends
 abbrev pub reading : Code → (x : ℕ → ℕ) → ReadAnswer
-reading C x = readingOfSeen C (seen C x) (residual C x)
+reading C x = readingOfSeen (twoEnds C) (seen C x) (residual C x)
 
 -- a word of the right length with spare bits zero is read
 pub read-if-whole : (C : Code) (received : List ℕ) → length received ≡ wordLength C → spareSet C received ≡ false
@@ -77,9 +82,14 @@ module _ (C : Code) (received : List ℕ) (spare : spareSet C received ≡ false
       let not-one = eqb-false (place received (wordBits C + rest .0)) 1 test in
       rw (← (rest .1)) (omega (arith, place-bit received (wordBits C + rest .0), not-one))
 
+  -- it is unlike any word in as many bits as their bytes differ in
+  pub packed-unlike : {w : ℕ → ℕ} → ((p : ℕ) → w p < 2)
+      → distance (wordBits C) w (place received) ≡ differingBits (pack (wordBits C) w) received
+  packed-unlike {w} bits =
+      sym (distance-ext-left (wordBits C) (place received) (place-packed (wordBits C) w bits))
+      ∙ sym (differing-below (wordBits C) (pack (wordBits C) w) received (length-pack (wordBits C) w)
+      (λ p h b. place-spare (wordBits C) w bits p h ∙ sym (spare-bits-zero p h b)))
+
   pub residual-counts : (position : ℕ) → residual C (place received) position ≡ differingBits (wordBytes C position) received
-  unfolding residual
-  residual-counts position =
-      sym (distance-ext-left (wordBits C) (place received) (place-of-word C position))
-      ∙ sym (differing-below (wordBits C) (wordBytes C position) received (length-of-word C position)
-      (λ p h b. spare-of-word C position p h ∙ sym (spare-bits-zero p h b)))
+  unfolding residual wordBytes
+  residual-counts position = packed-unlike (word-at-bit C position)

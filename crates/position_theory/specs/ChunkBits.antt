@@ -9,7 +9,7 @@ use Rattle.bits.specs.Places.{place}
 use Rattle.model.specs.Card.{Code, radius}
 use Rattle.model.specs.Order.{lastCodeword}
 use Rattle.model.specs.Words.{chunk₁, chunk₂, wordBytes}
-use Rattle.model.specs.Reading.{chunkDistance, Seen, seen, ruleSeen, namesFirst, namesSecond, twoEnds}
+use Rattle.model.specs.Reading.{chunkDistance, Seen, seen, ruleSeen, namesFirst, namesSecond, Rules, twoEnds}
 use Rattle.model.specs.Levels.{chunkWrong}
 use Rattle.model.specs.declared.ChunkBits.{ChunkBits}
 use Rattle.model.specs.declared.ChunkBits.the-variants.{Differing, NotRead}
@@ -34,12 +34,12 @@ TellsWrong C false heard chunk p answered = answered ≡ NotRead
 -- What is told of both code chunks of a word of which s is seen, of each in its own form: the rule is the one that the separators name;
 -- the chunks that it names read as one codeword c(p), by which it allows positions; and what is told of either chunk is its bits against
 -- that codeword.
-pub record BitsSeen (B : Type 0) (C : Code) (s : Seen) (Tells₁ Tells₂ : (named : Bool) (p : ℕ) → B → Type 0)
+pub record BitsSeen (B : Type 0) (C : Code) (R : Rules) (s : Seen) (Tells₁ Tells₂ : (named : Bool) (p : ℕ) → B → Type 0)
     (rule : ℕ) (bits₁ bits₂ : B) : Type 0 where
   pub by-rule : rule ≡ ruleSeen s
   pub p : ℕ
   pub in-code : p ≤ lastCodeword C
-  pub allows : allowedBy C s ≡ twoEnds C .range rule p
+  pub allows : allowedBy R s ≡ R .range rule p
   pub first : Tells₁ (namesFirst rule) p bits₁
   pub second : Tells₂ (namesSecond rule) p bits₂
 
@@ -47,12 +47,12 @@ pub record BitsSeen (B : Type 0) (C : Code) (s : Seen) (Tells₁ Tells₂ : (nam
 abbrev pub BitsOfChunks : (B : Type 0) (Tells : Code → (named : Bool) (chunk : ℕ → ℕ) (p : ℕ) → B → Type 0)
     → Code → (x : ℕ → ℕ) (rule : ℕ) (bits₁ bits₂ : B) → Type 0
 BitsOfChunks B Tells C x =
-    BitsSeen B C (seen C x) (λ named. Tells C named (chunk₁ C x)) (λ named. Tells C named (chunk₂ C x))
+    BitsSeen B C (twoEnds C) (seen C x) (λ named. Tells C named (chunk₁ C x)) (λ named. Tells C named (chunk₂ C x))
 
 -- of a word x of which these places are heard
 abbrev pub WrongOfChunks : Code → (heard : ℕ → Bool) (x : ℕ → ℕ) → Seen → (rule : ℕ) (bits₁ bits₂ : ChunkBits) → Type 0
 WrongOfChunks C heard x s =
-    BitsSeen ChunkBits C s
+    BitsSeen ChunkBits C (twoEnds C) s
     (λ named. TellsWrong C named (chunk₁ C heard) (chunk₁ C x))
     (λ named. TellsWrong C named (chunk₂ C heard) (chunk₂ C x))
 

@@ -52,11 +52,15 @@ turnedInAll C u x = sumBelow (λ c. turnedIn C c u x) 5
 unfoldable pub turned : Code → (position : ℕ) (received : List ℕ) → ℕ
 turned C position received = turnedInAll C (place (wordBytes C position)) (place received)
 
--- the received bytes are a word with spare bits zero in which each chunk has at most t bits of the position's word turned
-pub record WithinRadius (C : Code) (position : ℕ) (received : List ℕ) : Type 0 where
+-- the received bytes are a word with spare bits zero in which each chunk has at most t bits of the word sent turned; and of the word of a
+-- position
+pub record WithinRadiusOf (C : Code) (sent received : List ℕ) : Type 0 where
   pub right-length : length received ≡ wordLength C
   pub spare-zero : spareSet C received ≡ false
-  pub chunks : ChunksWithin C (radius C) (place (wordBytes C position)) (place received)
+  pub chunks : ChunksWithin C (radius C) (place sent) (place received)
+
+abbrev pub WithinRadius : Code → (position : ℕ) (received : List ℕ) → Type 0
+WithinRadius C position = WithinRadiusOf C (wordBytes C position)
 
 -- The received bytes are a word with spare bits zero in which each chunk of the position's word that is not divided has at most t bits
 -- turned. A divided chunk may be turned at will; where none is divided, the limit binds all five, as in `WithinRadius`.
