@@ -1,4 +1,2 @@
-// Arithmetic of bits that the chunk code, the Reed-Muller codes and the words of positions share: powers of two, numbers of ones, and a
-// number's bit.
-pub mod digits;
+// Arithmetic of bits that the chunk code, the Reed-Muller codes and the words of positions share.
 pub mod powers;

@@ -1,11 +1,10 @@
 // A codeword of a decoded code, and the weight of a row.
 ghost use mathlib.Core.Path.{_≡_};
 ghost use Prim.Native.Nat.{ℕ, _^_, _<_};
-ghost use Rattle.bits.specs.Places.{weight};
+ghost use Rattle.bits.specs.Places.{bit, weight};
 ghost use Rattle.model.specs.Decoded.{meaning};
 ghost use Rattle.model.specs.Order.{gray, codeword};
 ghost use Rattle.code_theory.specs.Promise.{Sound};
-use bit_arithmetic::digits;
 use model::DecodedCode;
 
 // Gray(i).
@@ -13,6 +12,14 @@ fn gray_number(i: u32) -> u32
     ensures { λ r. ⌜ r ≡ gray i ⌝ }
 {
     i ^ (i >> 1)
+}
+
+// Bit z of a number. It is one of 32 bits: of one of 64 the compiler takes several rows in a step and branches on each of the rest.
+fn bit_of(x: u32, z: u32) -> u64
+    requires { ⌜ z < 32 ⌝ }
+    ensures { λ r. ⌜ (r ≡ bit x z) × (r < 2) ⌝ }
+{
+    ((x >> z) % 2) as u64
 }
 
 // Codeword i: the sum of the rows whose bits are set in Gray(i), each added as often as its bit says, with no branch.
@@ -27,7 +34,7 @@ pub fn codeword(code: DecodedCode, i: u32) -> u64
     let mut z: u32 = 0;
     while z < k {
         let row = rows[z as usize];
-        word ^= digits::bit_of(gray as u64, z) * row;
+        word ^= bit_of(gray, z) * row;
         z += 1;
     }
     word

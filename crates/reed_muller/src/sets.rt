@@ -5,7 +5,6 @@ ghost use Prim.Native.Nat.{ℕ, _-_, _^_, _≤_, _<_};
 ghost use lib.Dec.{ltb};
 ghost use Rattle.model.specs.ReedMuller.{setsUpTo};
 ghost use Rattle.reed_muller.specs.Table.{setsBefore};
-use bit_arithmetic::digits;
 
 // By size and then by number: 1 set of no variable, 6 of one, 15 of two, 20 of three. A byte each, so that the table is made in a few
 // instructions.
@@ -77,5 +76,5 @@ pub fn is_own(set: u32, positions: u64) -> bool
     requires { ⌜ set < 64 ⌝ }
     ensures { λ a. ⌜ ((m : ℕ) → positions ≡ 2 ^ 2 ^ m - 1 → a ≡ ltb set (2 ^ m)) ⌝ }
 {
-    digits::bit_of(positions, set) == 1
+    (positions >> set) % 2 == 1
 }

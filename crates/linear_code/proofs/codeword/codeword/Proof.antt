@@ -54,7 +54,6 @@ codeword-spec =
     (λ c. search needs)
     (λ c. search needs)
     (λ c. search needs)
-    (λ c. search needs)
     (λ c κs. search needs)
     mul-word
     (λ c. search needs)

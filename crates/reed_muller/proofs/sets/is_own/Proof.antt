@@ -5,7 +5,7 @@ use Rattle.reed_muller.proofs.sets.is_own.Statement.{statement}
 use Rattle.reed_muller.proofs.sets.is_own.Tie as tie
 
 returns : tie.Need-returns
-returns c m are = rw (c .bit-of .ensures .0) (own-by-place m (c .before .args .set) (c .before .args .positions) are)
+returns c m are = own-by-place m (c .args .set) (c .args .positions) are
 
 pub is-own-spec : {M : Type 1} → statement M
 is-own-spec = tie.close (tie.spec (λ c. search needs) returns)
