@@ -1,19 +1,11 @@
--- The least of some numbers, as a loop finds it: it is at most each of them, and no number that is so is above it. So it is known
--- whatever the order in which they are met, and one number more is one minimum more. Assumes nothing.
+-- The least of some numbers is known whatever the order in which they are met, and one number more is one minimum more. Assumes
+-- nothing.
 use mathlib.Core.Path.{_≡_}
 use mathlib.Core.Logic.{⊎-elim}
 use Prim.Native.Nat.{ℕ, _+_, _≤_, _<_, min}
 use native.Mathlib.Omega.{arith}
 use Rattle.bits.proofs.Numbers.{eq-or-ne}
-
--- b is at most each of f(from), …, f(end - 1)
-abbrev AtMostAll : (f : ℕ → ℕ) (from end b : ℕ) → Type 0
-AtMostAll f from end b = (j : ℕ) → from ≤ j → j < end → b ≤ f j
-
--- least is the greatest number that is at most start and each of those
-abbrev pub LeastOf : (f : ℕ → ℕ) (from end start least : ℕ) → Type 0
-LeastOf f from end start least =
-    (least ≤ start) × AtMostAll f from end least × ((b : ℕ) → b ≤ start → AtMostAll f from end b → b ≤ least)
+use Rattle.linear_code.specs.LeastOf.{LeastOf}
 
 module _ (f : ℕ → ℕ) (from : ℕ) where
   pub least-of-none : (start : ℕ) → LeastOf f from from start start

@@ -10,7 +10,6 @@ use native.Mathlib.Nat.{eq-zero-or-pos, add-comm, zero-mul, mod-lt, mul-pos, mul
 use native.Mathlib.Omega.{arith}
 use lib.Bits.{bitXor}
 use lib.Count.{trailingZeros, ones}
-use lib.ListN.{getD}
 use lib.Pow as pow
 use lib.Pow.{pow-pos, pow-add, shr-lt, le-ones, lt-of-le-ones}
 use Rattle.bits.specs.Places.{weight}
@@ -23,7 +22,8 @@ use Rattle.code_theory.proofs.Codewords.{rows-below}
 use Rattle.code_theory.proofs.Gray.{gray-zero, gray-below, gray-positive, gray-onto}
 use Rattle.code_theory.proofs.LeastOfSets.{AtMostEach, least-in-any-order}
 use Rattle.linear_code.proofs.GrayStep.{AtSet, set-start, row-below, set-next}
-use Rattle.linear_code.proofs.LeastOf.{LeastOf, least-of-same}
+use Rattle.linear_code.specs.LeastOf.{LeastOf, onesWith}
+use Rattle.linear_code.proofs.LeastOf.{least-of-same}
 use Rattle.linear_code.proofs.LowSums.{Table}
 use Rattle.linear_code.proofs.Rows.{Narrow, behind, rows-split}
 
@@ -45,10 +45,10 @@ pub record AtBehind (n low high : ℕ) (row : ℕ → ℕ) (last word least h : 
 module _ (low high : ℕ) (row : ℕ → ℕ) where
   -- what the inner loop finds in the table, said of the sums of rows
   of-table : (sums : List ℕ) (h word from start least : ℕ) → Table low row sums → word ≡ sumOfRows (behind low row) high (gray h)
-      → LeastOf (λ j. ones (bitXor (getD sums j 0) word)) from (2 ^ low) start least
+      → LeastOf (onesWith sums word) from (2 ^ low) start least
       → LeastOf (λ j. ones (both low high row h j)) from (2 ^ low) start least
   of-table sums h word from start least table is-word =
-      least-of-same (λ j. ones (bitXor (getD sums j 0) word)) from (λ j. ones (both low high row h j)) (2 ^ low) start least
+      least-of-same (onesWith sums word) from (λ j. ones (both low high row h j)) (2 ^ low) start least
       (λ j l. rw (table j l, is-word))
 
 module _ (n low high : ℕ) (row : ℕ → ℕ) (narrow : Narrow n (low + high) row) where
@@ -101,7 +101,7 @@ module _ (n low high : ℕ) (row : ℕ → ℕ) (narrow : Narrow n (low + high) 
 module _ {n low high : ℕ} {row : ℕ → ℕ} where
   -- before the first turn: the sets of low rows alone
   pub at-start : (sums : List ℕ) {two size least : ℕ} → Table low row sums → two ≡ 2 ^ high → size ≡ 2 ^ low
-      → LeastOf (λ j. ones (bitXor (getD sums j 0) 0)) 1 size n least → AtBehind n low high row (two - 1) 0 least 0
+      → LeastOf (onesWith sums 0) 1 size n least → AtBehind n low high row (two - 1) 0 least 0
   at-start sums {least = least} table is-two is-size found =
       let none : AtSet high (behind low row) _ 0 0 = set-start is-two in
       let (at-most, at-most-each, greatest) = of-table low high row sums 0 0 1 n least table (none .current) (rw (← is-size) found) in
@@ -121,7 +121,7 @@ module _ {n low high : ℕ} {row : ℕ → ℕ} where
   pub at-next : high ≤ 12 → (sums : List ℕ) {size last word least h least′ : ℕ} → Table low row sums → size ≡ 2 ^ low
       → AtBehind n low high row last word least h → h < last
       → let next = bitXor word (row (low + trailingZeros 32 (h + 1))) in
-      LeastOf (λ j. ones (bitXor (getD sums j 0) next)) 0 size least least′ → AtBehind n low high row last next least′ (h + 1)
+      LeastOf (onesWith sums next) 0 size least least′ → AtBehind n low high row last next least′ (h + 1)
   at-next twelve sums {least = least} {h = h} {least′ = least′} table is-size stand more found =
       let next = set-next twelve (stand .at) more in
       let (at-most, at-most-each, greatest) =

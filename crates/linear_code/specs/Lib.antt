@@ -1,2 +1,3 @@
 pub mod DecodedFrom
 pub mod FirstWithin
+pub mod LeastOf

@@ -3,12 +3,12 @@
 // table. To each sum of the rows behind, the table's sums are added in one plain loop, which the compiler takes many at a time.
 ghost use mathlib.Core.Path.{_≡_};
 ghost use Prim.Native.Nat.{ℕ, _-_, _^_, _≤_, _<_};
-ghost use lib.Bits.{bitXor};
 ghost use lib.Count.{ones};
 ghost use lib.ListN.{getD};
 ghost use Rattle.model.specs.Card.{sumOfRows};
 ghost use Rattle.model.specs.Order.{gray};
 ghost use Rattle.code_theory.specs.LeastOfSets.{leastOfSets};
+ghost use Rattle.linear_code.specs.LeastOf.{LeastOf, onesWith};
 use bit_arithmetic::powers;
 
 // How many of k rows are low ones: five at most, for the table has room for 32 sums. The compiler would clear a longer table by a
@@ -48,13 +48,10 @@ fn ones_of(word: u64) -> u8
     u64::count_ones(word) as u8
 }
 
-// The least of `start` and of the weights of the sums `from` to `size` - 1, each with `word` added: it is at most each of these
-// numbers, and no number that is so is above it.
+// The least of `start` and of the weights of the sums `from` to `size` - 1, each with `word` added.
 fn least_of(sums: &[u64; 32], from: usize, size: usize, word: u64, start: u8) -> u8
     requires { ⌜ (from ≤ size) × (size ≤ 32) ⌝ }
-    ensures at_most_start { λ r. ⌜ r ≤ start ⌝ }
-    ensures at_most_each { λ r. ⌜ ((j : ℕ) → from ≤ j → j < size → r ≤ ones (bitXor (getD (now (sums .entry)) j 0) word)) ⌝ }
-    ensures greatest { λ r. ⌜ ((b : ℕ) → b ≤ start → ((j : ℕ) → from ≤ j → j < size → b ≤ ones (bitXor (getD (now (sums .entry)) j 0) word)) → b ≤ r) ⌝ }
+    ensures { λ r. ⌜ LeastOf (onesWith (now (sums .entry)) word) from size start r ⌝ }
 {
     let mut least = start;
     let mut j = from;

@@ -1,20 +1,18 @@
 -- `linear_code::least_weight::least_of` meets its contract. The loop's invariant: `least` is the least of `start` and the weights of the sums
--- passed, in the contract's own three clauses. The measure is the sums that are left. Assumes nothing.
+-- passed, as the contract has it. The measure is the sums that are left. Assumes nothing.
 use mathlib.Core.Path.{_≡_, ap, _∙_}
 use mathlib.Core.Logic.{⊎-elim}
 use Prim.Native.Nat.{_-_, _≤_, min}
 use native.Mathlib.Omega.{arith}
 use borrow.Author.Needs.{needs}
-use lib.Bits.{bitXor}
-use lib.Count.{ones}
-use lib.ListN.{getD}
-use Rattle.linear_code.proofs.LeastOf.{LeastOf, least-of-none, least-of-more}
+use Rattle.linear_code.specs.LeastOf.{LeastOf, onesWith}
+use Rattle.linear_code.proofs.LeastOf.{least-of-none, least-of-more}
 use Rattle.linear_code.proofs.least_weight.least_of.Statement.{statement}
 use Rattle.linear_code.proofs.least_weight.least_of.Tie as tie
 
 abbrev Inv-loop : tie.InvT-loop
 Inv-loop sums from size word start least₀ j₀ least j =
-    (from ≤ j) × (j ≤ size) × LeastOf (λ i. ones (bitXor (getD sums i 0) word)) from j start least
+    (from ≤ j) × (j ≤ size) × LeastOf (onesWith sums word) from j start least
 
 abbrev μ-loop : tie.MeasureT-loop
 μ-loop sums from size word start least₀ j₀ least j = size - j
@@ -37,8 +35,7 @@ returns : tie.Need-returns Inv-loop μ-loop
 returns c =
     let loop = c .before .loop in
     let all : loop .j ≡ c .before .before .args .size = omega arith in
-    let (at-most-start, at-most-each, greatest) = rw all at (loop .inv .2) in
-    (at-most-start, (at-most-each, greatest))
+    rw all at (loop .inv .2)
 
 pub least-of-spec : {M : Type 1} → statement M
 least-of-spec =

@@ -40,9 +40,8 @@ sub-last c = omega (arith, pow-pos (parted c .before .args .k - parted c .low-ro
 loop-holds : tie.Need-loop-holds Inv-loop μ-loop
 loop-holds c =
     let table = filled c in
-    let found = c .before .least-of .ensures in
     at-start (table .low-sums .result) (table .low-sums .ensures) (c .two-to2 .ensures) (table .before .two-to .ensures)
-    (found .0, found .1 .0, found .1 .1)
+    (c .before .least-of .ensures)
 
 -- the number of the row that is added
 row : (c : tie.In-loop Inv-loop μ-loop) → parted (c .before .before) .low-rows .result + trailingZeros 32 (c .before .loop .set + 1) < 12
@@ -67,9 +66,8 @@ loop-again : tie.Need-loop-again Inv-loop μ-loop
 loop-again c =
     let turn = c .before .before in
     let table = filled (turn .before .before) in
-    let found = c .least-of2 .ensures in
     at-next (omega arith) (table .low-sums .result) (table .low-sums .ensures) (table .before .two-to .ensures)
-    (turn .before .loop .inv) (turn .loop-test .taken) (found .0, found .1 .0, found .1 .1)
+    (turn .before .loop .inv) (turn .loop-test .taken) (c .least-of2 .ensures)
 
 returns : tie.Need-returns Inv-loop μ-loop
 returns c =
