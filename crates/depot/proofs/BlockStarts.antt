@@ -1,6 +1,6 @@
--- What the call that asks for a block's start answers, one law for each way out of the code, from what decoding the card gave; the
--- status and the values are those of the answer that the definition gives. Assumes nothing.
-use mathlib.Core.Path.{_≡_, refl, sym, _∙_}
+-- What the call that asks for a block's start answers, one law for each way out of the code, from what decoding the card gave: the
+-- answer is the one that the definition gives, of which the clauses of the contract are theorems. Assumes nothing.
+use mathlib.Core.Path.{_≡_, sym, _∙_}
 use mathlib.Core.List.{List, [], _∷_}
 use Prim.Native.Nat.{ℕ, _≤_, _<_}
 use borrow.Author.Tests.{eq-eqb, lt-ltb, le-ltb}
@@ -14,23 +14,22 @@ use Rattle.model.specs.declared.NumberAnswer.{NumberAnswer}
 use Rattle.model.specs.declared.NumberAnswer.the-variants.{Number, Refused}
 use Rattle.code_theory.proofs.Refusals.{refused-by-card}
 use Rattle.linear_code.specs.DecodedFrom.{DecodedFrom}
+use Rattle.depot.proofs.Contracts.{Meets, met}
 use Rattle.depot.proofs.Statuses.{Told, start-told}
 
--- what the contract says of the answer
-abbrev StartMeets : (card : List ℕ) (block : ℕ) → NumberAnswer → Type 0
-StartMeets card block answer =
-    (answer ≡ startAnswer card block)
-    × Told numberStatus numberValues (startRefusal card block) (start (codeOf card) block ∷ []) answer
+-- the clauses of the contract beside the equation
+abbrev StartClauses : (card : List ℕ) (block : ℕ) → NumberAnswer → Type 0
+StartClauses card block = Told numberStatus numberValues (startRefusal card block) (start (codeOf card) block ∷ [])
 
-start-meets : (card : List ℕ) (block : ℕ) (answer : NumberAnswer) → answer ≡ startAnswer card block → StartMeets card block answer
-start-meets card block answer e = rw e (refl, start-told card block)
+abbrev StartMeets : (card : List ℕ) (block : ℕ) → NumberAnswer → Type 0
+StartMeets card block = Meets (StartClauses card block) (startAnswer card block)
 
 -- a card that is refused
 module _ (card : List ℕ) (decoded : Decoded) (from : DecodedFrom card decoded) (refused : decoded .refusal ≡ 0 → ⊥) where
   pub start-refused : (block : ℕ) → StartMeets card block (Refused (decoded .refusal))
   unfolding startAnswer startRefusal
   start-refused block =
-      start-meets card block (Refused (decoded .refusal))
+      met (StartClauses card block) (start-told card block)
       (rw (← (from .refusal)) (sym (refused-by-card (decoded .refusal) _ _ _ refused)))
 
 -- a sound card
@@ -42,11 +41,11 @@ module _ (card : List ℕ) (decoded : Decoded) (from : DecodedFrom card decoded)
       → StartMeets card block (Refused 7)
   unfolding startAnswer startRefusal firstRefusal unlessRefused
   start-above last block is h =
-      start-meets card block (Refused 7) (rw (eq-eqb (cardRefusal card) 0 is-sound, ← (from .code sound), ← is, lt-ltb last block h))
+      met (StartClauses card block) (start-told card block) (rw (eq-eqb (cardRefusal card) 0 is-sound, ← (from .code sound), ← is, lt-ltb last block h))
 
   pub start-within : (last block answer : ℕ) → last ≡ lastCodeword (meaning (decoded .code)) → block ≤ last
       → answer ≡ start (meaning (decoded .code)) block → StartMeets card block (Number answer)
   unfolding startAnswer startRefusal firstRefusal unlessRefused
   start-within last block answer is h e =
-      start-meets card block (Number answer)
+      met (StartClauses card block) (start-told card block)
       (rw (eq-eqb (cardRefusal card) 0 is-sound, ← (from .code sound), ← is, ← e, le-ltb last block h))

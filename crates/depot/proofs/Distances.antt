@@ -1,7 +1,7 @@
--- What the call that asks for a distance answers, one law for each way out of the code, from what decoding the card gave; the status and
--- the values are those of the answer that the definition gives, and of an old card it is document 01's. And the signed sum: an offset
--- within its range and 50 mm for each step of the longest track fit 32 bits. Assumes nothing.
-use mathlib.Core.Path.{_≡_, refl, sym, _∙_}
+-- What the call that asks for a distance answers, one law for each way out of the code, from what decoding the card gave: the answer is
+-- the one that the definition gives, of which the clauses of the contract are theorems. And the signed sum: an offset within its range
+-- and 50 mm for each step of the longest track fit 32 bits. Assumes nothing.
+use mathlib.Core.Path.{_≡_, sym, _∙_}
 use mathlib.Core.Bool.{false}
 use mathlib.Core.List.{List, [], _∷_}
 use Prim.Native.Nat.{ℕ, suc, _+_, _≤_, _<_}
@@ -22,11 +22,12 @@ use Rattle.model.specs.Millimetres.{millimetresRefusal, millimetresAnswer, mill
 use Rattle.model.specs.declared.Decoded.{Decoded}
 use Rattle.model.specs.declared.MillimetresAnswer.{MillimetresAnswer}
 use Rattle.model.specs.declared.MillimetresAnswer.the-variants.{Millimetres, Refused}
-use Rattle.code_theory.specs.Offsets.{DistanceAsBefore}
-use Rattle.code_theory.proofs.Offsets.{distance-as-before}
+use Rattle.code_theory.specs.Offsets.{MillimetresPromises}
+use Rattle.code_theory.proofs.Offsets.{millimetres-promises}
 use Rattle.code_theory.proofs.Refusals.{refused-by-card}
 use Rattle.code_theory.proofs.SoundCard.{card-tests, offset-of-test}
 use Rattle.linear_code.specs.DecodedFrom.{DecodedFrom}
+use Rattle.depot.proofs.Contracts.{Meets, met}
 use Rattle.depot.proofs.Statuses.{millimetres-told}
 
 -- ---- the signed sum
@@ -45,26 +46,26 @@ offset-fits offset within = record { sfits = omega (arith, offset-of-test offset
 
 -- ---- the answers
 
--- what the contract says of the answer
-abbrev MillimetresMeets : (card : List ℕ) (position : ℕ) → MillimetresAnswer → Type 0
-MillimetresMeets card position answer =
-    let distance : ℤ = millimetresOf (offsetOf card) position in
-    (answer ≡ millimetresAnswer card position)
-    × ((millimetresStatus answer ≡ millimetresRefusal card position)
-    × ((millimetresValues answer ≡ ifServed (millimetresStatus answer) (distance ∷ [])) × DistanceAsBefore card position answer))
+-- the clauses of the contract beside the equation, and that the definition's answer meets them
+abbrev MillimetresClauses : (card : List ℕ) (position : ℕ) → MillimetresAnswer → Type 0
+MillimetresClauses card position answer =
+    (millimetresStatus answer ≡ millimetresRefusal card position)
+    × ((millimetresValues answer ≡ ifServed (millimetresStatus answer) (millimetresOf (offsetOf card) position ∷ []))
+    × MillimetresPromises card position answer)
 
-millimetres-meets : (card : List ℕ) (position : ℕ) (answer : MillimetresAnswer) → answer ≡ millimetresAnswer card position
-    → MillimetresMeets card position answer
-millimetres-meets card position answer e =
-    let (status, values) = millimetres-told card position in
-    rw e (refl, (status, (values, distance-as-before card position)))
+millimetres-clauses : (card : List ℕ) (position : ℕ) → MillimetresClauses card position (millimetresAnswer card position)
+millimetres-clauses card position =
+    let (status, values) = millimetres-told card position in (status, (values, millimetres-promises card position))
+
+abbrev MillimetresMeets : (card : List ℕ) (position : ℕ) → MillimetresAnswer → Type 0
+MillimetresMeets card position = Meets (MillimetresClauses card position) (millimetresAnswer card position)
 
 module _ (card : List ℕ) (decoded : Decoded) (from : DecodedFrom card decoded) where
   -- a card that is refused
   pub millimetres-refused : (decoded .refusal ≡ 0 → ⊥) → (position : ℕ) → MillimetresMeets card position (Refused (decoded .refusal))
   unfolding millimetresAnswer millimetresRefusal
   millimetres-refused refused position =
-      millimetres-meets card position (Refused (decoded .refusal))
+      met (MillimetresClauses card position) (millimetres-clauses card position)
       (rw (← (from .refusal)) (sym (refused-by-card (decoded .refusal) _ _ _ refused)))
 
   -- a sound card
@@ -79,12 +80,12 @@ module _ (card : List ℕ) (decoded : Decoded) (from : DecodedFrom card decoded)
       pub millimetres-above : last < position → MillimetresMeets card position (Refused 7)
       unfolding millimetresAnswer millimetresRefusal firstRefusal unlessRefused
       millimetres-above h =
-          millimetres-meets card position (Refused 7)
+          met (MillimetresClauses card position) (millimetres-clauses card position)
           (rw (eq-eqb (cardRefusal card) 0 is-sound, ← (from .code sound), ← is, lt-ltb last position h))
 
       pub millimetres-within : position ≤ last → (distance : ℤ) → distance ≡ millimetresOf (decoded .offset) position
           → MillimetresMeets card position (Millimetres distance)
       unfolding millimetresAnswer millimetresRefusal firstRefusal unlessRefused
       millimetres-within h distance summed =
-          millimetres-meets card position (Millimetres distance)
+          met (MillimetresClauses card position) (millimetres-clauses card position)
           (rw (eq-eqb (cardRefusal card) 0 is-sound, ← (from .code sound), ← is, le-ltb last position h, ← (from .offset sound), ← summed))

@@ -1,6 +1,6 @@
--- What a read of levels answers, one law for each way out of the code; the status, the values and the strength are those of the answer that
--- the definition gives, and the theorems of P5 and P6 hold of it. Assumes nothing.
-use mathlib.Core.Path.{_≡_, refl, sym, _∙_}
+-- What a read of levels answers, one law for each way out of the code: the answer is the one that the definition gives, of which the
+-- clauses of the contract are theorems. Assumes nothing.
+use mathlib.Core.Path.{_≡_, sym, _∙_}
 use mathlib.Core.List.{List}
 use Prim.Native.Nat.{ℕ}
 use lib.Ieee.{Float}
@@ -12,48 +12,36 @@ use Rattle.model.specs.declared.Decoded.{Decoded}
 use Rattle.model.specs.declared.LevelsAnswer.{LevelsAnswer}
 use Rattle.model.specs.declared.LevelsAnswer.the-variants.{Refused}
 use Rattle.code_theory.proofs.Refusals.{refused-by-card}
-use Rattle.level_theory.specs.LevelPromises.{NearestOverHeard, TellsWrongOfChunks, AsPlainReading, OffByAtMostTwiceWrongAndLost}
-use Rattle.level_theory.specs.LevelPromises.{LevelsReadOnlyIfParityAgrees, PastedLevelsNeverRead, LevelsAsBeforeUnlessContradicted}
-use Rattle.level_theory.proofs.LevelPromises.{levels-sound, nearest-over-heard, tells-wrong-of-chunks}
-use Rattle.level_theory.proofs.LevelPromises.{as-plain-reading, off-by-at-most-twice-wrong-and-lost}
-use Rattle.level_theory.proofs.LevelContradictions.{levels-read-only-if-parity-agrees, pasted-levels-never-read}
-use Rattle.level_theory.proofs.LevelContradictions.{levels-as-before-unless-contradicted}
+use Rattle.level_theory.specs.LevelPromises.{OffByAtMostTwiceWrongAndLost, LevelPromises}
+use Rattle.level_theory.proofs.LevelPromises.{levels-sound, off-by-at-most-twice-wrong-and-lost}
+use Rattle.level_theory.proofs.LevelContradictions.{level-promises}
 use Rattle.linear_code.specs.DecodedFrom.{DecodedFrom}
+use Rattle.depot.proofs.Contracts.{Meets, met}
 use Rattle.depot.proofs.Statuses.{levels-told, strength-told}
 
 module _ (card : List ℕ) (levels : List Float) where
-  -- what the contract of the read says of its answer
-  abbrev LevelsMeet : LevelsAnswer → Type 0
-  LevelsMeet r =
-      (r ≡ levelsAnswer card levels)
-      × ((levelsStatus r ≡ levelsRefusal card levels)
-      × ((levelsValues r ≡ ifServed (levelsStatus r) (levelsFigures card levels))
-      × ((strengthValues r ≡ ifServed (levelsStatus r) (strengthFigures card levels))
-      × (NearestOverHeard card levels (positionAnswer r)
-      × (TellsWrongOfChunks card levels (positionAnswer r)
-      × (AsPlainReading card levels (positionAnswer r)
-      × (OffByAtMostTwiceWrongAndLost card levels (positionAnswer r)
-      × (LevelsReadOnlyIfParityAgrees card levels (positionAnswer r)
-      × (PastedLevelsNeverRead card levels (positionAnswer r) × LevelsAsBeforeUnlessContradicted card levels (positionAnswer r))))))))))
+  -- the clauses of the contract beside the equation, and that the definition's answer meets them
+  abbrev LevelsClauses : LevelsAnswer → Type 0
+  LevelsClauses answer =
+      (levelsStatus answer ≡ levelsRefusal card levels)
+      × ((levelsValues answer ≡ ifServed (levelsStatus answer) (levelsFigures card levels))
+      × ((strengthValues answer ≡ ifServed (levelsStatus answer) (strengthFigures card levels))
+      × (OffByAtMostTwiceWrongAndLost card levels (positionAnswer answer) × LevelPromises card levels (positionAnswer answer))))
 
-  levels-meet : (r : LevelsAnswer) → r ≡ levelsAnswer card levels → LevelsMeet r
-  levels-meet r e =
+  levels-clauses : LevelsClauses (levelsAnswer card levels)
+  levels-clauses =
       let (status, values) = levels-told card levels in
       let (_, strength) = strength-told card levels in
-      let nearest = nearest-over-heard card levels in
-      let bits = tells-wrong-of-chunks card levels in
-      let plain = as-plain-reading card levels in
-      let bounded = off-by-at-most-twice-wrong-and-lost card levels in
-      let agrees = levels-read-only-if-parity-agrees card levels in
-      let pasted = pasted-levels-never-read card levels in
-      let before = levels-as-before-unless-contradicted card levels in
-      rw e (refl, (status, (values, (strength, (nearest, (bits, (plain, (bounded, (agrees, (pasted, before))))))))))
+      (status, (values, (strength, (off-by-at-most-twice-wrong-and-lost card levels, level-promises card levels))))
+
+  abbrev LevelsMeet : LevelsAnswer → Type 0
+  LevelsMeet = Meets LevelsClauses (levelsAnswer card levels)
 
   module _ (decoded : Decoded) (from : DecodedFrom card decoded) where
     pub levels-card-refused : (decoded .refusal ≡ 0 → ⊥) → LevelsMeet (Refused (decoded .refusal))
     unfolding levelsAnswer levelsAnswered levelsRefusal
-    levels-card-refused ne = levels-meet _ (rw (← (from .refusal), refused-by-card (decoded .refusal) _ Refused _ ne))
+    levels-card-refused ne = met LevelsClauses levels-clauses (rw (← (from .refusal), refused-by-card (decoded .refusal) _ Refused _ ne))
 
     pub levels-read : decoded .refusal ≡ 0 → (r : LevelsAnswer) → r ≡ readLevels (meaning (decoded .code)) levels → LevelsMeet r
     levels-read sound r e =
-        levels-meet r (rw (levels-sound card levels (sym (from .refusal) ∙ sound), ← (from .code sound)) e)
+        met LevelsClauses levels-clauses (rw (levels-sound card levels (sym (from .refusal) ∙ sound), ← (from .code sound)) e)

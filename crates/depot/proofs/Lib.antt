@@ -1,4 +1,6 @@
+pub mod Contracts
 pub mod Statuses
+pub mod Checking
 pub mod BlockStarts
 pub mod Distances
 pub mod Writing

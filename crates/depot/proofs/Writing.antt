@@ -1,7 +1,6 @@
--- What a write answers and what it leaves in the lent word, one law for each way out of the code. The status is that of the
--- answer that the definition gives. A refusal leaves the lent bytes; where the word is written, demand 2 holds of what the lent
--- word then holds. Assumes nothing.
-use mathlib.Core.Path.{_≡_, sym, _∙_}
+-- What a write answers and what it leaves in the lent word, one law for each way out of the code: the answer is the one that the
+-- definition gives, and so is what is left, of which the clauses of the contract are theorems. Assumes nothing.
+use mathlib.Core.Path.{_≡_, refl, _∙_}
 use mathlib.Core.Bool.{cond, not}
 use mathlib.Core.List.{List, []}
 use Prim.Native.Nat.{ℕ, _≤_, _<_}
@@ -18,55 +17,36 @@ use Rattle.model.specs.WriteWord.{writeRefusal, writeAnswer, lentAfterWrite, wr
 use Rattle.model.specs.declared.Decoded.{Decoded}
 use Rattle.model.specs.declared.WriteAnswer.{WriteAnswer}
 use Rattle.model.specs.declared.WriteAnswer.the-variants.{Written, Refused}
-use Rattle.position_theory.specs.WritePromises.{WrittenIfServable, UnchangedIfRefused, NeighboursDifferInOneBit, NoOtherPositionsWord}
-use Rattle.position_theory.proofs.Demands.{neighbours-differ-in-one-bit, no-other-positions-word}
-use Rattle.position_theory.proofs.Writing.{written-if-servable, unchanged-if-refused, written-means}
+use Rattle.position_theory.specs.WritePromises.{NeighboursDifferInOneBit, NoOtherPositionsWord, WritePromises}
+use Rattle.position_theory.proofs.WritePromises.{written-neighbours, written-alone, write-promises}
 use Rattle.linear_code.specs.DecodedFrom.{DecodedFrom}
+use Rattle.depot.proofs.Contracts.{Meets, met}
 use Rattle.depot.proofs.Statuses.{write-told, no-write-values}
 
 module _ (card : List ℕ) (position : ℕ) (lent : List ℕ) where
-  -- what the contract of the write says of its answer and of the lent word as the write leaves it
-  abbrev WriteMeets : WriteAnswer → List ℕ → Type 0
-  WriteMeets answer left =
-      (answer ≡ writeAnswer card position lent)
-      × ((writeStatus answer ≡ writeRefusal card position lent)
+  -- the clauses of the contract beside the equation, of the answer and of the lent word as the write leaves it; and that the definition's
+  -- answer meets them, with what the definition leaves
+  abbrev WriteClauses : (left : List ℕ) → WriteAnswer → Type 0
+  WriteClauses left answer =
+      (writeStatus answer ≡ writeRefusal card position lent)
       × ((writeValues answer ≡ [])
       × ((left ≡ lentAfterWrite card position lent)
-      × (WrittenIfServable card position lent answer
-      × (UnchangedIfRefused lent left answer
       × ((answer ≡ Written → NeighboursDifferInOneBit card position left)
-      × (answer ≡ Written → NoOtherPositionsWord card position left)))))))
+      × ((answer ≡ Written → NoOtherPositionsWord card position left) × WritePromises card position lent answer left))))
 
-  write-meets : (answer : WriteAnswer) (left : List ℕ) → answer ≡ writeAnswer card position lent
-      → left ≡ lentAfterWrite card position lent → WriteMeets answer left
-  write-meets answer left e f = (
-    e,
-    (
-      rw e (write-told card position lent .0),
-      (
-        no-write-values answer,
-        (
-          f,
-          (
-            rw e (written-if-servable card position lent),
-            (
-              rw (e, f) (unchanged-if-refused card position lent),
-              (
-                λ w. let means = written-means card position lent (sym e ∙ w) in
-                    rw (f ∙ means .2) (neighbours-differ-in-one-bit card position (means .0) (means .1)),
-                λ w. let means = written-means card position lent (sym e ∙ w) in
-                    rw (f ∙ means .2) (no-other-positions-word card position (means .0) (means .1)),
-              ),
-            ),
-          ),
-        ),
-      ),
-    ),
-  )
+  write-clauses : (left : List ℕ) → left ≡ lentAfterWrite card position lent → WriteClauses left (writeAnswer card position lent)
+  write-clauses left e =
+      let (status, _) = write-told card position lent in
+      let neighbours = written-neighbours card position lent in
+      let alone = written-alone card position lent in
+      rw e (status, (no-write-values _, (refl, (neighbours, (alone, write-promises card position lent)))))
+
+  abbrev WriteMeets : WriteAnswer → List ℕ → Type 0
+  WriteMeets answer left = Meets (WriteClauses left) (writeAnswer card position lent) answer
 
   refused : (refusal : ℕ) → writeRefusal card position lent ≡ refusal → (refusal ≡ 0 → ⊥) → WriteMeets (Refused refusal) lent
   unfolding writeAnswer lentAfterWrite unlessRefused
-  refused refusal e ne = write-meets (Refused refusal) lent (rw (e, ne-eqb refusal 0 ne)) (rw (e, ne-eqb refusal 0 ne))
+  refused refusal e ne = met (WriteClauses lent) (write-clauses lent (rw (e, ne-eqb refusal 0 ne))) (rw (e, ne-eqb refusal 0 ne))
 
   -- the card's refusals
   pub write-card-refused : (decoded : Decoded) → DecodedFrom card decoded → (decoded .refusal ≡ 0 → ⊥) → WriteMeets (Refused (decoded .refusal)) lent
@@ -111,4 +91,5 @@ module _ {card : List ℕ} {decoded : Decoded} (card-passed : Passed card decode
 
       pub written : (left : List ℕ) → left ≡ wordBytes (meaning (decoded .code)) position → WriteMeets card position lent Written left
       unfolding writeAnswer lentAfterWrite unlessRefused
-      written left e = write-meets card position lent Written left (rw none) (rw (none, ← is-code) e)
+      written left e =
+          met (WriteClauses card position lent left) (write-clauses card position lent left (rw (none, ← is-code) e)) (rw none)

@@ -2,7 +2,8 @@
 // of its type. A call that is given a card checks it itself; one that isn't, as the one that makes a card, checks none. What an answer
 // means is said by the definitions that the contracts name: its status is the refusal's number in documents 01 and 02, or 0 where the
 // call is served; its values are those named, or none where it is refused. The call that makes a card answers the card's bytes instead,
-// 512 zeros where it is refused; and beside a reading of levels stands the strength.
+// 512 zeros where it is refused; and beside a reading of levels stands the strength. What is promised besides is the last clause, a record
+// with a field for each promise.
 ghost use mathlib.Core.Path.{_≡_};
 ghost use mathlib.Core.Bool.{true, false};
 ghost use mathlib.Core.List.{[], _∷_};
@@ -22,17 +23,12 @@ ghost use Rattle.model.specs.Millimetres.{millimetresAnswer, millimetresRefusal
 ghost use Rattle.model.specs.MakeCard.{makeRefusal, makeAnswer};
 ghost use Rattle.model.specs.VoteChunk.{voteRefusal, voteAnswer, voteFigures, voteStatus, voteValues};
 ghost use Rattle.model.specs.declared.WriteAnswer.the-variants.{Written};
-ghost use Rattle.code_theory.specs.Offsets.{CheckedAsBefore, DistanceAsBefore};
-ghost use Rattle.position_theory.specs.WritePromises.{WrittenIfServable, UnchangedIfRefused, NeighboursDifferInOneBit};
-ghost use Rattle.position_theory.specs.WritePromises.{NoOtherPositionsWord};
-ghost use Rattle.position_theory.specs.ReadPromises.{NearestOfAllowed, OffByAtMostTwiceTurned, OffByAtMostTurnedAndResidual};
-ghost use Rattle.position_theory.specs.ReadPromises.{TellsBitsOfChunks, NeededAsTurned, ReadOnlyIfParityAgrees, PastedNeverRead};
-ghost use Rattle.position_theory.specs.ReadPromises.{AsBeforeUnlessContradicted, ReadWithDividedAtWill, BarHoldsPosition};
-ghost use Rattle.level_theory.specs.LevelPromises.{NearestOverHeard, TellsWrongOfChunks, AsPlainReading};
-ghost use Rattle.level_theory.specs.LevelPromises.{OffByAtMostTwiceWrongAndLost, LevelsReadOnlyIfParityAgrees, PastedLevelsNeverRead};
-ghost use Rattle.level_theory.specs.LevelPromises.{LevelsAsBeforeUnlessContradicted};
+ghost use Rattle.code_theory.specs.Offsets.{CheckPromises, MillimetresPromises};
+ghost use Rattle.position_theory.specs.WritePromises.{NeighboursDifferInOneBit, NoOtherPositionsWord, WritePromises};
+ghost use Rattle.position_theory.specs.ReadPromises.{OffByAtMostTwiceTurned, OffByAtMostTurnedAndResidual, ReadPromises};
+ghost use Rattle.level_theory.specs.LevelPromises.{OffByAtMostTwiceWrongAndLost, LevelPromises};
 ghost use Rattle.reed_muller_theory.specs.MadeCards.{IsReedMullerCard};
-ghost use Rattle.reed_muller_theory.specs.Votes.{KeepsPromise, AnswersAsSearch};
+ghost use Rattle.reed_muller_theory.specs.Votes.{VotePromises};
 use linear_code::decode;
 use model::CardAnswer;
 use model::Chunk;
@@ -54,28 +50,28 @@ use reed_muller::rows;
 use reed_muller::voting;
 
 // Checks a card. A sound card is answered with its n, k, track, D, t, d and last position; any other with its refusal, 1 to 5 or 14.
-// An old card, whose bytes 100 to 103 are zero, is answered as document 01 alone has it.
+// The promise: an old card, whose bytes 100 to 103 are zero, is answered as document 01 alone has it.
 pub fn check_card(card: &[u8]) -> CardAnswer
     ensures answer { λ r. ⌜ r ≡ cardAnswer (now (card .entry)) ⌝ }
     ensures status { λ r. ⌜ cardStatus r ≡ cardRefusal (now (card .entry)) ⌝ }
     ensures values { λ r. ⌜ cardValues r ≡ ifServed (cardStatus r) (cardFigures (now (card .entry))) ⌝ }
-    ensures old_card { λ r. ⌜ CheckedAsBefore (now (card .entry)) r ⌝ }
+    ensures promises { λ r. ⌜ CheckPromises (now (card .entry)) r ⌝ }
 {
     summary::card_answer(decode::decode(card))
 }
 
 // Writes the word of a position into the lent word. Refused: the card, 1 to 5 or 14; a lent word that has not exactly the bytes of a
-// word, 6; a position above the last, 7. Anything else is written. A refused write changes no byte of the lent word. The word that
-// is written differs in just one bit from the word of each neighbouring position, and is the word of no other position.
+// word, 6; a position above the last, 7. The word that is written differs in just one bit from the word of each neighbouring position
+// (`neighbours`), and is the word of no other position (`alone`). The promises: anything else is written, and a refused write changes no
+// byte of the lent word.
 pub fn write_word(card: &[u8], position: u32, word: &mut [u8]) -> WriteAnswer
     ensures answer { λ r. ⌜ r ≡ writeAnswer (now (card .entry)) position (now (word .entry)) ⌝ }
     ensures status { λ r. ⌜ writeStatus r ≡ writeRefusal (now (card .entry)) position (now (word .entry)) ⌝ }
     ensures values { λ r. ⌜ writeValues r ≡ [] ⌝ }
     ensures left { λ r. ⌜ now (word .exit) ≡ lentAfterWrite (now (card .entry)) position (now (word .entry)) ⌝ }
-    ensures served { λ r. ⌜ WrittenIfServable (now (card .entry)) position (now (word .entry)) r ⌝ }
-    ensures unchanged { λ r. ⌜ UnchangedIfRefused (now (word .entry)) (now (word .exit)) r ⌝ }
     ensures neighbours { λ r. ⌜ (r ≡ Written → NeighboursDifferInOneBit (now (card .entry)) position (now (word .exit))) ⌝ }
     ensures alone { λ r. ⌜ (r ≡ Written → NoOtherPositionsWord (now (card .entry)) position (now (word .exit))) ⌝ }
+    ensures promises { λ r. ⌜ WritePromises (now (card .entry)) position (now (word .entry)) r (now (word .exit)) ⌝ }
 {
     let decoded = decode::decode(card);
     if decoded.refusal != 0 {
@@ -98,31 +94,18 @@ pub fn write_word(card: &[u8], position: u32, word: &mut [u8]) -> WriteAnswer
 // the rule names with no codeword within the radius, 10; two chunks that read differently, 11; a block before the first or after the
 // last, 12; separator 1, by rule 2 separator 3, that differs from the parity of the codeword's number, 17.
 // Of the word of any position on the track, with at most t bits turned in each chunk, the answer is a position, and it is at most
-// twice as many steps off as bits are turned, and at most as many as bits are turned and the residual together; and a chunk that is
-// read needed as many bits as are turned in it. The word is also read, and both distances hold, where the divided chunk of that position's
-// word is turned at will and each other one has at most t bits turned (`divided`). A chunk is divided if some, but not all, of the places
-// in which w(i) and w(i+1) differ in it are taken from w(i+1), i being the position's block: at most one is, and none at a block's start
-// and at the last position (the theorem `at-most-one-divided` of position_theory). If besides at most e bits are turned in all, the
-// position lies within the residual plus e steps of the answer, which is the bar about it, and the residual is at most e (`bar`).
-// Of any word that is read, the answer is the nearest of the positions that the rule allows, and how many bits a chunk needed is the count
-// of places in which that chunk of the received word and the codeword that it reads as differ, at most t; and separator 1, by rule 2
-// separator 3, has the parity of the codeword's number (`agrees`). So a word that has this separator from one telegram and a code chunk
-// that the rule names from another, whose parities differ, is never read (`pasted`). A word that no refusal before it turns down, and in
-// which this separator differs, was read without 17 and is refused by it; every other word is answered as it was (`before`).
+// twice as many steps off as bits are turned (`bounded`), and at most as many as bits are turned and the residual together (`sharper`).
+// The promises: both distances also where the divided chunk of that position's word is turned at will, and the bar about the answer that
+// then holds the position; of any word that is read, the nearest of the positions that the rule allows, and in how many bits each chunk
+// that is read differs from its codeword, as many as are turned in it; that separator 1, by rule 2 separator 3, agrees with the codeword's
+// number, so that a word pasted from two telegrams whose parities differ is never read; and that 17 changes no other answer.
 pub fn read_word(card: &[u8], word: &[u8]) -> ReadAnswer
     ensures answer { λ r. ⌜ r ≡ readAnswer (now (card .entry)) (now (word .entry)) ⌝ }
     ensures status { λ r. ⌜ readStatus r ≡ readRefusal (now (card .entry)) (now (word .entry)) ⌝ }
     ensures values { λ r. ⌜ readValues r ≡ ifServed (readStatus r) (readFigures (now (card .entry)) (now (word .entry))) ⌝ }
     ensures bounded { λ r. ⌜ OffByAtMostTwiceTurned (now (card .entry)) (now (word .entry)) r ⌝ }
     ensures sharper { λ r. ⌜ OffByAtMostTurnedAndResidual (now (card .entry)) (now (word .entry)) r ⌝ }
-    ensures divided { λ r. ⌜ ReadWithDividedAtWill (now (card .entry)) (now (word .entry)) r ⌝ }
-    ensures bar { λ r. ⌜ BarHoldsPosition (now (card .entry)) (now (word .entry)) r ⌝ }
-    ensures nearest { λ r. ⌜ NearestOfAllowed (now (card .entry)) (now (word .entry)) r ⌝ }
-    ensures bits { λ r. ⌜ TellsBitsOfChunks (now (card .entry)) (now (word .entry)) r ⌝ }
-    ensures turned { λ r. ⌜ NeededAsTurned (now (card .entry)) (now (word .entry)) r ⌝ }
-    ensures agrees { λ r. ⌜ ReadOnlyIfParityAgrees (now (card .entry)) (now (word .entry)) r ⌝ }
-    ensures pasted { λ r. ⌜ PastedNeverRead (now (card .entry)) (now (word .entry)) r ⌝ }
-    ensures before { λ r. ⌜ AsBeforeUnlessContradicted (now (card .entry)) (now (word .entry)) r ⌝ }
+    ensures promises { λ r. ⌜ ReadPromises (now (card .entry)) (now (word .entry)) r ⌝ }
 {
     let decoded = decode::decode(card);
     if decoded.refusal != 0 {
@@ -136,23 +119,18 @@ pub fn read_word(card: &[u8], word: &[u8]) -> ReadAnswer
 // the card, 1 to 5 or 14; not exactly d levels, 15; any of them not a number, infinite, or above 1,000,000 in magnitude, 16; and then 9 to
 // 12 and 17 as a plain word.
 // A code chunk reads as the codeword for which 2 × wrong + lost is below D, one at most (the theorem `chunks-read-below-D` of crate
-// level_theory), and how many bits it needed is the count of its wrong places. What follows is said of the position answer, the answer but
-// for the strength. Of d levels of 1 and -1 it is that of the plain reading of the word of these bits. Of d levels of 1, -1 and 0 that have,
+// level_theory). What follows is said of the position answer, the answer but for the strength. Of d levels of 1, -1 and 0 that have,
 // against the word of any position on the track, 2 × wrong + lost below D in every chunk, it is a position, and off by at most
-// 2 × wrong + lost, counted over the whole word. What 17 changes is as in a plain word (`agrees`, `pasted`, `before`), a separator being
-// what its levels sum to.
+// 2 × wrong + lost, counted over the whole word (`bounded`). The promises: of d levels of 1 and -1 it is that of the plain reading of the
+// word of these bits; of any word that is read, the nearest of the allowed positions over the bits that aren't lost, and the count of
+// each chunk's wrong places; and of separators, each what its levels sum to, the same as of a plain word.
 pub fn read_levels(card: &[u8], levels: &[f32]) -> LevelsAnswer
     ensures answer { λ r. ⌜ r ≡ levelsAnswer (now (card .entry)) (now (levels .entry)) ⌝ }
     ensures status { λ r. ⌜ levelsStatus r ≡ levelsRefusal (now (card .entry)) (now (levels .entry)) ⌝ }
     ensures values { λ r. ⌜ levelsValues r ≡ ifServed (levelsStatus r) (levelsFigures (now (card .entry)) (now (levels .entry))) ⌝ }
     ensures strength { λ r. ⌜ strengthValues r ≡ ifServed (levelsStatus r) (strengthFigures (now (card .entry)) (now (levels .entry))) ⌝ }
-    ensures nearest { λ r. ⌜ NearestOverHeard (now (card .entry)) (now (levels .entry)) (positionAnswer r) ⌝ }
-    ensures bits { λ r. ⌜ TellsWrongOfChunks (now (card .entry)) (now (levels .entry)) (positionAnswer r) ⌝ }
-    ensures plain { λ r. ⌜ AsPlainReading (now (card .entry)) (now (levels .entry)) (positionAnswer r) ⌝ }
     ensures bounded { λ r. ⌜ OffByAtMostTwiceWrongAndLost (now (card .entry)) (now (levels .entry)) (positionAnswer r) ⌝ }
-    ensures agrees { λ r. ⌜ LevelsReadOnlyIfParityAgrees (now (card .entry)) (now (levels .entry)) (positionAnswer r) ⌝ }
-    ensures pasted { λ r. ⌜ PastedLevelsNeverRead (now (card .entry)) (now (levels .entry)) (positionAnswer r) ⌝ }
-    ensures before { λ r. ⌜ LevelsAsBeforeUnlessContradicted (now (card .entry)) (now (levels .entry)) (positionAnswer r) ⌝ }
+    ensures promises { λ r. ⌜ LevelPromises (now (card .entry)) (now (levels .entry)) (positionAnswer r) ⌝ }
 {
     let decoded = decode::decode(card);
     if decoded.refusal != 0 {
@@ -187,13 +165,13 @@ fn from_face(offset: i32, position: u32) -> i32
 }
 
 // The distance of a position from the buffer face, in millimetres: negative where the position lies before the face. Refused: the
-// card, 1 to 5 or 14, or a position above the last, 7. An old card, whose bytes 100 to 103 are zero, gives its old distances: it is
-// answered as document 01 alone has it.
+// card, 1 to 5 or 14, or a position above the last, 7. The promise: an old card, whose bytes 100 to 103 are zero, gives its old
+// distances, as document 01 alone has them.
 pub fn millimetres(card: &[u8], position: u32) -> MillimetresAnswer
     ensures answer { λ r. ⌜ r ≡ millimetresAnswer (now (card .entry)) position ⌝ }
     ensures status { λ r. ⌜ millimetresStatus r ≡ millimetresRefusal (now (card .entry)) position ⌝ }
     ensures values { λ r. ⌜ millimetresValues r ≡ ifServed (millimetresStatus r) (millimetresOf (offsetOf (now (card .entry))) position ∷ []) ⌝ }
-    ensures old_card { λ r. ⌜ DistanceAsBefore (now (card .entry)) position r ⌝ }
+    ensures promises { λ r. ⌜ MillimetresPromises (now (card .entry)) position r ⌝ }
 {
     let decoded = decode::decode(card);
     if decoded.refusal != 0 {
@@ -225,14 +203,13 @@ pub fn make_card(track: u16, r: u32, m: u32) -> MadeCard
 
 // Reads a chunk of the Reed-Muller code of order r in m variables by voting: the codeword's number, and in how many bits the two
 // differ. It takes no card, and checks none. Refused: m, r or k outside the limits, 13; a bit at n or above, 8; no codeword within
-// the radius, 10. It keeps the chunk promise of plain chunks, and on every chunk of n bits it answers as the search does on the card that
-// `make_card` makes.
+// the radius, 10. The promises: it keeps the chunk promise of plain chunks, and on every chunk of n bits it answers as the search does on
+// the card that `make_card` makes.
 pub fn vote_chunk(r: u32, m: u32, chunk: u64) -> VoteAnswer
     ensures answer { λ a. ⌜ a ≡ voteAnswer r m chunk ⌝ }
     ensures status { λ a. ⌜ voteStatus a ≡ voteRefusal r m chunk ⌝ }
     ensures values { λ a. ⌜ voteValues a ≡ ifServed (voteStatus a) (voteFigures r m chunk) ⌝ }
-    ensures promised { λ a. ⌜ KeepsPromise r m chunk a ⌝ }
-    ensures as_search { λ a. ⌜ AnswersAsSearch r m chunk a ⌝ }
+    ensures promises { λ a. ⌜ VotePromises r m chunk a ⌝ }
 {
     if !limits::within_limits(r, m) {
         return VoteAnswer::Refused(13);
