@@ -6,4 +6,3 @@ pub mod FilledByte
 pub mod WordChunks
 pub mod CopiedWord
 pub mod Splicing
-pub mod DecodedCard

@@ -10,9 +10,9 @@ ghost use lib.ListN.{length, take};
 ghost use Rattle.model.specs.Card.{SoundCard};
 ghost use Rattle.report.specs.Report.{reportOf};
 ghost use Rattle.word_loop.specs.Parts.{LastPart, OnlyAtEnd};
+use depot::cards;
 use libc::STDERR_FILENO;
 use linear_code::decode;
-use position::summary;
 use report::lines;
 use standard_io::Received;
 use word_loop::Ended;
@@ -57,7 +57,7 @@ fn report_on(came: Received, input: &mut [u8], out: &mut [u8]) -> Ended
 {
     let n = came.count();
     let decoded = decode::decode(&input[..n]);
-    let end = lines::put_card_line(out, 0, summary::card_answer(decoded));
+    let end = lines::put_card_line(out, 0, cards::card_answer(decoded));
     if decoded.refusal != 0 {
         return Ended::At(end, came);
     }

@@ -1,4 +1,4 @@
--- `depot::from_face` meets its contract: the offset's bits stand for the offset, and 50 times the position for itself, so the sum is that
+-- `depot::words::from_face` meets its contract: the offset's bits stand for the offset, and 50 times the position for itself, so the sum is that
 -- of the two numbers, and it fits. Assumes nothing.
 use mathlib.Core.Path.{_≡_, _∙_}
 use Prim.Native.Nat.{_*_}
@@ -10,8 +10,8 @@ use mir.Syntax.{w32}
 use mir.Val.{SFits, toZ, ofZ}
 use Rattle.model.specs.Words.{millimetresOf}
 use Rattle.depot.proofs.Distances.{sum-fits}
-use Rattle.depot.proofs.from_face.Statement.{statement}
-use Rattle.depot.proofs.from_face.Tie as tie
+use Rattle.depot.proofs.words.from_face.Statement.{statement}
+use Rattle.depot.proofs.words.from_face.Tie as tie
 
 summed : (c : tie.Start)
     → toZ w32 (ofZ w32 (c .args .offset)) +ℤ toZ w32 (50 * c .args .position) ≡ c .args .offset +ℤ pos (50 * c .args .position)

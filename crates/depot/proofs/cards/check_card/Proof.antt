@@ -1,9 +1,9 @@
--- `depot::check_card` meets its contract: `card_answer` answers for every card that decodes to its argument, and this card does.
+-- `depot::cards::check_card` meets its contract: `card_answer` answers for every card that decodes to its argument, and this card does.
 -- Assumes nothing.
 use borrow.Author.Needs.{needs}
 use Rattle.depot.proofs.Checking.{card-checked}
-use Rattle.depot.proofs.check_card.Statement.{statement}
-use Rattle.depot.proofs.check_card.Tie as tie
+use Rattle.depot.proofs.cards.check_card.Statement.{statement}
+use Rattle.depot.proofs.cards.check_card.Tie as tie
 
 returns : tie.Need-returns
 returns c = card-checked _ (c .card-answer .ensures _ (c .before .decode .ensures))

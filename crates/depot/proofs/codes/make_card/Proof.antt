@@ -1,11 +1,11 @@
--- `depot::make_card` meets its contract: outside the limits it is refused, and within them the card is the Reed-Muller code's. A track
+-- `depot::codes::make_card` meets its contract: outside the limits it is refused, and within them the card is the Reed-Muller code's. A track
 -- number is one of 16 bits, so it stands whole in the card's two bytes. Assumes nothing.
 use mathlib.Core.Path.{sym, _∙_}
 use borrow.Author.Needs.{needs}
 use borrow.Author.Tests.{not-true, not-false}
 use Rattle.depot.proofs.MadeCards.{make-refused, card-made}
-use Rattle.depot.proofs.make_card.Statement.{statement}
-use Rattle.depot.proofs.make_card.Tie as tie
+use Rattle.depot.proofs.codes.make_card.Statement.{statement}
+use Rattle.depot.proofs.codes.make_card.Tie as tie
 
 returns : tie.Need-returns
 returns c = make-refused _ _ _ (sym (c .before .within-limits .ensures) ∙ not-true _ (c .if1 .taken))

@@ -1,10 +1,10 @@
--- `position::summary::card_answer` meets its contract: a refusal is answered as it stands, and where there is none the code is sound,
+-- `depot::cards::card_answer` meets its contract: a refusal is answered as it stands, and where there is none the code is sound,
 -- so its figures are those of the card. Assumes nothing.
 use Rattle.model.specs.Decoded.{meaning}
 use Rattle.code_theory.specs.Promise.{Sound}
-use Rattle.position.proofs.DecodedCard.{card-refused, card-sound}
-use Rattle.position.proofs.summary.card_answer.Statement.{statement}
-use Rattle.position.proofs.summary.card_answer.Tie as tie
+use Rattle.depot.proofs.Checking.{card-refused, card-sound}
+use Rattle.depot.proofs.cards.card_answer.Statement.{statement}
+use Rattle.depot.proofs.cards.card_answer.Tie as tie
 
 sound : (c : tie.Else1) → Sound (meaning (c .before .before .args .decoded .code))
 sound c = c .before .before .pre (c .if1 .left)

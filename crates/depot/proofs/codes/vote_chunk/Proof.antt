@@ -1,4 +1,4 @@
--- `depot::vote_chunk` meets its contract: one law for each way out, outside the limits, a chunk that is too wide, and the two ends of the
+-- `depot::codes::vote_chunk` meets its contract: one law for each way out, outside the limits, a chunk that is too wide, and the two ends of the
 -- vote. Assumes nothing.
 use mathlib.Core.Path.{_≡_, sym, _∙_}
 use mathlib.Core.Bool.{true}
@@ -8,8 +8,8 @@ use borrow.Author.Tests.{not-true, not-false}
 use Rattle.model.specs.ReedMuller.{orderWithinLimits}
 use Rattle.reed_muller_theory.proofs.OrderLimits.{limits-of-test}
 use Rattle.depot.proofs.Voting.{vote-outside, vote-too-wide, narrow-enough, vote-unreadable, vote-read}
-use Rattle.depot.proofs.vote_chunk.Statement.{statement}
-use Rattle.depot.proofs.vote_chunk.Tie as tie
+use Rattle.depot.proofs.codes.vote_chunk.Statement.{statement}
+use Rattle.depot.proofs.codes.vote_chunk.Tie as tie
 
 returns : tie.Need-returns
 returns c = vote-outside _ _ _ (sym (c .before .within-limits .ensures) ∙ not-true _ (c .if1 .taken))

@@ -1,4 +1,4 @@
--- `depot::millimetres` meets its contract: one law for each way out, of a card that is refused, a position above the last, and one on
+-- `depot::words::millimetres` meets its contract: one law for each way out, of a card that is refused, a position above the last, and one on
 -- the track. The last position of a sound code is at most 1,310,400, and its card's offset within the range, as the sum asks.
 -- Assumes nothing.
 use mathlib.Core.Path.{_≡_, _∙_}
@@ -11,8 +11,8 @@ use Rattle.model.specs.Decoded.{meaning}
 use Rattle.code_theory.specs.Promise.{Sound}
 use Rattle.code_theory.proofs.Starts.{last-position-bound}
 use Rattle.depot.proofs.Distances.{offset-fits, offset-within, millimetres-refused, millimetres-above, millimetres-within}
-use Rattle.depot.proofs.millimetres.Statement.{statement}
-use Rattle.depot.proofs.millimetres.Tie as tie
+use Rattle.depot.proofs.words.millimetres.Statement.{statement}
+use Rattle.depot.proofs.words.millimetres.Tie as tie
 
 -- past the card's test
 sound : (c : tie.Else1) → Sound (meaning (c .before .before .decode .result .code))

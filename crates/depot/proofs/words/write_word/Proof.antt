@@ -1,4 +1,4 @@
--- `depot::write_word` meets its contract: a card that is refused is one law. Of one that has passed, the length of its words and then its
+-- `depot::words::write_word` meets its contract: a card that is refused is one law. Of one that has passed, the length of its words and then its
 -- last position refuse the write, which leaves the lent bytes; or the lent word has the right length and the position is on the track,
 -- as the writer asks, and is written. Assumes nothing.
 use mathlib.Core.Path.{_≡_, sym, _∙_}
@@ -10,8 +10,8 @@ use Rattle.model.specs.Order.{lastPosition}
 use Rattle.model.specs.Words.{wordLength}
 use Rattle.code_theory.specs.Promise.{Sound}
 use Rattle.depot.proofs.Writing.{Passed, write-card-refused, refused-6, refused-7, written}
-use Rattle.depot.proofs.write_word.Statement.{statement}
-use Rattle.depot.proofs.write_word.Tie as tie
+use Rattle.depot.proofs.words.write_word.Statement.{statement}
+use Rattle.depot.proofs.words.write_word.Tie as tie
 
 -- past the card's test: back to the call, the card, and its code
 abbrev first : tie.Else1 → tie.Start

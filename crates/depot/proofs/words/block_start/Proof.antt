@@ -1,11 +1,11 @@
--- `depot::block_start` meets its contract: one law for each way out, of a card that is refused, a block above the last, and a block
+-- `depot::words::block_start` meets its contract: one law for each way out, of a card that is refused, a block above the last, and a block
 -- of the code. What is asked of the code is asked past the card's test, where the code is sound. Assumes nothing.
 use borrow.Author.Needs.{needs}
 use Rattle.model.specs.Decoded.{meaning}
 use Rattle.code_theory.specs.Promise.{Sound}
 use Rattle.depot.proofs.BlockStarts.{start-refused, start-above, start-within}
-use Rattle.depot.proofs.block_start.Statement.{statement}
-use Rattle.depot.proofs.block_start.Tie as tie
+use Rattle.depot.proofs.words.block_start.Statement.{statement}
+use Rattle.depot.proofs.words.block_start.Tie as tie
 
 -- past the card's test
 sound : (c : tie.Else1) → Sound (meaning (c .before .before .decode .result .code))
