@@ -4,6 +4,7 @@ pub mod HeardCounts
 pub mod ExactSums
 pub mod SeparatorsTell
 pub mod LevelsSeen
+pub mod ReadsBelowD
+pub mod LevelsAnswered
 pub mod LevelPromises
-pub mod LevelContradictions
 pub mod LevelWitnesses

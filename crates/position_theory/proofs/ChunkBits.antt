@@ -1,41 +1,32 @@
 -- How many bits the chunks needed, of every word that is read. Where no row of the table holds, each chunk that the rule names reads as
 -- the codeword that the rule goes by, so by the chunk promise its count is that of the places in which the two differ, at most t. That
--- codeword stands whole in the chunk at every allowed position; a word that is damaged within the radius allows its own, so what its
--- chunks needed is what was turned in them. Assumes nothing.
+-- codeword stands whole in the chunk at every allowed position, so the count is also that against the position's word. Assumes nothing.
 use mathlib.Core.Path.{_≡_, refl, _∙_, sym, ap}
 use mathlib.Core.Bool.{Bool, true, false, false≢true}
-use mathlib.Core.List.{List}
 use Prim.Native.Nat.{ℕ, _<_}
 use native.Mathlib.Omega.{arith}
 use borrow.Author.Tests.{ltb-true}
 use Rattle.bits.specs.Sums.{distance, everywhere}
-use Rattle.bits.specs.Places.{bit, place}
+use Rattle.bits.specs.Places.{bit}
 use Rattle.bits.proofs.Distance.{distance-ext-left}
-use Rattle.model.specs.Card.{Code, codeOf}
+use Rattle.model.specs.Card.{Code}
 use Rattle.model.specs.Order.{codeword}
-use Rattle.model.specs.Words.{chunkSize, placesBefore, chunk₁, chunk₂, wordAt, wordBytes}
-use Rattle.model.specs.Reading.{chunkDistance, Seen, seen, ruleSeen, ruleNamed, namesFirst, namesSecond, numberBy}
-use Rattle.model.specs.Reading.{Rules, twoEnds, allowed, residual, bitsNeeded, nearest, bitsValue}
+use Rattle.model.specs.Words.{chunkSize, placesBefore, chunk₁, chunk₂, wordAt}
+use Rattle.model.specs.Reading.{chunkDistance, Seen, seen, ruleSeen, namesFirst, namesSecond, numberBy}
+use Rattle.model.specs.Reading.{Rules, twoEnds, residual, bitsNeeded, nearest, bitsValue}
 use Rattle.model.specs.Levels.{withinLosses}
-use Rattle.model.specs.ReadWord.{readAnswer}
 use Rattle.model.specs.declared.Chunk.{Chunk}
 use Rattle.model.specs.declared.ChunkBits.{ChunkBits}
 use Rattle.model.specs.declared.Reading.{Reading}
-use Rattle.model.specs.declared.ReadAnswer.the-variants.{At}
 use Rattle.code_theory.specs.Promise.{ChunkPromise}
 use Rattle.code_theory.proofs.ChunkReading.{plain-count}
 use Rattle.position_theory.specs.Damage.{turnedIn}
 use Rattle.position_theory.specs.SeenChunks.{SeesChunk, SeesChunks, NamedReads}
 use Rattle.position_theory.specs.Nearest.{refusalOf, allowedBy}
 use Rattle.position_theory.specs.ChunkBits.{TellsBits, TellsWrong, BitsSeen, BitsOfChunks}
-use Rattle.position_theory.specs.ReadPromises.{TellsBitsOfChunks, NeededAsTurned}
 use Rattle.position_theory.proofs.RuleReads.{InCode, reads-in-code, rule-reads}
 use Rattle.position_theory.proofs.PlainSeen.{plain-sees-chunks}
-use Rattle.position_theory.proofs.WordBytes.{place-of-word, readingOfSeen, reading, read-if-whole}
 use Rattle.position_theory.proofs.NamedChunks.{InRange, named-hold}
-use Rattle.position_theory.proofs.BoundedError.{all-within, turned-in-ext, plain-allowed}
-use Rattle.position_theory.proofs.Demands.{card-promise, read-sound}
-use Rattle.position_theory.proofs.ReadWords.{read-if-served, read-shows}
 
 module _ (C : Code) where
   -- the bits of a chunk that reads as codeword p where it is named
@@ -74,7 +65,7 @@ module _ (C : Code) where
       (count, told, (counted ∙ ap (λ (wrong : ℕ → ℕ). wrong p) (sym (plain-count C chunk)), omega arith))
   plain-tells false chunk p answered not-read = not-read
 
-  bits-of-chunks : ChunkPromise C → (x : ℕ → ℕ) → refusalOf (twoEnds C) (seen C x) ≡ 0
+  pub bits-of-chunks : ChunkPromise C → (x : ℕ → ℕ) → refusalOf (twoEnds C) (seen C x) ≡ 0
       → let r : Reading = nearest (residual C x) (seen C x) (ruleSeen (seen C x)) (allowedBy (twoEnds C) (seen C x)) in
       BitsOfChunks ChunkBits TellsBits C x (r .rule) (r .chunk1) (r .chunk2)
   bits-of-chunks promise x none =
@@ -88,13 +79,6 @@ module _ (C : Code) where
         second = plain-tells _ _ _ _ (bits .second);
       }
 
--- of every card and word as bytes
-pub tells-bits-of-chunks : (card received : List ℕ) → TellsBitsOfChunks card received (readAnswer card received)
-unfolding TellsBitsOfChunks allowed ruleNamed
-tells-bits-of-chunks card received r answered =
-    let (sound, none, is) = read-shows card received r answered in
-    rw (← is) (bits-of-chunks (codeOf card) (card-promise card sound) (place received) none)
-
 -- the bits of a chunk that is named are those in which it differs from any chunk that holds its codeword
 needed-is : (C : Code) (named : Bool) (chunk : ℕ → ℕ) (p : ℕ) (answered : ChunkBits) → TellsBits C named chunk p answered
     → (whole : ℕ → ℕ) → (named ≡ true → (b : ℕ) → b < C .n → whole b ≡ bit (codeword C p) b)
@@ -106,7 +90,7 @@ needed-is C false chunk p answered not-read whole holds named = absurd (false≢
 
 module _ (C : Code) (promise : ChunkPromise C) where
   -- at every position that a word allows: the bits needed are those in which a chunk differs from that of the position's word
-  unlike-allowed : (x : ℕ → ℕ) → refusalOf (twoEnds C) (seen C x) ≡ 0 → (q : ℕ) → InRange (allowedBy (twoEnds C) (seen C x)) q
+  pub unlike-allowed : (x : ℕ → ℕ) → refusalOf (twoEnds C) (seen C x) ≡ 0 → (q : ℕ) → InRange (allowedBy (twoEnds C) (seen C x)) q
       → let r : Reading = nearest (residual C x) (seen C x) (ruleSeen (seen C x)) (allowedBy (twoEnds C) (seen C x)) in
       (namesFirst (r .rule) ≡ true → bitsValue (r .chunk1) ≡ turnedIn C 1 (wordAt C q) x)
       × (namesSecond (r .rule) ≡ true → bitsValue (r .chunk2) ≡ turnedIn C 3 (wordAt C q) x)
@@ -117,19 +101,3 @@ module _ (C : Code) (promise : ChunkPromise C) where
         needed-is C _ (chunk₁ C x) _ _ (bits .first) (chunk₁ C (wordAt C q)) (hold .0),
         needed-is C _ (chunk₂ C x) _ _ (bits .second) (chunk₂ C (wordAt C q)) (hold .1),
       )
-
--- a word damaged within the radius allows its position, so the bits needed are those turned
-pub needed-as-turned : (card received : List ℕ) → NeededAsTurned card received (readAnswer card received)
-unfolding NeededAsTurned readingOfSeen
-needed-as-turned card received position sound h d r answered =
-    let C = codeOf card in
-    let promise = card-promise card sound in
-    let x = place received in
-    let allows = plain-allowed C promise position received h (all-within C position received d) in
-    let read : reading C x ≡ At r =
-    sym (read-sound card received sound ∙ read-if-whole C received (d .right-length) (d .spare-zero)) ∙ answered in
-    let (none, is) = read-if-served _ _ _ read in
-    let unlike = unlike-allowed C promise x none position (allows .from-low, allows .to-high) in
-    let same : (c : ℕ) → c < 5 → turnedIn C c (wordAt C position) x ≡ turnedIn C c (place (wordBytes C position)) x =
-    λ c five. sym (turned-in-ext C x (place-of-word C position) c five) in
-    rw (← is) (λ named. unlike .0 named ∙ same 1 (omega arith), λ named. unlike .1 named ∙ same 3 (omega arith))

@@ -8,32 +8,23 @@ use mathlib.Core.Logic.{⊎-elim}
 use Prim.Native.Nat.{ℕ, _%_, _≤_, _<_}
 use native.Mathlib.Omega.{arith}
 use borrow.Author.Tests.{ne-eqb}
-use Rattle.bits.specs.Places.{place}
 use Rattle.bits.proofs.Numbers.{eq-or-ne}
-use Rattle.bits.proofs.Places.{place-bit}
 use Rattle.model.specs.Refusals.{Row, refuses, refusedAs, firstRefusal, unlessRefused}
-use Rattle.model.specs.Card.{Code, codeOf, cardRefusal}
+use Rattle.model.specs.Card.{Code}
 use Rattle.model.specs.Order.{lastCodeword}
 use Rattle.model.specs.Words.{word}
-use Rattle.model.specs.Reading.{Seen, seen, ruleSeen, ruleNamed, numberBy, separatorOf, separatorBy}
-use Rattle.model.specs.Reading.{Rules, twoEnds, rows9To12, rowsSeen, rowsOf, nearest}
-use Rattle.model.specs.ReadWord.{rowsOfWord, readRefusal, readAnswer}
+use Rattle.model.specs.Reading.{Seen, ruleSeen, numberBy, separatorOf, separatorBy, Rules}
 use Rattle.model.specs.declared.Reading.{Reading}
 use Rattle.model.specs.declared.ReadAnswer.the-variants.{At, Refused}
 use Rattle.code_theory.proofs.Refusals.{numbered, rows-after, refused-if-some, refused-by-card, past-card}
 use Rattle.position_theory.specs.Damage.{ChunkBelowD}
 use Rattle.position_theory.specs.SeenChunks.{SeesChunks}
 use Rattle.position_theory.specs.Nearest.{refusalOf}
-use Rattle.position_theory.specs.Contradictions.{ParityAgrees, separatorChunk, NamedChunk}
-use Rattle.position_theory.specs.ReadPromises.{ReadOnlyIfParityAgrees, PastedNeverRead, AsBeforeUnlessContradicted}
-use Rattle.position_theory.specs.Contradictions.{contradicted, unlessContradicted, answerBefore}
+use Rattle.position_theory.specs.Contradictions.{ParityAgrees, separatorChunk, NamedChunk, unlessContradicted}
 use Rattle.position_theory.proofs.Separators.{of-every-rule}
 use Rattle.position_theory.proofs.Words.{word-chunk}
 use Rattle.position_theory.proofs.Telling.{Tells, Sees, first-tells, second-tells, word-tells}
 use Rattle.position_theory.proofs.RuleReads.{BothRead, InCode, RuleReads, number-of, reads-in-code, rule-reads}
-use Rattle.position_theory.proofs.PlainSeen.{plain-sees-chunks, plain-sees, within-radius-below}
-use Rattle.position_theory.proofs.ReadWords.{read-shows}
-use Rattle.position_theory.proofs.Demands.{card-promise}
 
 -- ---- whatever is seen of a word, where no row holds
 
@@ -119,30 +110,3 @@ seventeen-past-card card rows all differs r =
     (λ (refused : card ≡ 0 → ⊥).
     rw (refused-by-card card _ Refused (At r) refused, refused-by-card card rows Refused (At r) refused, unless-refused differs card))
     (eq-or-ne card 0)
-
--- ---- plain words, on every card
-
-pub read-only-if-parity-agrees : (card received : List ℕ) → ReadOnlyIfParityAgrees card received (readAnswer card received)
-unfolding ReadOnlyIfParityAgrees ruleNamed nearest
-read-only-if-parity-agrees card received r answered =
-    let C = codeOf card in
-    let (sound, none, is) = read-shows card received r answered in
-    let promise = card-promise card sound in
-    rw (← is) (parity-agrees C (twoEnds C) (seen C (place received)) (reads-in-code C (plain-sees-chunks C promise (place received))) none)
-
-pub pasted-never-read : (card received : List ℕ) → PastedNeverRead card received (readAnswer card received)
-unfolding PastedNeverRead ruleNamed
-pasted-never-read card received i j c pasted r answered =
-    let C = codeOf card in
-    let x = place received in
-    let (sound, none, _) = read-shows card received r answered in
-    let promise = card-promise card sound in
-    let separator = within-radius-below C promise (word C i) x _ (pasted .separator) in
-    let chunk = within-radius-below C promise (word C j) x _ (pasted .chunk) in
-    pasted-refused C (twoEnds C) (plain-sees-chunks C promise x) i j c (pasted .in-code′) (pasted .differ)
-    (separator-from C (plain-sees C promise (place-bit received)) i (pasted .in-code) separator) (pasted .named) chunk none
-
-pub as-before-unless-contradicted : (card received : List ℕ) → AsBeforeUnlessContradicted card received (readAnswer card received)
-unfolding AsBeforeUnlessContradicted answerBefore readAnswer readRefusal rowsOfWord rowsOf rowsSeen rows9To12 numbered ruleNamed
-as-before-unless-contradicted card received =
-    seventeen-past-card (cardRefusal card) _ refl (contradicted (seen (codeOf card) (place received))) _

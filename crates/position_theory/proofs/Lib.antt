@@ -17,11 +17,11 @@ pub mod TrueAllowed
 pub mod Nearest
 pub mod BoundedError
 pub mod DistinctWords
-pub mod Demands
+pub mod SoundCards
+pub mod DividedChunks
 pub mod ReadWords
 pub mod ChunkBits
 pub mod Contradictions
-pub mod Writing
 pub mod WritePromises
 pub mod ReadPromises
 pub mod Witnesses
