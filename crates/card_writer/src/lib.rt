@@ -4,7 +4,7 @@ ghost use Prim.Native.Nat.{_+_, _≤_, _<_};
 ghost use lib.ListN.{length, getD};
 ghost use Rattle.model.specs.CardBytes.{cardOf};
 ghost use Rattle.card_writer.specs.WithNumber.{withNumber};
-use linear_code::card;
+use card_fields::checksum;
 
 // A number into the `m` bytes from place `at` on, high byte first. The last of them is filled first: it takes the number's lowest
 // byte, and what is left of the number goes into those before it.
@@ -36,7 +36,7 @@ pub fn write_card(n: u32, k: u32, track: u16, rows: [u64; 12]) -> [u8; 512]
         put_number(&mut bytes, 4 + 8 * z, 8, rows[z]);
         z += 1;
     }
-    let check = card::computed_check(&bytes, false);
+    let check = checksum::computed_check(&bytes, false);
     put_number(&mut bytes, 510, 2, check as u64);
     bytes
 }

@@ -1,5 +1,3 @@
-pub mod CardBytes
-pub mod TwosComplement
 pub mod Refusals
 pub mod Rows
 pub mod Decoding

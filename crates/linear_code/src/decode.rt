@@ -1,9 +1,11 @@
 // A card's bytes, checked and decoded.
 ghost use mathlib.Core.Path.{_≡_};
 ghost use Rattle.linear_code.specs.DecodedFrom.{DecodedFrom};
-use super::card;
 use super::least_weight;
-use super::offset;
+use card_fields::checksum;
+use card_fields::fields;
+use card_fields::offset;
+use card_fields::zeros;
 use model::Decoded;
 use model::DecodedCode;
 
@@ -33,17 +35,17 @@ pub fn decode(card: &[u8]) -> Decoded
     if card.len() != 512 {
         return refused(1);
     }
-    let unused_set = card::unused_byte_set(card);
-    if card::stored_check(card) != card::computed_check(card, unused_set) {
+    let unused_set = zeros::unused_byte_set(card);
+    if checksum::stored_check(card) != checksum::computed_check(card, unused_set) {
         return refused(2);
     }
-    let n = card::byte_at(card, 0);
-    let k = card::byte_at(card, 1);
-    if !card::within_limits(n, k) {
+    let n = fields::byte_at(card, 0);
+    let k = fields::byte_at(card, 1);
+    if !fields::within_limits(n, k) {
         return refused(3);
     }
-    let rows = card::rows_of(card);
-    if card::has_misplaced(n, k, rows, unused_set) {
+    let rows = fields::rows_of(card);
+    if zeros::has_misplaced(n, k, rows, unused_set) {
         return refused(4);
     }
     let offset = offset::offset_of(card);
@@ -54,7 +56,7 @@ pub fn decode(card: &[u8]) -> Decoded
     if distance == 0 {
         return refused(5);
     }
-    let track = card::track_of(card);
+    let track = fields::track_of(card);
     Decoded {
         refusal: 0,
         track,

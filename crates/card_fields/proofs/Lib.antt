@@ -1,0 +1,3 @@
+pub mod CardBytes
+pub mod CardRows
+pub mod TwosComplement
