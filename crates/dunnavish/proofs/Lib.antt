@@ -1,9 +1,7 @@
 pub mod Lent
-pub mod ServedReads
-pub mod Contradictions
-pub mod OldCards
-pub mod ReadDemands
-pub mod LevelDemands
+pub mod Inherited
+pub mod Answers
+pub mod Distances
+pub mod Writes
 pub mod MadeCards
-pub mod VotePromise
 pub mod Witnesses

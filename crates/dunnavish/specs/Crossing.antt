@@ -1,5 +1,5 @@
 -- How an answer of the library crosses to a caller in C: its status, and its values in numbers that the caller lends, signed ones for a
--- distance, floats for a strength. The status and the values of each answer are those of the model's Statuses.antt; of a made card they
+-- distance, floats for a strength. The status and the values of an answer stand in the model, beside its definition; of a made card they
 -- are its refusal and its bytes. Assumes nothing.
 use Prim.Native.Nat.{ℕ}
 use mathlib.Core.Path.{_≡_}

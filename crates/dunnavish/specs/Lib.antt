@@ -1,5 +1,4 @@
 pub mod Crossing
+pub mod Decoding
 pub mod Demands
-pub mod Contradictions
-pub mod DividedChunks
 pub mod Witnesses

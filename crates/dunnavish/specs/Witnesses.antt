@@ -1,116 +1,61 @@
--- The promises to C, held from below: status and numbers left stand for an answer, and of that answer each promise to C gives the library's
--- own, of every card and word. The library's are held by their rows (`Witnesses.antt` and `LevelWitnesses.antt` of the theory crates), so a
--- premise that nobody can meet, or a looser bound, in a promise to C no longer gives its field here. Assumes nothing.
+-- The promises to C, held from below. Those that are written out over status and numbers give the library's own of the answer that these
+-- stand for, of every card and word; so a premise that nobody can meet, or a looser bound, no longer gives its field here. The others are the
+-- library's own of that answer, held by the rows of the theory crates; what is to be held of them is the answer, by these rows. Assumes
+-- nothing.
 use mathlib.Core.Path.{_≡_}
-use mathlib.Core.Bool.{cond, true}
-use mathlib.Core.List.{List}
-use Prim.Native.Nat.{ℕ, zero, suc, _<_}
-use lib.Dec.{eqb}
-use lib.IntN.{ℤ}
+use mathlib.Core.Bool.{true}
+use mathlib.Core.List.{List, [], _∷_}
+use Prim.Native.Nat.{ℕ}
+use lib.IntN.{pos, negsuc}
 use lib.Ieee.{Float}
-use lib.ListN.{length, getD}
-use Rattle.model.specs.Card.{codeOf, radius}
-use Rattle.model.specs.Words.{wordBits}
+use lib.ListN.{length}
 use Rattle.model.specs.ReedMuller.{orderWithinLimits}
 use Rattle.model.specs.Reading.{notRead}
-use Rattle.model.specs.CheckCard.{cardStatus, cardValues}
-use Rattle.model.specs.ReadWord.{readStatus, readValues}
-use Rattle.model.specs.Millimetres.{millimetresStatus, millimetresValues}
-use Rattle.model.specs.declared.ChunkBits.{ChunkBits}
+use Rattle.model.specs.declared.CardAnswer.the-variants.{Sound, Refused as CardRefused}
+use Rattle.model.specs.declared.WriteAnswer.the-variants.{Written, Refused as WriteRefused}
 use Rattle.model.specs.declared.ChunkBits.the-variants.{Differing, NotRead}
-use Rattle.model.specs.declared.CardAnswer.{CardAnswer}
-use Rattle.model.specs.declared.MillimetresAnswer.{MillimetresAnswer}
-use Rattle.model.specs.declared.Reading.{Reading}
-use Rattle.model.specs.declared.ReadAnswer.{ReadAnswer}
 use Rattle.model.specs.declared.ReadAnswer.the-variants.{At, Refused as ReadRefused}
-use Rattle.model.specs.declared.VoteAnswer.{VoteAnswer}
+use Rattle.model.specs.declared.MillimetresAnswer.the-variants.{Millimetres, Refused as MillimetresRefused}
 use Rattle.model.specs.declared.VoteAnswer.the-variants.{Voted, Refused as VoteRefused}
-use Rattle.code_theory.specs.Offsets.{OldCard, CheckedAsBefore, DistanceAsBefore}
-use Rattle.position_theory.specs.ReadPromises.{OffByAtMostTwiceTurned, OffByAtMostTurnedAndResidual, ReadWithDividedAtWill}
-use Rattle.position_theory.specs.ReadPromises.{BarHoldsPosition, TellsBitsOfChunks, NeededAsTurned, ReadOnlyIfParityAgrees, PastedNeverRead}
-use Rattle.level_theory.specs.UnitLevels.{OneLevels}
-use Rattle.level_theory.specs.LevelPromises.{AsPlainReading, OffByAtMostTwiceWrongAndLost, LevelsReadOnlyIfParityAgrees}
-use Rattle.level_theory.specs.LevelPromises.{PastedLevelsNeverRead}
+use Rattle.position_theory.specs.ReadPromises.{OffByAtMostTwiceTurned, OffByAtMostTurnedAndResidual}
+use Rattle.level_theory.specs.LevelPromises.{OffByAtMostTwiceWrongAndLost}
 use Rattle.reed_muller_theory.specs.MadeCards.{IsReedMullerCard}
-use Rattle.reed_muller_theory.specs.Votes.{KeepsPromise, AnswersAsSearch}
-use Rattle.dunnavish.specs.Crossing.{cardBytes, cardCount, numberCount, readCount, strengthCount, voteCount, leftBy, UnchangedUnlessZero}
-use Rattle.dunnavish.specs.Demands.{positionLeft, residualLeft, ruleLeft, bits₁Left, bits₂Left}
-use Rattle.dunnavish.specs.Demands.{CheckLeftAsBefore, DistanceLeftAsBefore, MadeWithinLimits, VotedAsPromised, VotedAsSearch}
-use Rattle.dunnavish.specs.Demands.{ServedWithinTwiceTurned, ServedWithinTurnedAndResidual, LeavesBitsOfChunks, LeavesBitsTurned}
-use Rattle.dunnavish.specs.Demands.{ServedWithinTwiceWrongAndLost, LeavesAsPlain}
-use Rattle.dunnavish.specs.Contradictions.{ServedOnlyIfParityAgrees, PastedNeverServed}
-use Rattle.dunnavish.specs.Contradictions.{LevelsServedOnlyIfParityAgrees, PastedLevelsNeverServed}
-use Rattle.dunnavish.specs.DividedChunks.{ServedWithDividedAtWill, BarLeftHoldsPosition}
+use Rattle.dunnavish.specs.Crossing.{cardBytes, readCount, strengthCount, UnchangedUnlessZero}
+use Rattle.dunnavish.specs.Decoding.{cardLeft, writeLeft, readLeft, millimetresLeft, voteLeft}
+use Rattle.dunnavish.specs.Demands.{ServedWithinTwiceTurned, ServedWithinTurnedAndResidual, ServedWithinTwiceWrongAndLost, MadeWithinLimits}
 
--- ---- the answer that a status and the numbers left stand for
+-- ---- what numbers left stand for, and what a status does whatever is left
 
-unfoldable pub bitsLeft : (left : ℕ) → ChunkBits
-bitsLeft left = cond (eqb left notRead) NotRead (Differing left)
+pub record Decoded : Type 0 where
+  pub checked : cardLeft 0 (16 ∷ 11 ∷ 7 ∷ 4 ∷ 1 ∷ 44 ∷ 9000 ∷ [])
+      ≡ Sound (record { n = 16; k = 11; track = 7; distance = 4; radius = 1; bits = 44; last = 9000 })
+  pub check-refused : (left : List ℕ) → cardLeft 14 left ≡ CardRefused 14
+  pub written : writeLeft 0 ≡ Written
+  pub write-refused : writeLeft 6 ≡ WriteRefused 6
+  pub by-rule-1 : readLeft 0 (7 ∷ 3 ∷ 1 ∷ 2 ∷ notRead ∷ [])
+      ≡ At (record { position = 7; residual = 3; rule = 1; chunk1 = Differing 2; chunk2 = NotRead })
+  pub by-rule-2 : readLeft 0 (7 ∷ 3 ∷ 2 ∷ notRead ∷ 0 ∷ [])
+      ≡ At (record { position = 7; residual = 3; rule = 2; chunk1 = NotRead; chunk2 = Differing 0 })
+  pub read-refused : (left : List ℕ) → readLeft 17 left ≡ ReadRefused 17
+  pub before-the-face : millimetresLeft 0 (negsuc 49 ∷ []) ≡ Millimetres (negsuc 49)
+  pub distance-refused : millimetresLeft 7 (pos 50 ∷ []) ≡ MillimetresRefused 7
+  pub voted : voteLeft 0 (5 ∷ 1 ∷ []) ≡ Voted 5 1
+  pub vote-refused : (left : List ℕ) → voteLeft 10 left ≡ VoteRefused 10
 
-abbrev pub readingLeft : (left : List ℕ) → Reading
-readingLeft left =
-    record {
-      position = positionLeft left;
-      residual = residualLeft left;
-      rule = ruleLeft left;
-      chunk1 = bitsLeft (bits₁Left left);
-      chunk2 = bitsLeft (bits₂Left left);
-    }
+-- ---- what is written out, where the right count is lent
 
-unfoldable pub readLeft : (status : ℕ) (left : List ℕ) → ReadAnswer
-readLeft zero left = At (readingLeft left)
-readLeft (suc status) left = ReadRefused (suc status)
-
-unfoldable pub voteLeft : (status : ℕ) (left : List ℕ) → VoteAnswer
-voteLeft zero left = Voted (getD left 0 0) (getD left 1 0)
-voteLeft (suc status) left = VoteRefused (suc status)
-
--- ---- reads
-
--- a plain word, where five numbers are lent (a count of 2^32 - 1 would stand for a chunk that was not read; no sound card's t is so great)
+-- a plain word
 pub record ReadHeld (card received lent : List ℕ) (status : ℕ) (left : List ℕ) : Type 0 where
   pub bounded : ServedWithinTwiceTurned card received lent status left → OffByAtMostTwiceTurned card received (readLeft status left)
   pub sharper : ServedWithinTurnedAndResidual card received lent status left → OffByAtMostTurnedAndResidual card received (readLeft status left)
-  pub divided : ServedWithDividedAtWill card received lent status left → ReadWithDividedAtWill card received (readLeft status left)
-  pub bar : BarLeftHoldsPosition card received lent status left → BarHoldsPosition card received (readLeft status left)
-  pub bits : radius (codeOf card) < notRead → LeavesBitsOfChunks card received status left → TellsBitsOfChunks card received (readLeft status left)
-  pub turned : LeavesBitsTurned card received status left → NeededAsTurned card received (readLeft status left)
-  pub agrees : ServedOnlyIfParityAgrees card received status left → ReadOnlyIfParityAgrees card received (readLeft status left)
-  pub pasted : PastedNeverServed card received status → PastedNeverRead card received (readLeft status left)
   pub unchanged : (status ≡ 0 → ⊥) → UnchangedUnlessZero lent status left → left ≡ lent
 
--- a word of levels, where five numbers and two floats are lent
-pub record LevelsHeld (card : List ℕ) (levels : List Float) (lent : List ℕ) (lentStrength : List Float) (status : ℕ) (left : List ℕ)
-    : Type 0 where
-  pub bounded : ServedWithinTwiceWrongAndLost card levels lent lentStrength status left
-      → OffByAtMostTwiceWrongAndLost card levels (readLeft status left)
-  pub plain : LeavesAsPlain card levels lent lentStrength status left → length levels ≡ wordBits (codeOf card)
-      → OneLevels levels (wordBits (codeOf card)) → (answer : ReadAnswer) → AsPlainReading card levels answer
-      → (status ≡ readStatus answer) × (left ≡ leftBy status (readValues answer) lent)
-  pub agrees : LevelsServedOnlyIfParityAgrees card levels status left → LevelsReadOnlyIfParityAgrees card levels (readLeft status left)
-  pub pasted : PastedLevelsNeverServed card levels status → PastedLevelsNeverRead card levels (readLeft status left)
-
--- ---- old cards, where seven numbers are lent, or one; made cards, where 512 bytes are; and votes, where two numbers are
-
-pub record OldCardHeld (card : List ℕ) (old : OldCard card) : Type 0 where
-  pub checked : (lent : List ℕ) (status : ℕ) (left : List ℕ) → length lent ≡ cardCount → CheckLeftAsBefore card lent status left
-      → (answer : CardAnswer) → CheckedAsBefore card answer → (status ≡ cardStatus answer) × (left ≡ leftBy status (cardValues answer) lent)
-  pub distance : (position : ℕ) (lent : List ℤ) (status : ℕ) (left : List ℤ) → length lent ≡ numberCount
-      → DistanceLeftAsBefore card position lent status left
-      → (answer : MillimetresAnswer) → DistanceAsBefore card position answer
-      → (status ≡ millimetresStatus answer) × (left ≡ leftBy status (millimetresValues answer) lent)
-
-pub record VoteHeld (r m chunk : ℕ) (lent : List ℕ) (status : ℕ) (left : List ℕ) : Type 0 where
-  pub promised : VotedAsPromised r m chunk lent status left → KeepsPromise r m chunk (voteLeft status left)
-  pub as-search : VotedAsSearch r m chunk lent status left → AnswersAsSearch r m chunk (voteLeft status left)
-
--- ---- all of them
-
 pub record HeldForC : Type 0 where
+  pub decoded : Decoded
   pub read : (card received lent : List ℕ) (status : ℕ) (left : List ℕ) → length lent ≡ readCount → ReadHeld card received lent status left
   pub levels : (card : List ℕ) (levels : List Float) (lent : List ℕ) (lentStrength : List Float) (status : ℕ) (left : List ℕ)
-      → length lent ≡ readCount → length lentStrength ≡ strengthCount → LevelsHeld card levels lent lentStrength status left
-  pub old-card : (card : List ℕ) (old : OldCard card) → OldCardHeld card old
+      → length lent ≡ readCount → length lentStrength ≡ strengthCount
+      → ServedWithinTwiceWrongAndLost card levels lent lentStrength status left
+      → OffByAtMostTwiceWrongAndLost card levels (readLeft status left)
   pub made : (track r m : ℕ) (lent : List ℕ) (status : ℕ) (left : List ℕ) → length lent ≡ cardBytes → orderWithinLimits r m ≡ true
       → MadeWithinLimits track r m lent status left → (status ≡ 0) × IsReedMullerCard track r m left
-  pub vote : (r m chunk : ℕ) (lent : List ℕ) (status : ℕ) (left : List ℕ) → length lent ≡ voteCount → VoteHeld r m chunk lent status left
