@@ -1,6 +1,7 @@
 pub mod TrailingZeros
 pub mod Gray
 pub mod Codewords
+pub mod GrayStep
 pub mod Refusals
 pub mod SoundCard
 pub mod Offsets

@@ -13,7 +13,7 @@ use Rattle.model.specs.declared.Decoded.{Decoded}
 use Rattle.model.specs.declared.NumberAnswer.{NumberAnswer}
 use Rattle.model.specs.declared.NumberAnswer.the-variants.{Number, Refused}
 use Rattle.code_theory.proofs.Refusals.{refused-by-card}
-use Rattle.linear_code.specs.DecodedFrom.{DecodedFrom}
+use Rattle.card_reader.specs.DecodedFrom.{DecodedFrom}
 use Rattle.depot.proofs.Contracts.{Meets, met}
 use Rattle.depot.proofs.Statuses.{Told, start-told}
 

@@ -15,7 +15,7 @@ use Rattle.model.specs.declared.CardAnswer.the-variants.{Sound, Refused}
 use Rattle.model.specs.declared.Decoded.{Decoded}
 use Rattle.code_theory.specs.Offsets.{CheckPromises}
 use Rattle.code_theory.proofs.Offsets.{check-promises}
-use Rattle.linear_code.specs.DecodedFrom.{DecodedFrom}
+use Rattle.card_reader.specs.DecodedFrom.{DecodedFrom}
 use Rattle.depot.proofs.Contracts.{Meets, met}
 use Rattle.depot.proofs.Statuses.{card-told}
 

@@ -26,7 +26,7 @@ use Rattle.code_theory.specs.Offsets.{MillimetresPromises}
 use Rattle.code_theory.proofs.Offsets.{millimetres-promises}
 use Rattle.code_theory.proofs.Refusals.{refused-by-card}
 use Rattle.code_theory.proofs.SoundCard.{card-tests, offset-of-test}
-use Rattle.linear_code.specs.DecodedFrom.{DecodedFrom}
+use Rattle.card_reader.specs.DecodedFrom.{DecodedFrom}
 use Rattle.depot.proofs.Contracts.{Meets, met}
 use Rattle.depot.proofs.Statuses.{millimetres-told}
 

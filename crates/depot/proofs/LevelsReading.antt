@@ -15,7 +15,7 @@ use Rattle.code_theory.proofs.Refusals.{refused-by-card}
 use Rattle.level_theory.specs.LevelPromises.{OffByAtMostTwiceWrongAndLost, LevelPromises}
 use Rattle.level_theory.proofs.LevelsAnswered.{levels-sound}
 use Rattle.level_theory.proofs.LevelPromises.{off-by-at-most-twice-wrong-and-lost, level-promises}
-use Rattle.linear_code.specs.DecodedFrom.{DecodedFrom}
+use Rattle.card_reader.specs.DecodedFrom.{DecodedFrom}
 use Rattle.depot.proofs.Contracts.{Meets, met}
 use Rattle.depot.proofs.Statuses.{levels-told, strength-told}
 

@@ -13,7 +13,7 @@ use Rattle.code_theory.proofs.Refusals.{refused-by-card}
 use Rattle.position_theory.specs.ReadPromises.{OffByAtMostTwiceTurned, OffByAtMostTurnedAndResidual, ReadPromises}
 use Rattle.position_theory.proofs.SoundCards.{read-sound}
 use Rattle.position_theory.proofs.ReadPromises.{off-by-at-most-twice-turned, off-by-at-most-turned-and-residual, read-promises}
-use Rattle.linear_code.specs.DecodedFrom.{DecodedFrom}
+use Rattle.card_reader.specs.DecodedFrom.{DecodedFrom}
 use Rattle.depot.proofs.Contracts.{Meets, met}
 use Rattle.depot.proofs.Statuses.{read-told}
 

@@ -19,7 +19,7 @@ use Rattle.model.specs.declared.WriteAnswer.{WriteAnswer}
 use Rattle.model.specs.declared.WriteAnswer.the-variants.{Written, Refused}
 use Rattle.position_theory.specs.WritePromises.{NeighboursDifferInOneBit, NoOtherPositionsWord, WritePromises}
 use Rattle.position_theory.proofs.WritePromises.{written-neighbours, written-alone, write-promises}
-use Rattle.linear_code.specs.DecodedFrom.{DecodedFrom}
+use Rattle.card_reader.specs.DecodedFrom.{DecodedFrom}
 use Rattle.depot.proofs.Contracts.{Meets, met}
 use Rattle.depot.proofs.Statuses.{write-told, no-write-values}
 

@@ -8,8 +8,8 @@ ghost use Rattle.model.specs.CheckCard.{cardAnswer, cardFigures, cardStatus, ca
 ghost use Rattle.model.specs.Decoded.{meaning};
 ghost use Rattle.code_theory.specs.Offsets.{CheckPromises};
 ghost use Rattle.code_theory.specs.Promise.{Sound};
-ghost use Rattle.linear_code.specs.DecodedFrom.{DecodedFrom};
-use linear_code::decode;
+ghost use Rattle.card_reader.specs.DecodedFrom.{DecodedFrom};
+use card_reader::decode;
 use linear_code::search;
 use model::CardAnswer;
 use model::CardSummary;

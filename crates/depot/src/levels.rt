@@ -4,7 +4,7 @@ ghost use Rattle.model.specs.Refusals.{ifServed};
 ghost use Rattle.model.specs.ReadLevels.{levelsAnswer, levelsRefusal, levelsFigures, strengthFigures, positionAnswer, levelsStatus};
 ghost use Rattle.model.specs.ReadLevels.{levelsValues, strengthValues};
 ghost use Rattle.level_theory.specs.LevelPromises.{OffByAtMostTwiceWrongAndLost, LevelPromises};
-use linear_code::decode;
+use card_reader::decode;
 use model::LevelsAnswer;
 
 // Reads a word from a receiver that gives levels, negative for 1: what a plain read answers, over the bits that aren't lost, and beside a

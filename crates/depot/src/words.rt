@@ -16,7 +16,7 @@ ghost use Rattle.model.specs.declared.WriteAnswer.the-variants.{Written};
 ghost use Rattle.code_theory.specs.Offsets.{MillimetresPromises};
 ghost use Rattle.position_theory.specs.WritePromises.{NeighboursDifferInOneBit, NoOtherPositionsWord, WritePromises};
 ghost use Rattle.position_theory.specs.ReadPromises.{OffByAtMostTwiceTurned, OffByAtMostTurnedAndResidual, ReadPromises};
-use linear_code::decode;
+use card_reader::decode;
 use model::MillimetresAnswer;
 use model::NumberAnswer;
 use model::ReadAnswer;

@@ -15,7 +15,7 @@ use Rattle.model.specs.Reading.{readFirst}
 use Rattle.model.specs.declared.Chunk.the-variants.{Codeword, Unreadable}
 use Rattle.code_theory.proofs.ChunkReading.{reading-first, reading-passed}
 use Rattle.linear_code.specs.FirstWithin.{unlikeBits}
-use Rattle.linear_code.proofs.GrayStep.{AtSet, set-start, set-next}
+use Rattle.code_theory.proofs.GrayStep.{AtSet, set-start, set-next}
 
 -- ---- the bits of one codeword
 

@@ -1,9 +1,3 @@
-pub mod Refusals
 pub mod Rows
-pub mod Decoding
-pub mod GrayStep
-pub mod LowSums
-pub mod LeastOf
-pub mod LeastWeightLoop
 pub mod ChunkSearch
 pub mod HeardSearch

@@ -1,3 +1,1 @@
-pub mod DecodedFrom
 pub mod FirstWithin
-pub mod LeastOf

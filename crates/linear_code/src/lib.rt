@@ -1,5 +1,3 @@
-// The card and the chunk code: a card is checked and decoded, and a code chunk is read.
+// The chunk code: codewords, and the reading of a code chunk.
 pub mod codeword;
-pub mod decode;
-pub mod least_weight;
 pub mod search;

@@ -9,7 +9,7 @@ use lib.ListN.{length, take}
 use lib.Seq.{length-take-le}
 use Rattle.model.specs.Card.{SoundCard}
 use Rattle.model.specs.CheckCard.{cardAnswer}
-use Rattle.linear_code.specs.DecodedFrom.{DecodedFrom}
+use Rattle.card_reader.specs.DecodedFrom.{DecodedFrom}
 use Rattle.report.specs.Lines.{cardLine}
 use Rattle.stream.proofs.Streaming.{text-at-front}
 use Rattle.word_loop.specs.Parts.{LastPart, OnlyAtEnd}

@@ -13,7 +13,7 @@ use lib.Count.{ones, trailingZeros}
 use lib.ListN.{getD}
 use lib.Pow.{pow-pos}
 use Rattle.linear_code.specs.FirstWithin.{nearBits, firstWithin}
-use Rattle.linear_code.proofs.GrayStep.{row-of-twelve}
+use Rattle.code_theory.proofs.GrayStep.{row-of-twelve}
 use Rattle.linear_code.proofs.ChunkSearch.{Counted, one-counted, counted-all, counted-past}
 use Rattle.linear_code.proofs.ChunkSearch.{AtCandidate, search-starts, search-goes-on, search-found, search-failed, bits-apart}
 use Rattle.linear_code.proofs.search.search.Statement.{statement}

@@ -1,5 +1,5 @@
--- `linear_code::least_weight::low_sums` meets its contract: the loop fills the table in Gray order, and keeps what `AtSum` says: the entries up
--- to `i` stand in the table, and the last of them is in `sum`. Each turn adds the one row that changes, of at most five, and writes
+-- `card_reader::least_weight::low_sums` meets its contract: the loop fills the table in Gray order, and keeps what `AtSum` says: the entries
+-- up to `i` stand in the table, and the last of them is in `sum`. Each turn adds the one row that changes, of at most five, and writes
 -- the next entry, of at most 32. The measure is the entries that are left. Assumes nothing.
 use mathlib.Core.Path.{refl}
 use Prim.Native.Nat.{_+_, _-_, _<_}
@@ -8,10 +8,10 @@ use borrow.Author.Needs.{needs}
 use lib.Count.{trailingZeros}
 use lib.ListN.{getD}
 use lib.Pow.{pow-pos}
-use Rattle.linear_code.proofs.GrayStep.{row-of-twelve}
-use Rattle.linear_code.proofs.LowSums.{AtSum, sum-start, sum-room, sum-next, sum-end}
-use Rattle.linear_code.proofs.least_weight.low_sums.Statement.{statement}
-use Rattle.linear_code.proofs.least_weight.low_sums.Tie as tie
+use Rattle.code_theory.proofs.GrayStep.{row-of-twelve}
+use Rattle.card_reader.proofs.LowSums.{AtSum, sum-start, sum-room, sum-next, sum-end}
+use Rattle.card_reader.proofs.least_weight.low_sums.Statement.{statement}
+use Rattle.card_reader.proofs.least_weight.low_sums.Tie as tie
 
 abbrev Inv-loop : tie.InvT-loop
 Inv-loop low rows sums₀ last sum₀ i₀ sums sum i = AtSum low (λ z. getD rows z 0) last sums sum i

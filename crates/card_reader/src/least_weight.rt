@@ -8,7 +8,7 @@ ghost use lib.ListN.{getD};
 ghost use Rattle.model.specs.Card.{sumOfRows};
 ghost use Rattle.model.specs.Order.{gray};
 ghost use Rattle.code_theory.specs.LeastOfSets.{leastOfSets};
-ghost use Rattle.linear_code.specs.LeastOf.{LeastOf, onesWith};
+ghost use Rattle.card_reader.specs.LeastOf.{LeastOf, onesWith};
 use bit_arithmetic::powers;
 
 // How many of k rows are low ones: five at most, for the table has room for 32 sums. The compiler would clear a longer table by a

@@ -1,14 +1,14 @@
--- `linear_code::least_weight::least_of` meets its contract. The loop's invariant: `least` is the least of `start` and the weights of the sums
--- passed, as the contract has it. The measure is the sums that are left. Assumes nothing.
+-- `card_reader::least_weight::least_of` meets its contract. The loop's invariant: `least` is the least of `start` and the weights of the
+-- sums passed, as the contract has it. The measure is the sums that are left. Assumes nothing.
 use mathlib.Core.Path.{_≡_, ap, _∙_}
 use mathlib.Core.Logic.{⊎-elim}
 use Prim.Native.Nat.{_-_, _≤_, min}
 use native.Mathlib.Omega.{arith}
 use borrow.Author.Needs.{needs}
-use Rattle.linear_code.specs.LeastOf.{LeastOf, onesWith}
-use Rattle.linear_code.proofs.LeastOf.{least-of-none, least-of-more}
-use Rattle.linear_code.proofs.least_weight.least_of.Statement.{statement}
-use Rattle.linear_code.proofs.least_weight.least_of.Tie as tie
+use Rattle.card_reader.specs.LeastOf.{LeastOf, onesWith}
+use Rattle.card_reader.proofs.LeastOf.{least-of-none, least-of-more}
+use Rattle.card_reader.proofs.least_weight.least_of.Statement.{statement}
+use Rattle.card_reader.proofs.least_weight.least_of.Tie as tie
 
 abbrev Inv-loop : tie.InvT-loop
 Inv-loop sums from size word start least₀ j₀ least j =

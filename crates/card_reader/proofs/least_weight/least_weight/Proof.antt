@@ -1,6 +1,6 @@
--- `linear_code::least_weight::least_weight` meets its contract: the loop steps through the sums of the rows behind the low ones in Gray order, and
--- keeps what `AtBehind` says: `word` is the sum at `set`, and `least` the least of n and of the weights of all sets met, each a set of
--- low rows with one of the rows behind. At the end all nonempty sets are met. The measure is the sums that are left.
+-- `card_reader::least_weight::least_weight` meets its contract: the loop steps through the sums of the rows behind the low ones in Gray
+-- order, and keeps what `AtBehind` says: `word` is the sum at `set`, and `least` the least of n and of the weights of all sets met, each
+-- a set of low rows with one of the rows behind. At the end all nonempty sets are met. The measure is the sums that are left.
 -- Assumes nothing.
 use Prim.Native.Nat.{_+_, _-_, _≤_, _<_}
 use native.Mathlib.Omega.{arith}
@@ -8,9 +8,9 @@ use borrow.Author.Needs.{needs}
 use lib.Count.{trailingZeros}
 use lib.ListN.{getD}
 use lib.Pow.{pow-pos, pow-mono}
-use Rattle.linear_code.proofs.LeastWeightLoop.{AtBehind, row-behind, at-start, at-next, at-end}
-use Rattle.linear_code.proofs.least_weight.least_weight.Statement.{statement}
-use Rattle.linear_code.proofs.least_weight.least_weight.Tie as tie
+use Rattle.card_reader.proofs.LeastWeightLoop.{AtBehind, row-behind, at-start, at-next, at-end}
+use Rattle.card_reader.proofs.least_weight.least_weight.Statement.{statement}
+use Rattle.card_reader.proofs.least_weight.least_weight.Tie as tie
 
 abbrev Inv-loop : tie.InvT-loop
 Inv-loop n k rows low size sums least₀ last word₀ set₀ least word set = AtBehind n low (k - low) (λ z. getD rows z 0) last word least set

@@ -18,9 +18,9 @@ use Rattle.model.specs.declared.Decoded.{Decoded}
 use Rattle.code_theory.specs.LeastOfSets.{leastOfSets}
 use Rattle.code_theory.proofs.LeastOfSets.{least-if-independent, independent-of-least, dependent-of-least}
 use Rattle.code_theory.proofs.SoundCard.{limits-of-test, narrow-of-test, card-tests, sound-card}
-use Rattle.linear_code.specs.DecodedFrom.{DecodedFrom}
-use Rattle.linear_code.proofs.Rows.{Narrow}
-use Rattle.linear_code.proofs.Refusals.{refusal-4-14-5-or-0}
+use Rattle.card_reader.specs.DecodedFrom.{DecodedFrom}
+use Rattle.card_reader.proofs.SplitRows.{Narrow}
+use Rattle.card_reader.proofs.Refusals.{refusal-4-14-5-or-0}
 
 -- the least weight of the sets of a card's rows
 abbrev pub least : List ℕ → ℕ

@@ -21,11 +21,11 @@ use Rattle.code_theory.specs.LeastOfSets.{leastOfSets}
 use Rattle.code_theory.proofs.Codewords.{rows-below}
 use Rattle.code_theory.proofs.Gray.{gray-zero, gray-below, gray-positive, gray-onto}
 use Rattle.code_theory.proofs.LeastOfSets.{AtMostEach, least-in-any-order}
-use Rattle.linear_code.proofs.GrayStep.{AtSet, set-start, row-below, set-next}
-use Rattle.linear_code.specs.LeastOf.{LeastOf, onesWith}
-use Rattle.linear_code.proofs.LeastOf.{least-of-same}
-use Rattle.linear_code.proofs.LowSums.{Table}
-use Rattle.linear_code.proofs.Rows.{Narrow, behind, rows-split}
+use Rattle.code_theory.proofs.GrayStep.{AtSet, set-start, row-below, set-next}
+use Rattle.card_reader.specs.LeastOf.{LeastOf, onesWith}
+use Rattle.card_reader.proofs.LeastOf.{least-of-same}
+use Rattle.card_reader.proofs.LowSums.{Table}
+use Rattle.card_reader.proofs.SplitRows.{Narrow, behind, rows-split}
 
 -- the sum of set j of the low rows and set h of the rows behind
 abbrev both : (low high : ℕ) (row : ℕ → ℕ) (h j : ℕ) → ℕ

@@ -5,7 +5,7 @@ use mathlib.Core.Logic.{⊎-elim}
 use Prim.Native.Nat.{ℕ, _+_, _≤_, _<_, min}
 use native.Mathlib.Omega.{arith}
 use Rattle.bits.proofs.Numbers.{eq-or-ne}
-use Rattle.linear_code.specs.LeastOf.{LeastOf}
+use Rattle.card_reader.specs.LeastOf.{LeastOf}
 
 module _ (f : ℕ → ℕ) (from : ℕ) where
   pub least-of-none : (start : ℕ) → LeastOf f from from start start

@@ -12,7 +12,7 @@ use Rattle.bits.proofs.ByteLists.{one-entry-more}
 use Rattle.model.specs.Card.{sumOfRows}
 use Rattle.model.specs.Order.{gray}
 use Rattle.code_theory.proofs.Codewords.{rows-start}
-use Rattle.linear_code.proofs.GrayStep.{AtSet, set-start, set-next}
+use Rattle.code_theory.proofs.GrayStep.{AtSet, set-start, set-next}
 
 -- entry j is the sum of set j of the low rows
 abbrev pub Table : (low : ℕ) (row : ℕ → ℕ) (sums : List ℕ) → Type 0

@@ -1,4 +1,4 @@
--- `linear_code::decode::decode` meets its contract: each test that fails is one of refusals 1 to 3, by its law, and past the three what was
+-- `card_reader::decode::decode` meets its contract: each test that fails is one of refusals 1 to 3, by its law, and past the three what was
 -- read of the card is said of its bytes: n, k, the rows, the offset, and the rows' least weight where none is too wide. From these the
 -- last tests tell refusals 4, 14 and 5 from a sound card, whose code and offset they are. Assumes nothing.
 use mathlib.Core.Path.{_≡_, refl, sym, _∙_}
@@ -15,12 +15,12 @@ use mir.Syntax.{w32}
 use mir.Val.{toZ, ofZ}
 use Rattle.model.specs.Card.{lengthOf, rowCountOf, rowOf, offsetOf, storedCheck, computedCheck, withinLimits, misplaced, offsetOutside}
 use Rattle.code_theory.proofs.SoundCard.{limits-of-test}
-use Rattle.linear_code.proofs.Decoding.{least, least-of-card, refusal-4, refusal-14, refusal-5, not-refused, code-of-least}
-use Rattle.linear_code.proofs.Decoding.{refused-from, decoded-from}
-use Rattle.linear_code.proofs.Rows.{Narrow}
-use Rattle.linear_code.proofs.Refusals.{refusal-1, refusal-2, refusal-3, misplaced-of-card}
-use Rattle.linear_code.proofs.decode.decode.Statement.{statement}
-use Rattle.linear_code.proofs.decode.decode.Tie as tie
+use Rattle.card_reader.proofs.Decoding.{least, least-of-card, refusal-4, refusal-14, refusal-5, not-refused, code-of-least}
+use Rattle.card_reader.proofs.Decoding.{refused-from, decoded-from}
+use Rattle.card_reader.proofs.SplitRows.{Narrow}
+use Rattle.card_reader.proofs.Refusals.{refusal-1, refusal-2, refusal-3, misplaced-of-card}
+use Rattle.card_reader.proofs.decode.decode.Statement.{statement}
+use Rattle.card_reader.proofs.decode.decode.Tie as tie
 
 -- the way back to the test before, and to the card's bytes, from past the second test and those after it
 abbrev first-passed : tie.Else2 → tie.Else1

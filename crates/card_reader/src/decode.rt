@@ -1,6 +1,6 @@
 // A card's bytes, checked and decoded.
 ghost use mathlib.Core.Path.{_≡_};
-ghost use Rattle.linear_code.specs.DecodedFrom.{DecodedFrom};
+ghost use Rattle.card_reader.specs.DecodedFrom.{DecodedFrom};
 use super::least_weight;
 use card_fields::checksum;
 use card_fields::fields;

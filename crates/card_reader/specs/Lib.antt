@@ -1,0 +1,2 @@
+pub mod DecodedFrom
+pub mod LeastOf

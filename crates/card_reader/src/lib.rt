@@ -1,0 +1,3 @@
+// A card is read: its bytes are checked and decoded, and its code's least distance is counted.
+pub mod decode;
+pub mod least_weight;
