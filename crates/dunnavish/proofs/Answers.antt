@@ -41,8 +41,8 @@ use Rattle.position_theory.specs.ReadPromises.{TellsBitsOfChunks}
 use Rattle.position_theory.proofs.ReadPromises.{read-promises}
 use Rattle.position_theory.proofs.ReadWords.{read-shows}
 use Rattle.level_theory.specs.LevelPromises.{TellsWrongOfChunks}
-use Rattle.level_theory.proofs.LevelPromises.{position-answered, levels-show}
-use Rattle.level_theory.proofs.LevelContradictions.{level-promises}
+use Rattle.level_theory.proofs.LevelsAnswered.{position-answered, levels-show}
+use Rattle.level_theory.proofs.LevelPromises.{level-promises}
 use Rattle.dunnavish.specs.Decoding.{summaryLeft, bitsLeft, readingLeft}
 use Rattle.dunnavish.proofs.Inherited.{Answered}
 

@@ -14,11 +14,11 @@ use Rattle.model.specs.declared.ReadAnswer.the-variants.{Refused}
 use Rattle.code_theory.proofs.Refusals.{refused-if-some}
 use Rattle.position_theory.specs.Damage.{Near, residualOf}
 use Rattle.position_theory.specs.ReadPromises.{OffByAtMostTwiceTurned, OffByAtMostTurnedAndResidual, ReadPromises}
-use Rattle.position_theory.proofs.Demands.{off-by-at-most-twice-turned, off-by-at-most-turned-and-residual}
+use Rattle.position_theory.proofs.ReadPromises.{off-by-at-most-twice-turned, off-by-at-most-turned-and-residual}
 use Rattle.position_theory.proofs.ReadPromises.{read-promises}
 use Rattle.level_theory.specs.LevelPromises.{OffByAtMostTwiceWrongAndLost, LevelPromises}
 use Rattle.level_theory.proofs.LevelPromises.{off-by-at-most-twice-wrong-and-lost}
-use Rattle.level_theory.proofs.LevelContradictions.{level-promises}
+use Rattle.level_theory.proofs.LevelPromises.{level-promises}
 use Rattle.dunnavish.specs.Crossing.{readCount, strengthCount, statusFor, leftBy, UnchangedUnlessZero}
 use Rattle.dunnavish.specs.Decoding.{residualLeft, readLeft}
 use Rattle.dunnavish.specs.Demands.{ServedNear, ServedWithinTwiceTurned, ServedWithinTurnedAndResidual, ServedWithinTwiceWrongAndLost}
