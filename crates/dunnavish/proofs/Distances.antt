@@ -8,23 +8,19 @@ use lib.Ieee.{Float}
 use lib.ListN.{length}
 use Rattle.model.specs.Refusals.{unlessRefused}
 use Rattle.model.specs.ReadWord.{readAnswer, readStatus, readValues}
-use Rattle.model.specs.ReadLevels.{levelsAnswer, levelsStatus, levelsValues, strengthValues, positionAnswer}
+use Rattle.model.specs.ReadLevels.{levelsAnswer, levelsStatus, levelsValues, strengthValues}
 use Rattle.model.specs.declared.LevelsAnswer.{LevelsAnswer}
 use Rattle.model.specs.declared.ReadAnswer.the-variants.{Refused}
 use Rattle.code_theory.proofs.Refusals.{refused-if-some}
 use Rattle.position_theory.specs.Damage.{Near, residualOf}
 use Rattle.position_theory.specs.ReadPromises.{OffByAtMostTwiceTurned, OffByAtMostTurnedAndResidual, ReadPromises}
-use Rattle.position_theory.proofs.ReadPromises.{off-by-at-most-twice-turned, off-by-at-most-turned-and-residual}
-use Rattle.position_theory.proofs.ReadPromises.{read-promises}
 use Rattle.level_theory.specs.LevelPromises.{OffByAtMostTwiceWrongAndLost, LevelPromises}
-use Rattle.level_theory.proofs.LevelPromises.{off-by-at-most-twice-wrong-and-lost}
-use Rattle.level_theory.proofs.LevelPromises.{level-promises}
 use Rattle.dunnavish.specs.Crossing.{readCount, strengthCount, statusFor, leftBy, UnchangedUnlessZero}
 use Rattle.dunnavish.specs.Decoding.{residualLeft, readLeft}
 use Rattle.dunnavish.specs.Demands.{ServedNear, ServedWithinTwiceTurned, ServedWithinTurnedAndResidual, ServedWithinTwiceWrongAndLost}
 use Rattle.dunnavish.proofs.Lent.{Crosses, status-lent, unchanged-by}
 use Rattle.dunnavish.proofs.Inherited.{decodes-to, inherits}
-use Rattle.dunnavish.proofs.Answers.{read-answered, levels-answered}
+use Rattle.dunnavish.proofs.ReadCalls.{read-call, PromisedOfLevels, levels-call}
 
 refused-left : (status : ℕ) (left : List ℕ) → readLeft (suc status) left ≡ Refused (suc status)
 unfolding readLeft
@@ -35,7 +31,8 @@ unfolding readLeft unlessRefused Near ServedNear
 near-left zero left position e (low, high) = (refl, low, high)
 near-left (suc status) left position e near = absurd (rw (refused-left status left) at near)
 
-near-with-residual : (status : ℕ) (left : List ℕ) (position e : ℕ) → Near (readLeft status left) position (e + residualOf (readLeft status left))
+near-with-residual : (status : ℕ) (left : List ℕ) (position e : ℕ)
+    → Near (readLeft status left) position (e + residualOf (readLeft status left))
     → ServedNear status left position (e + residualLeft left)
 unfolding readLeft unlessRefused Near ServedNear residualOf
 near-with-residual zero left position e (low, high) = (refl, low, high)
@@ -73,22 +70,10 @@ pub read-crosses : (card received lent : List ℕ) (status : ℕ) (left : List �
     × (length lent ≡ readCount → ReadPromises card received (readLeft status left))))))
 unfolding readLeft
 read-crosses card received lent status left crosses =
-    let call = read-answered card received in
-    let (is-status, (is-left, (unchanged, promises))) =
-    inherits call (ReadPromises card received) (read-promises card received) readCount lent status left crosses in
-    let (_, (_, (_, bounded))) =
-    inherits call (OffByAtMostTwiceTurned card received) (off-by-at-most-twice-turned card received) readCount lent status left crosses in
-    let (_, (_, (_, sharper))) =
-    inherits call (OffByAtMostTurnedAndResidual card received) (off-by-at-most-turned-and-residual card received) readCount lent status left crosses in (
-      is-status,
-      (
-        is-left,
-        (
-          unchanged,
-          (bounded-left card received lent status left bounded, (sharper-left card received lent status left sharper, promises)),
-        ),
-      ),
-    )
+    let (is-status, (is-left, (unchanged, promised))) = inherits (read-call card received) readCount lent status left crosses in
+    let bounded = bounded-left card received lent status left (λ alike. promised alike .0) in
+    let sharper = sharper-left card received lent status left (λ alike. promised alike .1 .0) in
+    (is-status, (is-left, (unchanged, (bounded, (sharper, λ alike. promised alike .1 .1)))))
 
 module _ (card : List ℕ) (levels : List Float) (lent : List ℕ) (lentStrength : List Float) (status : ℕ) (left : List ℕ)
     (strengthLeft : List Float) where
@@ -106,27 +91,12 @@ module _ (card : List ℕ) (levels : List Float) (lent : List ℕ) (lentStrength
       × (length lent ≡ readCount → length lentStrength ≡ strengthCount → LevelPromises card levels (readLeft status left)))))))
   unfolding readLeft
   levels-cross is-status is-left is-strength =
-      let decoded : length lent ≡ readCount → length lentStrength ≡ strengthCount → readLeft status left ≡ positionAnswer answered =
+      let call = levels-call card levels in
+      let promised : length lent ≡ readCount → length lentStrength ≡ strengthCount → PromisedOfLevels card levels (readLeft status left) =
       λ five two.
-      decodes-to (levels-answered card levels) status left lent
-      (is-status ∙ status-lent readCount lent five _ ∙ status-lent strengthCount lentStrength two _) is-left in
-      let bounded : length lent ≡ readCount → length lentStrength ≡ strengthCount → OffByAtMostTwiceWrongAndLost card levels (readLeft status left) =
-      λ five two. subst (OffByAtMostTwiceWrongAndLost card levels) (sym (decoded five two)) (off-by-at-most-twice-wrong-and-lost card levels) in (
-        is-status,
-        (
-          is-left,
-          (
-            is-strength,
-            (
-              unchanged-by status _ lent left is-left,
-              (
-                unchanged-by status _ lentStrength strengthLeft is-strength,
-                (
-                  levels-bounded-left card levels lent lentStrength status left bounded,
-                  λ five two. subst (LevelPromises card levels) (sym (decoded five two)) (level-promises card levels),
-                ),
-              ),
-            ),
-          ),
-        ),
-      )
+      let is = is-status ∙ status-lent readCount lent five _ ∙ status-lent strengthCount lentStrength two _ in
+      subst (PromisedOfLevels card levels) (sym (decodes-to call status left lent is is-left)) (call .promised) in
+      let bounded = levels-bounded-left card levels lent lentStrength status left (λ five two. promised five two .0) in
+      let unchanged = unchanged-by status _ lent left is-left in
+      let strength-unchanged = unchanged-by status _ lentStrength strengthLeft is-strength in
+      (is-status, (is-left, (is-strength, (unchanged, (strength-unchanged, (bounded, λ five two. promised five two .1))))))

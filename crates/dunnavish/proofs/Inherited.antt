@@ -1,7 +1,7 @@
--- One law for all calls for C: what a call returns and leaves, where the right count is lent, decodes to the library's answer, so whatever is
--- promised of that answer holds of what it decodes to. Of a call it is asked how its answers are told, and that the values of an answer that
--- is served decode to it. Assumes nothing.
-use mathlib.Core.Path.{_≡_, refl, sym, ap, subst, _∙_}
+-- One law for all calls for C: where the right count is lent, what a call returns and leaves decodes to the library's answer, so whatever
+-- is promised of that answer holds of what it decodes to. Of a call it is asked how its answers are told, and that the values of an
+-- answer that is served decode to it. Assumes nothing.
+use mathlib.Core.Path.{_≡_, sym, ap, subst, _∙_}
 use mathlib.Core.List.{List, [], _∷_}
 use mathlib.Core.Logic.{⊎-elim}
 use Prim.Native.Nat.{ℕ}
@@ -14,64 +14,75 @@ use Rattle.code_theory.proofs.Refusals.{served-if-none, refused-if-some}
 use Rattle.dunnavish.specs.Crossing.{statusFor, leftBy, UnchangedUnlessZero}
 use Rattle.dunnavish.proofs.Lent.{Crosses, refusal-crosses, status-lent, unchanged-by}
 
--- an answer is the refusal by this number, or where that is 0 what is served, which has some values, and they decode to it
-pub record Answered {A B : Type 0} (status : A → ℕ) (values : A → List B) (refused : ℕ → A) (decode : List B → A) (answer : A) : Type 0 where
+-- How a call's answer is told: it is the refusal by this number, or where that is 0 what is served; a refusal has its number for a status
+-- and no values, what is served 0 and some values.
+pub record Told {A B : Type 0} (status : A → ℕ) (values : A → List B) (refused : ℕ → A) (answer : A) : Type 0 where
   pub refusal : ℕ
   pub served : A
   pub is : answer ≡ unlessRefused refusal refused served
-  pub number : (n : ℕ) → status (refused n) ≡ n
-  pub none : (n : ℕ) → values (refused n) ≡ []
-  pub zero : status served ≡ 0
-  pub some : (first : B) × (rest : List B) × (values served ≡ first ∷ rest)
-  pub decodes : refusal ≡ 0 → decode (values served) ≡ served
+  pub refused-told : (n : ℕ) → (status (refused n) ≡ n) × (values (refused n) ≡ [])
+  pub served-told : (status served ≡ 0) × ((first : B) × (rest : List B) × (values served ≡ first ∷ rest))
 
-no-empty-values : {B : Type 0} (values : List B) (first : B) (rest : List B) → values ≡ first ∷ rest → values ≡ [] → ⊥
-no-empty-values values first rest some none = let never : _≡_ {A = ℕ} 0 1 = cc in omega arith
+-- and a call: the values of what is served decode to it, and the answer is as promised
+pub record Call {A B : Type 0} (status : A → ℕ) (values : A → List B) (refused : ℕ → A) (decode : List B → A) (Promise : A → Type 0)
+    (answer : A) : Type 0 where
+  pub told : Told status values refused answer
+  pub decodes : told .refusal ≡ 0 → decode (values (told .served)) ≡ told .served
+  pub promised : Promise answer
 
-module _ {A B : Type 0} {status : A → ℕ} {values : A → List B} {refused : ℕ → A} {decode : List B → A} {answer : A}
-    (call : Answered status values refused decode answer) where
-  is-served : call .refusal ≡ 0 → answer ≡ call .served
-  is-served none = call .is ∙ served-if-none (call .refusal) refused (call .served) none
+no-values : {B : Type 0} (values : List B) (first : B) (rest : List B) → values ≡ first ∷ rest → values ≡ [] → ⊥
+no-values values first rest some none = let never : _≡_ {A = ℕ} 0 1 = cc in omega arith
 
-  status-is : status answer ≡ call .refusal
+module _ {A B : Type 0} {status : A → ℕ} {values : A → List B} {refused : ℕ → A} {answer : A}
+    (told : Told status values refused answer) where
+  is-served : told .refusal ≡ 0 → answer ≡ told .served
+  is-served none = told .is ∙ served-if-none (told .refusal) refused (told .served) none
+
+  is-refused : (told .refusal ≡ 0 → ⊥) → answer ≡ refused (told .refusal)
+  is-refused some = told .is ∙ refused-if-some (told .refusal) refused (told .served) some
+
+  status-is : status answer ≡ told .refusal
   status-is =
-      ⊎-elim (λ (none : call .refusal ≡ 0). ap status (is-served none) ∙ call .zero ∙ sym none)
-      (λ (some : call .refusal ≡ 0 → ⊥).
-      ap status (call .is ∙ refused-if-some (call .refusal) refused (call .served) some) ∙ call .number (call .refusal))
-      (eq-or-ne (call .refusal) 0)
+      ⊎-elim (λ (none : told .refusal ≡ 0). ap status (is-served none) ∙ told .served-told .0 ∙ sym none)
+      (λ (some : told .refusal ≡ 0 → ⊥). ap status (is-refused some) ∙ told .refused-told (told .refusal) .0) (eq-or-ne (told .refusal) 0)
 
-  -- no call is refused by the number 0
+  -- no call is refused by the number 0, so a refusal leaves what was lent
   pub refused-nonzero : (n : ℕ) → answer ≡ refused n → n ≡ 0 → ⊥
   refused-nonzero n is zero =
-      let (first, rest, some) = call .some in
-      let none : call .refusal ≡ 0 = sym status-is ∙ ap status is ∙ call .number n ∙ zero in
-      no-empty-values (values answer) first rest (ap values (is-served none) ∙ some) (ap values is ∙ call .none n)
+      let (number, none) = told .refused-told n in
+      let (first, rest, some) = told .served-told .1 in
+      let served = is-served (sym status-is ∙ ap status is ∙ number ∙ zero) in
+      no-values (values answer) first rest (ap values served ∙ some) (ap values is ∙ none)
 
   pub refused-crosses : (count : ℕ) (lent : List B) → length lent ≡ count → (n : ℕ) → answer ≡ refused n
       → Crosses count lent (status answer) (values answer) n lent
   refused-crosses count lent alike n is =
-      rw (ap status is ∙ call .number n) (refusal-crosses count lent alike n (refused-nonzero n is) (values answer))
+      rw (ap status is ∙ told .refused-told n .0) (refusal-crosses count lent alike n (refused-nonzero n is) (values answer))
 
+module _ {A B : Type 0} {status : A → ℕ} {values : A → List B} {refused : ℕ → A} {decode : List B → A} {Promise : A → Type 0} {answer : A}
+    (call : Call status values refused decode Promise answer) where
+  -- the law
   pub decodes-to : (s : ℕ) (left lent : List B) → s ≡ status answer → left ≡ leftBy s (values answer) lent
       → unlessRefused s refused (decode left) ≡ answer
   unfolding leftBy
   decodes-to s left lent is-status is-left =
-      let told : s ≡ call .refusal = is-status ∙ status-is in
-      ⊎-elim (λ (none : call .refusal ≡ 0).
-      let left-are : left ≡ values (call .served) = is-left ∙ rw (eq-eqb s 0 (told ∙ none)) (ap values (is-served none)) in
-      served-if-none s refused (decode left) (told ∙ none) ∙ ap decode left-are ∙ call .decodes none ∙ sym (is-served none))
-      (λ (some : call .refusal ≡ 0 → ⊥).
-      refused-if-some s refused (decode left) (λ zero. some (sym told ∙ zero))
-      ∙ ap refused told
-      ∙ sym (call .is ∙ refused-if-some (call .refusal) refused (call .served) some))
-      (eq-or-ne (call .refusal) 0)
+      let told = call .told in
+      let number : s ≡ told .refusal = is-status ∙ status-is told in
+      ⊎-elim
+      (λ (none : told .refusal ≡ 0).
+      let put : left ≡ values answer = is-left ∙ rw (eq-eqb s 0 (number ∙ none)) in
+      served-if-none s refused (decode left) (number ∙ none)
+      ∙ ap decode (put ∙ ap values (is-served told none)) ∙ call .decodes none ∙ sym (is-served told none))
+      (λ (some : told .refusal ≡ 0 → ⊥).
+      refused-if-some s refused (decode left) (λ zero. some (sym number ∙ zero)) ∙ ap refused number ∙ sym (is-refused told some))
+      (eq-or-ne (told .refusal) 0)
 
-  pub inherits : (P : A → Type 0) → P answer → (count : ℕ) (lent : List B) (s : ℕ) (left : List B)
-      → Crosses count lent (status answer) (values answer) s left
+  pub inherits : (count : ℕ) (lent : List B) (s : ℕ) (left : List B) → Crosses count lent (status answer) (values answer) s left
       → (s ≡ statusFor count lent (status answer))
       × ((left ≡ leftBy s (values answer) lent)
-      × (UnchangedUnlessZero lent s left × (length lent ≡ count → P (unlessRefused s refused (decode left)))))
-  inherits P promised count lent s left (is-status, is-left) =
+      × (UnchangedUnlessZero lent s left × (length lent ≡ count → Promise (unlessRefused s refused (decode left)))))
+  inherits count lent s left (is-status, is-left) =
       let decoded : length lent ≡ count → unlessRefused s refused (decode left) ≡ answer =
       λ alike. decodes-to s left lent (is-status ∙ status-lent count lent alike (status answer)) is-left in
-      (is-status, (is-left, (unchanged-by s (values answer) lent left is-left, λ alike. subst P (sym (decoded alike)) promised)))
+      let unchanged = unchanged-by s (values answer) lent left is-left in
+      (is-status, (is-left, (unchanged, λ alike. subst Promise (sym (decoded alike)) (call .promised))))

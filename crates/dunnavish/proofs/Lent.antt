@@ -33,14 +33,16 @@ module _ {A : Type 0} (count : ℕ) (lent : List A) where
     status-lent answered = rw (eq-eqb (length lent) count alike)
 
 -- what is left by a status other than 0 is what was lent
-pub unchanged-by : {A : Type 0} (status : ℕ) (values lent left : List A) → left ≡ leftBy status values lent → UnchangedUnlessZero lent status left
+pub unchanged-by : {A : Type 0} (status : ℕ) (values lent left : List A) → left ≡ leftBy status values lent
+    → UnchangedUnlessZero lent status left
 unfolding leftBy UnchangedUnlessZero
 unchanged-by status values lent left is nonzero = is ∙ rw (ne-eqb status 0 nonzero)
 
-pub crosses-unchanged : {A : Type 0} (count : ℕ) (lent : List A) (answered : ℕ) (values : List A) (status : ℕ)
-    (left : List A) → Crosses count lent answered values status left
+pub crosses-unchanged : {A : Type 0} (count : ℕ) (lent : List A) (answered : ℕ) (values : List A) (status : ℕ) (left : List A)
+    → Crosses count lent answered values status left
     → (status ≡ statusFor count lent answered) × ((left ≡ leftBy status values lent) × UnchangedUnlessZero lent status left)
-crosses-unchanged count lent answered values status left (is-status, is-left) = (is-status, (is-left, unchanged-by status values lent left is-left))
+crosses-unchanged count lent answered values status left (is-status, is-left) =
+    (is-status, (is-left, unchanged-by status values lent left is-left))
 
 pub all-stored : {A : Type 0} (values lent : List A) → length lent ≡ length values → sets lent 0 values ≡ values
 all-stored values lent alike =

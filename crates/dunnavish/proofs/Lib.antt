@@ -1,6 +1,6 @@
 pub mod Lent
 pub mod Inherited
-pub mod Answers
+pub mod ReadCalls
 pub mod Distances
 pub mod Writes
 pub mod MadeCards

@@ -1,5 +1,5 @@
--- What the call that makes a card leaves in the lent bytes: the answer's refusal is the definition's, and within the limits the bytes are the
--- card that was asked for, of which the clauses of the contract follow from its equations. Assumes nothing.
+-- What the call that makes a card leaves in the lent bytes: the answer's refusal is the definition's, and within the limits the bytes are
+-- the card that was asked for, of which the clauses of the contract follow from its equations. Assumes nothing.
 use mathlib.Core.Path.{_≡_, refl, sym, _∙_}
 use mathlib.Core.Bool.{true, false}
 use mathlib.Core.List.{List}

@@ -1,6 +1,6 @@
 -- What is written out over status and numbers says the same of the answer that they stand for: a status of 0 is that of a word that is
 -- read. Which answer that is computes. Assumes nothing.
-use mathlib.Core.Path.{_≡_, refl}
+use mathlib.Core.Path.{refl}
 use mathlib.Core.List.{List}
 use Prim.Native.Nat.{ℕ, zero, suc, _+_}
 use native.Mathlib.Omega.{arith}
@@ -50,7 +50,8 @@ held-for-C =
       decoded = decoded;
       read = λ card received lent status left five.
           record {
-            bounded = λ promise position sound on-track within. near-of status left position _ (promise five position sound on-track within);
+            bounded = λ promise position sound on-track within.
+                near-of status left position _ (promise five position sound on-track within);
             sharper = λ promise position sound on-track within.
                 near-with-residual-of status left position _ (promise five position sound on-track within);
             unchanged = λ not-served promise. promise not-served;

@@ -39,7 +39,8 @@ module _ (card : List ℕ) (position : ℕ) (lent : List ℕ) where
   write-crosses status left is-status is-left =
       let decoded : writeLeft status ≡ answer = rw is-status answer-decodes in
       let written : status ≡ 0 → answer ≡ Written = λ zero. sym decoded ∙ written-if-zero status zero in
-      let promises : WritePromises card position lent (writeLeft status) left = rw (decoded, is-left) (write-promises card position lent) in (
+      let promises : WritePromises card position lent (writeLeft status) left =
+      rw (decoded, is-left) (write-promises card position lent) in (
         is-status,
         (
           is-left,

@@ -1,7 +1,7 @@
 -- The promises to C, held from below. Those that are written out over status and numbers give the library's own of the answer that these
--- stand for, of every card and word; so a premise that nobody can meet, or a looser bound, no longer gives its field here. The others are the
--- library's own of that answer, held by the rows of the theory crates; what is to be held of them is the answer, by these rows. Assumes
--- nothing.
+-- stand for, of every card and word; so a premise that nobody can meet, or a looser bound, no longer gives its field here. The others are
+-- the library's own of that answer, held by the rows of the theory crates; what is to be held of them is the answer, by these rows.
+-- Assumes nothing.
 use mathlib.Core.Path.{_≡_}
 use mathlib.Core.Bool.{true}
 use mathlib.Core.List.{List, [], _∷_}
@@ -22,7 +22,8 @@ use Rattle.level_theory.specs.LevelPromises.{OffByAtMostTwiceWrongAndLost}
 use Rattle.reed_muller_theory.specs.MadeCards.{IsReedMullerCard}
 use Rattle.dunnavish.specs.Crossing.{cardBytes, readCount, strengthCount, UnchangedUnlessZero}
 use Rattle.dunnavish.specs.Decoding.{cardLeft, writeLeft, readLeft, millimetresLeft, voteLeft}
-use Rattle.dunnavish.specs.Demands.{ServedWithinTwiceTurned, ServedWithinTurnedAndResidual, ServedWithinTwiceWrongAndLost, MadeWithinLimits}
+use Rattle.dunnavish.specs.Demands.{ServedWithinTwiceTurned, ServedWithinTurnedAndResidual, ServedWithinTwiceWrongAndLost}
+use Rattle.dunnavish.specs.Demands.{MadeWithinLimits}
 
 -- ---- what numbers left stand for, and what a status does whatever is left
 
@@ -47,7 +48,8 @@ pub record Decoded : Type 0 where
 -- a plain word
 pub record ReadHeld (card received lent : List ℕ) (status : ℕ) (left : List ℕ) : Type 0 where
   pub bounded : ServedWithinTwiceTurned card received lent status left → OffByAtMostTwiceTurned card received (readLeft status left)
-  pub sharper : ServedWithinTurnedAndResidual card received lent status left → OffByAtMostTurnedAndResidual card received (readLeft status left)
+  pub sharper : ServedWithinTurnedAndResidual card received lent status left
+      → OffByAtMostTurnedAndResidual card received (readLeft status left)
   pub unchanged : (status ≡ 0 → ⊥) → UnchangedUnlessZero lent status left → left ≡ lent
 
 pub record HeldForC : Type 0 where

@@ -1,7 +1,6 @@
--- `dunnavish::codes::dunnavish_make_card` meets its contract: the count of the lent bytes, then what the library answered. A track number is
--- one of 16 bits; a made card is sound, so it has the 512 bytes that are lent. Assumes nothing.
+-- `dunnavish::codes::dunnavish_make_card` meets its contract: the count of the lent bytes, then what the library answered. A track number
+-- is one of 16 bits; a made card is sound, so it has the 512 bytes that are lent. Assumes nothing.
 use mathlib.Core.Path.{_≡_, sym, ap, _∙_}
-use mathlib.Core.List.{List}
 use Prim.Native.Nat.{ℕ}
 use borrow.Author.Needs.{needs}
 use Rattle.model.specs.MakeCard.{makeRefusal, makeAnswer}

@@ -1,30 +1,41 @@
--- `dunnavish::codes::dunnavish_vote_chunk` meets its contract: the count of the lent numbers, then what the library answered. Assumes nothing.
-use mathlib.Core.Path.{sym, _∙_}
+-- `dunnavish::codes::dunnavish_vote_chunk` meets its contract: the count of the lent numbers, then what the library answered. Assumes
+-- nothing.
+use mathlib.Core.Path.{refl, sym, _∙_}
 use mathlib.Core.List.{[], _∷_}
+use Prim.Native.Nat.{ℕ}
 use borrow.Author.Needs.{needs}
-use Rattle.model.specs.VoteChunk.{voteStatus, voteValues}
+use lib.ListN.{getD}
+use Rattle.model.specs.VoteChunk.{voteAnswer, voteStatus, voteValues}
+use Rattle.model.specs.declared.VoteAnswer.the-variants.{Voted, Refused}
 use Rattle.reed_muller_theory.specs.Votes.{VotePromises}
 use Rattle.reed_muller_theory.proofs.VoteAnswers.{vote-promises}
 use Rattle.dunnavish.specs.Crossing.{voteCount}
 use Rattle.dunnavish.specs.Decoding.{voteLeft}
 use Rattle.dunnavish.proofs.Lent.{wrong-count-crosses, values-cross, all-stored}
-use Rattle.dunnavish.proofs.Inherited.{refused-crosses, inherits}
-use Rattle.dunnavish.proofs.Answers.{vote-answered}
+use Rattle.dunnavish.proofs.Inherited.{Call, refused-crosses, inherits}
 use Rattle.dunnavish.proofs.codes.dunnavish_vote_chunk.Statement.{statement}
 use Rattle.dunnavish.proofs.codes.dunnavish_vote_chunk.Tie as tie
 
+call : (r m chunk : ℕ)
+    → Call voteStatus voteValues Refused (λ left. Voted (getD left 0 0) (getD left 1 0)) (VotePromises r m chunk) (voteAnswer r m chunk)
+unfolding voteAnswer voteStatus voteValues
+call r m chunk =
+    record {
+      told = record { refusal = _; served = _; is = refl; refused-told = λ n. (refl, refl); served-told = (refl, (_, _, refl)) };
+      decodes = λ _. refl;
+      promised = vote-promises r m chunk;
+    }
+
 returns : tie.Need-returns
 unfolding voteLeft
-returns c =
-    inherits (vote-answered _ _ _) (VotePromises _ _ _) (vote-promises _ _ _) voteCount _ _ _ (wrong-count-crosses voteCount _ (c .if1 .taken) _ _)
+returns c = inherits (call _ _ _) voteCount _ _ _ (wrong-count-crosses voteCount _ (c .if1 .taken) _ _)
 
 returns-2 : tie.Need-returns-2
 unfolding voteLeft
 returns-2 c =
     let asked = c .before .before .before in
     let is = sym (asked .vote-chunk .ensures .0) ∙ c .before .answer .given .1 in
-    inherits (vote-answered _ _ _) (VotePromises _ _ _) (vote-promises _ _ _) voteCount _ _ _
-    (refused-crosses (vote-answered _ _ _) voteCount _ (asked .before .if1 .left) _ is)
+    inherits (call _ _ _) voteCount _ _ _ (refused-crosses (call _ _ _ .told) voteCount _ (asked .before .if1 .left) _ is)
 
 returns-3 : tie.Need-returns-3
 unfolding voteLeft voteStatus voteValues
@@ -32,8 +43,7 @@ returns-3 c =
     let asked = c .before .before .before in
     let alike = asked .before .if1 .left in
     let is = sym (asked .vote-chunk .ensures .0) ∙ c .before .answer2 .given .1 in
-    inherits (vote-answered _ _ _) (VotePromises _ _ _) (vote-promises _ _ _) voteCount _ _ _
-    (rw (is, all-stored (_ ∷ _ ∷ []) _ alike) (values-cross voteCount _ alike _))
+    inherits (call _ _ _) voteCount _ _ _ (rw (is, all-stored (_ ∷ _ ∷ []) _ alike) (values-cross voteCount _ alike _))
 
 pub dunnavish-vote-chunk-spec : {M : Type 1} → statement M
 dunnavish-vote-chunk-spec =

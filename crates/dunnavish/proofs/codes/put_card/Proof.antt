@@ -1,5 +1,5 @@
--- `dunnavish::codes::put_card` meets its contract. The loop's invariant: the lent card has 512 bytes, and those before place i are the given
--- ones. The measure is the bytes that are left. Assumes nothing.
+-- `dunnavish::codes::put_card` meets its contract. The loop's invariant: the lent card has 512 bytes, and those before place i are the
+-- given ones. The measure is the bytes that are left. Assumes nothing.
 use Prim.Native.Nat.{ℕ, _-_, _≤_, _<_}
 use mathlib.Core.Path.{_≡_, refl, sym, _∙_}
 use native.Mathlib.Omega.{arith}

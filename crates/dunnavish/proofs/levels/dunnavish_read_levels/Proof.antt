@@ -1,17 +1,17 @@
 -- `dunnavish::levels::dunnavish_read_levels` meets its contract: the counts of the lent numbers and floats, then what the library answered.
 -- Assumes nothing.
-use mathlib.Core.Path.{_≡_, refl, sym, ap, _∙_}
+use mathlib.Core.Path.{refl, sym, ap, _∙_}
 use mathlib.Core.List.{[], _∷_}
 use native.Mathlib.Omega.{arith}
 use borrow.Author.Needs.{needs}
 use borrow.Author.Tests.{ne-eqb}
-use lib.ListN.{length, length-set}
+use lib.ListN.{length-set}
 use Rattle.model.specs.ReadWord.{readStatus}
 use Rattle.model.specs.ReadLevels.{positionAnswer, strengthValues}
 use Rattle.dunnavish.specs.Crossing.{readCount, strengthCount, leftBy}
 use Rattle.dunnavish.proofs.Lent.{wrong-count-crosses, status-lent, all-stored}
 use Rattle.dunnavish.proofs.Inherited.{refused-nonzero}
-use Rattle.dunnavish.proofs.Answers.{levels-answered}
+use Rattle.dunnavish.proofs.ReadCalls.{levels-call}
 use Rattle.dunnavish.proofs.Distances.{levels-cross}
 use Rattle.dunnavish.proofs.levels.dunnavish_read_levels.Statement.{statement}
 use Rattle.dunnavish.proofs.levels.dunnavish_read_levels.Tie as tie
@@ -26,23 +26,18 @@ returns-2 c =
     levels-cross _ _ _ _ _ _ _
     (wrong-count-crosses strengthCount _ (c .if2 .taken) _ [] .0 ∙ sym (status-lent readCount _ (c .before .if1 .left) _)) refl refl
 
--- two floats are lent
-two-floats : (c : tie.After-slice-known3)
-    → length (c .before .before .before .before .before .before .before .before .before .before .before .before .before .before .args .strength .now) ≡ strengthCount
-two-floats c = c .before .before .before .before .before .before .before .before .if2 .left
-
 slice-write-strength : tie.Need-slice-write-strength
-slice-write-strength c = omega (arith, two-floats c)
+slice-write-strength c = omega (arith, c .before .before .before .before .before .before .before .before .if2 .left)
 
 slice-write-strength-2 : tie.Need-slice-write-strength-2
-slice-write-strength-2 c = simp length-set (omega (arith, two-floats c))
+slice-write-strength-2 c = simp length-set (omega (arith, c .before .before .before .before .before .before .before .before .if2 .left))
 
 returns-3 : tie.Need-returns-3
 unfolding positionAnswer readStatus leftBy
 returns-3 c =
     let asked = c .before .before .before in
     let is = sym (asked .read-levels .ensures .0) ∙ c .before .answer .given .1 in
-    let nonzero = refused-nonzero (levels-answered _ _) _ (ap positionAnswer is) in
+    let nonzero = refused-nonzero (levels-call _ _ .told) _ (ap positionAnswer is) in
     levels-cross _ _ _ _ _ _ _
     (rw (status-lent readCount _ (asked .before .before .if1 .left), status-lent strengthCount _ (asked .before .if2 .left), is))
     (rw (ne-eqb _ 0 nonzero)) (rw (ne-eqb _ 0 nonzero))

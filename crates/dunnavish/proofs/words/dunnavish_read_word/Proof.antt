@@ -1,11 +1,12 @@
--- `dunnavish::words::dunnavish_read_word` meets its contract: the count of the lent numbers, then what the library answered. Assumes nothing.
+-- `dunnavish::words::dunnavish_read_word` meets its contract: the count of the lent numbers, then what the library answered. Assumes
+-- nothing.
 use mathlib.Core.Path.{sym, _∙_}
 use borrow.Author.Needs.{needs}
 use Rattle.model.specs.ReadWord.{readStatus, readValues}
 use Rattle.dunnavish.specs.Crossing.{readCount}
 use Rattle.dunnavish.proofs.Lent.{wrong-count-crosses, values-cross}
 use Rattle.dunnavish.proofs.Inherited.{refused-crosses}
-use Rattle.dunnavish.proofs.Answers.{read-answered}
+use Rattle.dunnavish.proofs.ReadCalls.{read-call}
 use Rattle.dunnavish.proofs.Distances.{read-crosses}
 use Rattle.dunnavish.proofs.words.dunnavish_read_word.Statement.{statement}
 use Rattle.dunnavish.proofs.words.dunnavish_read_word.Tie as tie
@@ -17,7 +18,7 @@ returns-2 : tie.Need-returns-2
 returns-2 c =
     let asked = c .before .before .before in
     let is = sym (asked .read-word .ensures .0) ∙ c .before .answer .given .1 in
-    read-crosses _ _ _ _ _ (refused-crosses (read-answered _ _) readCount _ (asked .before .if1 .left) _ is)
+    read-crosses _ _ _ _ _ (refused-crosses (read-call _ _ .told) readCount _ (asked .before .if1 .left) _ is)
 
 returns-3 : tie.Need-returns-3
 unfolding readStatus readValues

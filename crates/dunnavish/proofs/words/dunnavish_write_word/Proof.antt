@@ -10,14 +10,14 @@ use Rattle.dunnavish.proofs.words.dunnavish_write_word.Tie as tie
 returns : tie.Need-returns
 unfolding writeStatus
 returns c =
-    let asked = c .before .before .before .before .before in
-    write-crosses _ _ _ _ _ (rw (sym (asked .write-word .ensures .0) ∙ c .before .answer .given .1)) (asked .write-word .ensures .1 .1 .1 .0)
+    let written = c .before .before .before .before .before .write-word in
+    write-crosses _ _ _ _ _ (rw (sym (written .ensures .0) ∙ c .before .answer .given .1)) (written .ensures .1 .1 .1 .0)
 
 returns-2 : tie.Need-returns-2
 unfolding writeStatus
 returns-2 c =
-    let asked = c .before .before .before .before in
-    write-crosses _ _ _ _ _ (rw (sym (asked .write-word .ensures .0) ∙ c .enum-told .given .1)) (asked .write-word .ensures .1 .1 .1 .0)
+    let written = c .before .before .before .before .write-word in
+    write-crosses _ _ _ _ _ (rw (sym (written .ensures .0) ∙ c .enum-told .given .1)) (written .ensures .1 .1 .1 .0)
 
 pub dunnavish-write-word-spec : {M : Type 1} → statement M
 dunnavish-write-word-spec =

@@ -1,4 +1,5 @@
--- `dunnavish::words::put_reading` meets its contract: five stores over the whole of five numbers leave just the values stored. Assumes nothing.
+-- `dunnavish::words::put_reading` meets its contract: five stores over the whole of five numbers leave just the values stored. Assumes
+-- nothing.
 use mathlib.Core.List.{[], _∷_}
 use native.Mathlib.Omega.{arith}
 use borrow.Author.Needs.{needs}
