@@ -144,6 +144,7 @@ uint32_t dunnavish_check_card(const uint8_t *card, size_t card_bytes, uint32_t *
 /*
  * Write the word of a position into `word`, which has exactly the bytes of a word. Answers 0 to 7, or 14. Only on 0 is `word`
  * written, all of it, spare bits zero; what it held before does not matter.
+ * It then differs in just one bit from the word of each neighbouring position, and is the word of no other position.
  */
 uint32_t dunnavish_write_word(const uint8_t *card, size_t card_bytes, uint32_t position, uint8_t *word, size_t word_bytes);
 

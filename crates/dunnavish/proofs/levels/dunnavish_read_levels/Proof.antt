@@ -12,7 +12,7 @@ use Rattle.dunnavish.specs.Crossing.{readCount, strengthCount, leftBy}
 use Rattle.dunnavish.proofs.Lent.{wrong-count-crosses, status-lent, all-stored}
 use Rattle.dunnavish.proofs.Inherited.{refused-nonzero}
 use Rattle.dunnavish.proofs.ReadCalls.{levels-call}
-use Rattle.dunnavish.proofs.Distances.{levels-cross}
+use Rattle.dunnavish.proofs.ReadsCross.{levels-cross}
 use Rattle.dunnavish.proofs.levels.dunnavish_read_levels.Statement.{statement}
 use Rattle.dunnavish.proofs.levels.dunnavish_read_levels.Tie as tie
 

@@ -7,7 +7,7 @@ use Rattle.dunnavish.specs.Crossing.{readCount}
 use Rattle.dunnavish.proofs.Lent.{wrong-count-crosses, values-cross}
 use Rattle.dunnavish.proofs.Inherited.{refused-crosses}
 use Rattle.dunnavish.proofs.ReadCalls.{read-call}
-use Rattle.dunnavish.proofs.Distances.{read-crosses}
+use Rattle.dunnavish.proofs.ReadsCross.{read-crosses}
 use Rattle.dunnavish.proofs.words.dunnavish_read_word.Statement.{statement}
 use Rattle.dunnavish.proofs.words.dunnavish_read_word.Tie as tie
 
