@@ -25,11 +25,10 @@ use Rattle.code_theory.proofs.LeastDistance.{D-high}
 use Rattle.position_theory.specs.ChunkBits.{TellsBits, TellsWrong}
 use Rattle.position_theory.specs.ReadPromises.{TellsBitsOfChunks, OffByAtMostTwiceTurned, OffByAtMostTurnedAndResidual, ReadPromises}
 use Rattle.position_theory.proofs.ReadWords.{read-shows}
-use Rattle.position_theory.proofs.Demands.{off-by-at-most-twice-turned, off-by-at-most-turned-and-residual}
-use Rattle.position_theory.proofs.ReadPromises.{read-promises}
+use Rattle.position_theory.proofs.ReadPromises.{off-by-at-most-twice-turned, off-by-at-most-turned-and-residual, read-promises}
 use Rattle.level_theory.specs.LevelPromises.{TellsWrongOfChunks, OffByAtMostTwiceWrongAndLost, LevelPromises}
-use Rattle.level_theory.proofs.LevelPromises.{position-answered, levels-show, off-by-at-most-twice-wrong-and-lost}
-use Rattle.level_theory.proofs.LevelContradictions.{level-promises}
+use Rattle.level_theory.proofs.LevelsAnswered.{position-answered, levels-show}
+use Rattle.level_theory.proofs.LevelPromises.{off-by-at-most-twice-wrong-and-lost, level-promises}
 use Rattle.dunnavish.specs.Decoding.{bitsLeft, readingLeft}
 use Rattle.dunnavish.proofs.Inherited.{Call}
 
