@@ -9,7 +9,7 @@ use native.Mathlib.Nat.{add-sub-of-le}
 use native.Mathlib.Omega.{arith}
 use Rattle.bits.specs.Sums.{distance, distanceHeard, lostBelow}
 use Rattle.bits.proofs.Numbers.{lt-or-le}
-use Rattle.bits.proofs.Distance.{distance-comm, distance-self}
+use Rattle.bits.proofs.Distance.{distance-comm}
 use Rattle.bits.proofs.Heard.{heard-triangle}
 use Rattle.bits.proofs.Searches.{leastAt-low, leastAt-high, leastAt-least, leastAt-first}
 use Rattle.model.specs.Reading.{Seen, Range, nearestIn, nearest}
@@ -21,16 +21,11 @@ unfoldable pub Isometric : (d : ℕ) (words : ℕ → ℕ → ℕ) (low high : �
 Isometric d words low high = (q q′ : ℕ) → low ≤ q → q ≤ q′ → q′ ≤ high → distance d (words q) (words q′) + q ≡ q′
 
 module _ (d : ℕ) (words : ℕ → ℕ → ℕ) where
-  -- a part of such a range is one, and so is a single position
+  -- a part of such a range is one
   pub isometric-part : (low high : ℕ) {low′ high′ : ℕ} → Isometric d words low high → low ≤ low′ → high′ ≤ high
       → Isometric d words low′ high′
   unfolding Isometric
   isometric-part low high far l h q q′ a b c = far q q′ (omega arith) b (omega arith)
-
-  pub isometric-point : (s : ℕ) → Isometric d words s s
-  unfolding Isometric
-  isometric-point s q q′ a b c =
-      let same : q′ ≡ q = omega arith in rw (same, distance-self d (words q)) (omega arith)
 
   -- two positions of a range, in either order, are as far apart as their words at most
   pub steps-apart : (low high q q′ : ℕ) → Isometric d words low high → low ≤ q → q ≤ high → low ≤ q′ → q′ ≤ high
