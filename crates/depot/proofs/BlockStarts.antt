@@ -41,7 +41,8 @@ module _ (card : List ℕ) (decoded : Decoded) (from : DecodedFrom card decoded)
       → StartMeets card block (Refused 7)
   unfolding startAnswer startRefusal firstRefusal unlessRefused
   start-above last block is h =
-      met (StartClauses card block) (start-told card block) (rw (eq-eqb (cardRefusal card) 0 is-sound, ← (from .code sound), ← is, lt-ltb last block h))
+      met (StartClauses card block) (start-told card block)
+      (rw (eq-eqb (cardRefusal card) 0 is-sound, ← (from .code sound), ← is, lt-ltb last block h))
 
   pub start-within : (last block answer : ℕ) → last ≡ lastCodeword (meaning (decoded .code)) → block ≤ last
       → answer ≡ start (meaning (decoded .code)) block → StartMeets card block (Number answer)

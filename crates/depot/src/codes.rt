@@ -1,4 +1,5 @@
-// The calls on a Reed-Muller code, which are given its order and variables and no card: its card is made, and a chunk of it is read by voting.
+// The calls on a Reed-Muller code, which are given its order and variables and no card: its card is made, and a chunk of it is read by
+// voting.
 ghost use mathlib.Core.Path.{_≡_};
 ghost use mathlib.Core.Bool.{true};
 ghost use Rattle.model.specs.Refusals.{ifServed};

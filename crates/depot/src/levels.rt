@@ -8,9 +8,9 @@ use card_reader::decode;
 use model::LevelsAnswer;
 
 // Reads a word from a receiver that gives levels, negative for 1: what a plain read answers, over the bits that aren't lost, and beside a
-// reading the receiver's strength, the sum of the magnitudes and the greatest. A level that is zero, of either sign, is a lost bit. Refused:
-// the card, 1 to 5 or 14; not exactly d levels, 15; any of them not a number, infinite, or above 1,000,000 in magnitude, 16; and then 9 to
-// 12 and 17 as a plain word.
+// reading the receiver's strength, the sum of the magnitudes and the greatest. A level that is zero, of either sign, is a lost bit.
+// Refused: the card, 1 to 5 or 14; not exactly d levels, 15; any of them not a number, infinite, or above 1,000,000 in magnitude, 16; and
+// then 9 to 12 and 17 as a plain word.
 // A code chunk reads as the codeword for which 2 × wrong + lost is below D, one at most (the theorem `chunks-read-below-D` of crate
 // level_theory). What follows is said of the position answer, the answer but for the strength. Of d levels of 1, -1 and 0 that have,
 // against the word of any position on the track, 2 × wrong + lost below D in every chunk, it is a position, and off by at most

@@ -61,10 +61,11 @@ pub fn write_word(card: &[u8], position: u32, word: &mut [u8]) -> WriteAnswer
 // last, 12; separator 1, by rule 2 separator 3, that differs from the parity of the codeword's number, 17.
 // Of the word of any position on the track, with at most t bits turned in each chunk, the answer is a position, and it is at most
 // twice as many steps off as bits are turned (`bounded`), and at most as many as bits are turned and the residual together (`sharper`).
-// The promises: both distances also where the divided chunk of that position's word is turned at will, and the bar about the answer that
-// then holds the position; of any word that is read, the nearest of the positions that the rule allows, and in how many bits each chunk
-// that is read differs from its codeword, as many as are turned in it; that separator 1, by rule 2 separator 3, agrees with the codeword's
-// number, so that a word pasted from two telegrams whose parities differ is never read; and that 17 changes no other answer.
+// The promises: a chunk that is read needed as many bits as are turned in it; both distances hold also where the divided chunk of that
+// position's word is turned at will, and then the bar about the answer holds the position. Of any word that is read, the answer is the
+// nearest of the positions that the rule allows, a chunk's count is that of the places in which it differs from its codeword, at most t,
+// and separator 1, by rule 2 separator 3, has the parity of the codeword's number: a word pasted from two telegrams whose parities differ
+// is never read. 17 changes no other answer.
 pub fn read_word(card: &[u8], word: &[u8]) -> ReadAnswer
     ensures answer { λ r. ⌜ r ≡ readAnswer (now (card .entry)) (now (word .entry)) ⌝ }
     ensures status { λ r. ⌜ readStatus r ≡ readRefusal (now (card .entry)) (now (word .entry)) ⌝ }

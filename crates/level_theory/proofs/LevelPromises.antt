@@ -33,7 +33,8 @@ use Rattle.position_theory.proofs.Contradictions.{parity-agrees, separator-from
 use Rattle.position_theory.proofs.SoundCards.{card-promise, read-sound}
 use Rattle.level_theory.specs.UnitLevels.{OneLevels, UnitLevels, one}
 use Rattle.level_theory.specs.LevelPromises.{OffByAtMostTwiceWrongAndLost, NearestOverHeard, TellsWrongOfChunks, AsPlainReading}
-use Rattle.level_theory.specs.LevelPromises.{LevelsReadOnlyIfParityAgrees, PastedLevelsNeverRead, LevelsAsBeforeUnlessContradicted, LevelPromises}
+use Rattle.level_theory.specs.LevelPromises.{LevelsReadOnlyIfParityAgrees, PastedLevelsNeverRead}
+use Rattle.level_theory.specs.LevelPromises.{LevelsAsBeforeUnlessContradicted, LevelPromises}
 use Rattle.level_theory.specs.LevelsSeen.{heardOf, bitsOf, wordOfBits, seenOf}
 use Rattle.level_theory.specs.LevelContradictions.{levelsAnswerBefore}
 use Rattle.level_theory.proofs.UnitsTold.{UnitOrLost, one-told, unit-told, one-heard, unit-inside}

@@ -14,12 +14,12 @@ use Rattle.model.specs.Card.{Code, cardRefusal, codeOf, SoundCard}
 use Rattle.model.specs.Words.{wordBits}
 use Rattle.model.specs.Reading.{twoEnds, rows9To12, rowsSeen}
 use Rattle.model.specs.Levels.{anyOutside, toldAt, seenTold, residualHeard}
-use Rattle.model.specs.ReadLevels.{rowsTold, rowsOfLevels, levelsAnswered, readLevels, readingTold, levelsRefusal, levelsAnswer, positionAnswer}
+use Rattle.model.specs.ReadLevels.{rowsTold, rowsOfLevels, levelsAnswered, readLevels, readingTold, levelsRefusal, levelsAnswer}
+use Rattle.model.specs.ReadLevels.{positionAnswer}
 use Rattle.model.specs.declared.Reading.{Reading}
 use Rattle.model.specs.declared.ReadAnswer.the-variants.{At, Refused}
 use Rattle.model.specs.declared.LevelsAnswer.the-variants.{Refused as LevelsRefused}
-use Rattle.code_theory.proofs.Refusals.{NoneHolds, numbered, none-refuses, none-holds, served-if-none, refused-if-some}
-use Rattle.code_theory.proofs.Refusals.{none-past-card}
+use Rattle.code_theory.proofs.Refusals.{NoneHolds, numbered, none-refuses, none-holds, served-if-none, refused-if-some, none-past-card}
 use Rattle.position_theory.specs.Nearest.{refusalOf}
 use Rattle.position_theory.proofs.WordBytes.{readingOfSeen}
 use Rattle.position_theory.proofs.ReadWords.{read-if-served}

@@ -16,8 +16,8 @@ use Rattle.code_theory.proofs.Refusals.{numbered}
 use Rattle.position_theory.specs.Damage.{turnedIn}
 use Rattle.position_theory.specs.Nearest.{IsReading}
 use Rattle.position_theory.specs.Contradictions.{contradicted, answerBefore}
-use Rattle.position_theory.specs.ReadPromises.{OffByAtMostTwiceTurned, OffByAtMostTurnedAndResidual}
-use Rattle.position_theory.specs.ReadPromises.{ReadWithDividedAtWill, BarHoldsPosition, NearestOfAllowed, TellsBitsOfChunks, NeededAsTurned}
+use Rattle.position_theory.specs.ReadPromises.{OffByAtMostTwiceTurned, OffByAtMostTurnedAndResidual, ReadWithDividedAtWill}
+use Rattle.position_theory.specs.ReadPromises.{BarHoldsPosition, NearestOfAllowed, TellsBitsOfChunks, NeededAsTurned}
 use Rattle.position_theory.specs.ReadPromises.{ReadOnlyIfParityAgrees, PastedNeverRead, AsBeforeUnlessContradicted, ReadPromises}
 use Rattle.position_theory.proofs.WordBytes.{place-of-word, residual-counts, readingOfSeen, reading, read-if-whole}
 use Rattle.position_theory.proofs.RuleReads.{reads-in-code}

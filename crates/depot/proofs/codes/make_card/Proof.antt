@@ -1,5 +1,5 @@
--- `depot::codes::make_card` meets its contract: outside the limits it is refused, and within them the card is the Reed-Muller code's. A track
--- number is one of 16 bits, so it stands whole in the card's two bytes. Assumes nothing.
+-- `depot::codes::make_card` meets its contract: outside the limits it is refused, and within them the card is the Reed-Muller code's.
+-- A track number is one of 16 bits, so it stands whole in the card's two bytes. Assumes nothing.
 use mathlib.Core.Path.{sym, _∙_}
 use borrow.Author.Needs.{needs}
 use borrow.Author.Tests.{not-true, not-false}

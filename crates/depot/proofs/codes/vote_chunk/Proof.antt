@@ -1,5 +1,5 @@
--- `depot::codes::vote_chunk` meets its contract: one law for each way out, outside the limits, a chunk that is too wide, and the two ends of the
--- vote. Assumes nothing.
+-- `depot::codes::vote_chunk` meets its contract: one law for each way out, outside the limits, a chunk that is too wide, and the two
+-- ends of the vote. Assumes nothing.
 use mathlib.Core.Path.{_≡_, sym, _∙_}
 use mathlib.Core.Bool.{true}
 use Prim.Native.Nat.{_^_, _<_}

@@ -1,5 +1,6 @@
--- `depot::levels::read_levels` meets its contract: a card that is refused is answered by its refusal, and past the card's test the code is sound, as
--- the reader asks; either answer is the one that the definition gives, of which the clauses of P5 and P6 are theorems. Assumes nothing.
+-- `depot::levels::read_levels` meets its contract: a card that is refused is answered by its refusal, and past the card's test the
+-- code is sound, as the reader asks; either answer is the one that the definition gives, of which the clauses are theorems. Assumes
+-- nothing.
 use borrow.Author.Needs.{needs}
 use Rattle.depot.proofs.LevelsReading.{levels-card-refused, levels-read}
 use Rattle.depot.proofs.levels.read_levels.Statement.{statement}

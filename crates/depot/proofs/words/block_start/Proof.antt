@@ -1,5 +1,5 @@
--- `depot::words::block_start` meets its contract: one law for each way out, of a card that is refused, a block above the last, and a block
--- of the code. What is asked of the code is asked past the card's test, where the code is sound. Assumes nothing.
+-- `depot::words::block_start` meets its contract: one law for each way out, of a card that is refused, a block above the last, and a
+-- block of the code. What is asked of the code is asked past the card's test, where the code is sound. Assumes nothing.
 use borrow.Author.Needs.{needs}
 use Rattle.model.specs.Decoded.{meaning}
 use Rattle.code_theory.specs.Promise.{Sound}

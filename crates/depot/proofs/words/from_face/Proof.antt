@@ -1,5 +1,5 @@
--- `depot::words::from_face` meets its contract: the offset's bits stand for the offset, and 50 times the position for itself, so the sum is that
--- of the two numbers, and it fits. Assumes nothing.
+-- `depot::words::from_face` meets its contract: the offset's bits stand for the offset, and 50 times the position for itself, so the
+-- sum is that of the two numbers, and it fits. Assumes nothing.
 use mathlib.Core.Path.{_≡_, _∙_}
 use Prim.Native.Nat.{_*_}
 use borrow.Author.Needs.{needs}

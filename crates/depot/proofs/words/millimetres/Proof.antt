@@ -1,5 +1,5 @@
--- `depot::words::millimetres` meets its contract: one law for each way out, of a card that is refused, a position above the last, and one on
--- the track. The last position of a sound code is at most 1,310,400, and its card's offset within the range, as the sum asks.
+-- `depot::words::millimetres` meets its contract: one law for each way out, of a card that is refused, a position above the last, and
+-- one on the track. The last position of a sound code is at most 1,310,400, and its card's offset within the range, as the sum asks.
 -- Assumes nothing.
 use mathlib.Core.Path.{_≡_, _∙_}
 use borrow.Author.Needs.{needs}

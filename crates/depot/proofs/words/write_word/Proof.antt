@@ -1,6 +1,6 @@
--- `depot::words::write_word` meets its contract: a card that is refused is one law. Of one that has passed, the length of its words and then its
--- last position refuse the write, which leaves the lent bytes; or the lent word has the right length and the position is on the track,
--- as the writer asks, and is written. Assumes nothing.
+-- `depot::words::write_word` meets its contract: a card that is refused is one law. Of one that has passed, the length of its words
+-- and then its last position refuse the write, which leaves the lent bytes; or the lent word has the right length and the position is
+-- on the track, as the writer asks, and is written. Assumes nothing.
 use mathlib.Core.Path.{_≡_, sym, _∙_}
 use Prim.Native.Nat.{_≤_}
 use borrow.Author.Needs.{needs}
