@@ -13,6 +13,7 @@ use Rattle.model.specs.MakeCard.{makeRefusal, makeAnswer}
 use Rattle.model.specs.declared.MadeCard.{MadeCard}
 use Rattle.reed_muller_theory.specs.MadeCards.{IsReedMullerCard}
 use Rattle.reed_muller_theory.proofs.MadeCards.{is-reed-muller-card}
+use Rattle.depot.proofs.Contracts.{Meets}
 
 -- ---- what a refusal says of the limits
 
@@ -43,9 +44,12 @@ module _ (track r m : ℕ) where
   abbrev pub MadeWithinLimits : MadeCard → Type 0
   MadeWithinLimits answer = orderWithinLimits r m ≡ true → (answer .refusal ≡ 0) × IsReedMullerCard track r m (answer .bytes)
 
-  -- what the contract says of the answer
+  -- the clauses of the contract beside the equation
+  abbrev MakeClauses : MadeCard → Type 0
+  MakeClauses answer = (answer .refusal ≡ makeRefusal r m) × MadeWithinLimits answer
+
   abbrev MakeMeets : MadeCard → Type 0
-  MakeMeets answer = (answer ≡ makeAnswer track r m) × ((answer .refusal ≡ makeRefusal r m) × MadeWithinLimits answer)
+  MakeMeets = Meets MakeClauses (makeAnswer track r m)
 
   pub make-refused : orderWithinLimits r m ≡ false → MakeMeets record { refusal = 13; bytes = replicate 512 0 }
   unfolding makeAnswer makeRefusal unlessRefused firstRefusal
