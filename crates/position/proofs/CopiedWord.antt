@@ -1,50 +1,17 @@
--- Bytes that are copied: a received word to zeros that are at least as many, where its places keep their bits; and from a word that
--- holds a position's bits, which gives that position's word as it travels. Assumes nothing.
-use mathlib.Core.Path.{_≡_, refl, sym, _∙_}
+-- Bytes that are copied from a word that holds a position's bits: they are that position's word as it travels. Assumes nothing.
+use mathlib.Core.Path.{_≡_, sym, _∙_}
 use mathlib.Core.List.{List}
 use mathlib.Core.Logic.{⊎-elim}
-use Prim.Native.Nat.{ℕ, _+_, _*_, _/_, _≤_, _<_}
-use borrow.Author.Count.{below-none}
+use Prim.Native.Nat.{ℕ, _*_, _/_, _≤_, _<_}
 use native.Mathlib.Omega.{arith}
-use lib.ListN.{length, getD, set, replicate, List·getD-eq-default}
-use lib.Seq.{getD-set-other}
+use lib.ListN.{length, getD, List·getD-eq-default}
 use Rattle.bits.specs.Places.{place}
-use Rattle.bits.proofs.ByteLists.{one-entry-more, zero-byte}
 use Rattle.bits.proofs.Numbers.{lt-or-le}
 use Rattle.bits.proofs.Places.{length-pack, place-pack, byte-of-places, same-places}
 use Rattle.model.specs.Card.{Code}
 use Rattle.model.specs.Words.{wordBits, wordAt, wordBytes, wordLength}
 use Rattle.position_theory.proofs.WordBytes.{word-at-bit}
 use Rattle.position.specs.HoldsWord.{HoldsWord}
-
--- ---- to zeros
-
--- the first j bytes are copied, and the others are 0
-pub record CopiedBelow (bytes held : List ℕ) (j : ℕ) : Type 0 where
-  pub copied : (i : ℕ) → i < j → getD held i 0 ≡ getD bytes i 0
-  pub zeros : (i : ℕ) → j ≤ i → getD held i 0 ≡ 0
-
-pub none-copied : (bytes : List ℕ) (n : ℕ) → CopiedBelow bytes (replicate n 0) 0
-none-copied bytes n = record { copied = below-none _; zeros = λ i _. zero-byte n i }
-
-pub one-copied : (bytes held : List ℕ) (j : ℕ) → j < length held → CopiedBelow bytes held j
-    → CopiedBelow bytes (set held j (getD bytes j 0)) (j + 1)
-one-copied bytes held j inside so-far =
-    record {
-      copied = one-entry-more (λ i. getD bytes i 0) held j (getD bytes j 0) inside (so-far .copied) refl;
-      zeros = λ i h. getD-set-other held j i (getD bytes j 0) 0 (λ e. omega arith) ∙ so-far .zeros i (omega arith);
-    }
-
--- past the bytes there are zeros in either list
-pub all-copied : (bytes held : List ℕ) (j : ℕ) → length bytes ≤ j → CopiedBelow bytes held j → (p : ℕ) → place held p ≡ place bytes p
-unfolding place
-all-copied bytes held j all so-far p =
-    rw
-    (⊎-elim (so-far .copied (p / 8))
-    (λ (h : j ≤ p / 8). so-far .zeros (p / 8) h ∙ sym (List·getD-eq-default bytes 0 (omega arith)))
-    (lt-or-le (p / 8) j))
-
--- ---- from a word
 
 -- a list of which each byte is one of another's
 module _ (lent word : List ℕ) (copied : (i : ℕ) → i < length lent → getD lent i 0 ≡ getD word i 0) where

@@ -1,8 +1,7 @@
-// The Hamming distance of two words, and the place up to which they differ in a given number of places. A word is held as [u8; 40]:
-// 320 places.
+// The place up to which two words differ in a given number of places. A word is held as [u8; 40]: 320 places.
 ghost use mathlib.Core.Path.{_≡_};
 ghost use Prim.Native.Nat.{_≤_};
-ghost use Rattle.bits.specs.Sums.{distance, distanceHeard, marked};
+ghost use Rattle.bits.specs.Sums.{distance};
 ghost use Rattle.bits.specs.Places.{bit, place};
 use super::places;
 
@@ -11,27 +10,6 @@ fn byte_unlike(x: u8, y: u8) -> u32
     ensures { λ r. ⌜ (r ≡ distance 8 (bit x) (bit y)) × (r ≤ 8) ⌝ }
 {
     u32::count_ones((x ^ y) as u32)
-}
-
-// In how many of the bits that are heard, those marked in `heard`, two bytes differ.
-fn heard_byte_unlike(x: u8, y: u8, heard: u8) -> u32
-    ensures { λ r. ⌜ (r ≡ distanceHeard (marked (bit heard)) 8 (bit x) (bit y)) × (r ≤ 8) ⌝ }
-{
-    u32::count_ones(((x ^ y) & heard) as u32)
-}
-
-// In how many of the bits that are heard two words differ: the distance count, to which both words are passed by value, and the places that
-// are heard besides.
-pub fn heard_bits_unlike(a: [u8; 40], b: [u8; 40], heard: [u8; 40]) -> u32
-    ensures { λ r. ⌜ r ≡ distanceHeard (marked (place heard)) 320 (place a) (place b) ⌝ }
-{
-    let mut unlike: u32 = 0;
-    let mut j: usize = 0;
-    while j < 40 {
-        unlike += heard_byte_unlike(a[j], b[j], heard[j]);
-        j += 1;
-    }
-    unlike
 }
 
 // A place before which u and v differ in exactly m places: found by bytes, and within the last one by bits.

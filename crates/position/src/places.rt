@@ -1,12 +1,10 @@
-// Places of a word that is held as [u8; 40], which has 320: one bit, a count of ones, the reading of a separator, a code chunk as a
-// number.
+// Places of a word that is held as [u8; 40], which has 320: one bit, a count of ones, a code chunk as a number.
 ghost use mathlib.Core.Path.{_≡_};
 ghost use mathlib.Core.List.{List};
 ghost use Prim.Native.Nat.{ℕ, _+_, _-_, _*_, _/_, _%_, _^_, _≤_, _<_};
 ghost use lib.ListN.{getD};
 ghost use Rattle.bits.specs.Sums.{sumBelow, fromPlace};
 ghost use Rattle.bits.specs.Places.{bit, place};
-ghost use Rattle.model.specs.Reading.{majority};
 use bit_arithmetic::powers;
 
 // The bit at place p of any word of which `byte` is byte p / 8. It takes the byte, since its callers go from place to place of
@@ -15,13 +13,6 @@ pub fn bit_of(byte: u8, p: u32) -> u32
     ensures { λ r. ⌜ ((w : List ℕ) → getD w (p / 8) 0 ≡ byte → r ≡ place w p) × (r < 2) ⌝ }
 {
     ((byte >> (p % 8)) % 2) as u32
-}
-
-// All places marked: those that are heard of a plain word.
-pub fn all_heard() -> [u8; 40]
-    ensures { λ r. ⌜ ((p : ℕ) → p < 320 → place r p ≡ 1) ⌝ }
-{
-    [255; 40]
 }
 
 // The bits of a byte from bit q on, moved up to bit `to` of a number. The contract also says of the byte what its type does, for a
@@ -58,16 +49,4 @@ pub fn ones_from(w: [u8; 40], at: u32, len: u32) -> u32
     ensures { λ r. ⌜ (r ≡ sumBelow (fromPlace at (place w)) len) × (r ≤ len) ⌝ }
 {
     u64::count_ones(bits_at(w, at, len))
-}
-
-// What the separator of `distance` bits from place `at` on reads: 1 if more than half its bits are 1, else 0.
-pub fn separator_at(w: [u8; 40], at: u32, distance: u32) -> u32
-    requires { ⌜ (at + distance ≤ 320) × (distance ≤ 64) ⌝ }
-    ensures { λ r. ⌜ r ≡ majority distance (fromPlace at (place w)) ⌝ }
-{
-    if distance < 2 * ones_from(w, at, distance) {
-        1
-    } else {
-        0
-    }
 }

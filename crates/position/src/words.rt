@@ -1,4 +1,4 @@
-// Words: w(i), the word of a position, and a received word.
+// Words: w(i) and the word of a position.
 // Inside the library a word is an array of the widest word's forty bytes, built chunk by chunk, passed and returned by value:
 // document 01 names this form. Place p is bit p mod 8, lowest first, of byte p / 8, and the places past the word's bits are 0.
 ghost use mathlib.Core.Path.{_≡_};
@@ -70,20 +70,6 @@ pub fn word_of(code: DecodedCode, i: u32) -> [u8; 40]
     let separator2 = put_chunk(chunk1, at.separator2, d, parity);
     let chunk2 = put_chunk(separator2, at.chunk2, n, c);
     put_chunk(chunk2, at.separator3, d, parity)
-}
-
-// The bytes of a received word, and zeros after them.
-pub fn received(word: &[u8]) -> [u8; 40]
-    requires { ⌜ length (now word) ≤ 40 ⌝ }
-    ensures { λ r. ⌜ ((p : ℕ) → place r p ≡ place (now (word .entry)) p) ⌝ }
-{
-    let mut held = [0u8; 40];
-    let mut j: usize = 0;
-    while j < word.len() {
-        held[j] = word[j];
-        j += 1;
-    }
-    held
 }
 
 // w(i) with the first m places in which w(i) and w(i + 1) differ taken from w(i + 1).

@@ -1,3 +1,4 @@
+pub mod CopiedBytes
 pub mod Scanning
 pub mod Passing
 pub mod BlockResiduals

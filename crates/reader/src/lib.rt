@@ -3,4 +3,6 @@
 pub mod naming;
 pub mod nearest;
 pub mod reading;
+pub mod received;
+pub mod residual;
 pub mod scan;

@@ -1,10 +1,11 @@
 // What the three separators of a word name: a rule, and with it the rule's separator, the one that must be equal to the parity of the
 // codeword's number p. What they read comes from bits or from levels.
 ghost use mathlib.Core.Path.{_≡_};
-ghost use Prim.Native.Nat.{_≤_};
+ghost use Prim.Native.Nat.{_+_, _≤_};
+ghost use Rattle.bits.specs.Sums.{fromPlace};
 ghost use Rattle.bits.specs.Places.{place};
 ghost use Rattle.model.specs.Decoded.{meaning};
-ghost use Rattle.model.specs.Reading.{seen, ruleOf, separatorOf, parityDiffers};
+ghost use Rattle.model.specs.Reading.{majority, seen, ruleOf, separatorOf, parityDiffers};
 ghost use Rattle.code_theory.specs.Promise.{Sound};
 ghost use Rattle.reader.specs.Naming.{Names, NamesOf};
 use model::DecodedCode;
@@ -52,15 +53,27 @@ pub fn named_by(s1: u32, s2: u32, s3: u32) -> NamedRule
     NamedRule { rule, separator }
 }
 
+// What the separator of `distance` bits from place `at` on reads: 1 if more than half its bits are 1, else 0.
+fn separator_at(w: [u8; 40], at: u32, distance: u32) -> u32
+    requires { ⌜ (at + distance ≤ 320) × (distance ≤ 64) ⌝ }
+    ensures { λ r. ⌜ r ≡ majority distance (fromPlace at (place w)) ⌝ }
+{
+    if distance < 2 * places::ones_from(w, at, distance) {
+        1
+    } else {
+        0
+    }
+}
+
 // What the separators of a plain word name.
 pub fn named_rule(code: DecodedCode, x: [u8; 40]) -> NamedRule
     requires { ⌜ Sound (meaning code) ⌝ }
     ensures { λ r. ⌜ NamesOf (seen (meaning code) (place x)) r ⌝ }
 {
     let at = layout::layout_of(code);
-    let s1 = places::separator_at(x, 0, code.distance);
-    let s2 = places::separator_at(x, at.separator2, code.distance);
-    let s3 = places::separator_at(x, at.separator3, code.distance);
+    let s1 = separator_at(x, 0, code.distance);
+    let s2 = separator_at(x, at.separator2, code.distance);
+    let s3 = separator_at(x, at.separator3, code.distance);
     named_by(s1, s2, s3)
 }
 

@@ -14,6 +14,7 @@ ghost use Rattle.reader.specs.Received.{NothingSpare, foundAt, AnswersRu
 use super::naming;
 use super::naming::NamedRule;
 use super::nearest;
+use super::received;
 use super::scan::Scan;
 use linear_code::search;
 use model::Chunk;
@@ -24,7 +25,6 @@ use model::Reading;
 use position::blocks;
 use position::layout;
 use position::places;
-use position::words;
 
 // Code chunk 1, or 2, which starts at place `at`, over the places of it that are heard.
 fn chunk_reading(code: DecodedCode, x: [u8; 40], heard: [u8; 40], at: u32) -> Chunk
@@ -146,7 +146,7 @@ pub fn read(code: DecodedCode, word: &[u8]) -> ReadAnswer
     if word.len() != len {
         return ReadAnswer::Refused(6);
     }
-    let x = words::received(word);
+    let x = received::bytes_of(word);
     let bits = layout::layout_of(code).bits;
     if places::ones_from(x, bits, 8 * len as u32 - bits) != 0 {
         return ReadAnswer::Refused(8);
@@ -156,5 +156,5 @@ pub fn read(code: DecodedCode, word: &[u8]) -> ReadAnswer
     if rule == 0 {
         return ReadAnswer::Refused(9);
     }
-    by_rule(code, x, places::all_heard(), named)
+    by_rule(code, x, received::all_heard(), named)
 }

@@ -6,7 +6,7 @@ ghost use Rattle.bits.specs.Sums.{unlike, distanceHeard, marked};
 ghost use Rattle.bits.specs.Places.{place};
 ghost use Rattle.reader.specs.Scanned.{Scanned, beginsAt};
 ghost use Rattle.reader.specs.Passing.{unlikeHeard, residualTo, Passes, Searched};
-use position::hamming;
+use super::residual;
 use position::places;
 use position::splice;
 
@@ -24,7 +24,7 @@ pub struct Scan {
 pub fn begin(w: [u8; 40], x: [u8; 40], heard: [u8; 40], low: u32) -> Scan
     ensures { λ r. ⌜ r ≡ beginsAt low (distanceHeard (marked (place heard)) 320 (place w) (place x)) ⌝ }
 {
-    let unlike = hamming::heard_bits_unlike(w, x, heard);
+    let unlike = residual::heard_bits_unlike(w, x, heard);
     Scan {
         low,
         position: low,

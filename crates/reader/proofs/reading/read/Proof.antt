@@ -22,14 +22,14 @@ use Rattle.reader.proofs.reading.read.Statement.{statement}
 use Rattle.reader.proofs.reading.read.Tie as tie
 
 -- the array holds the received word
-held : (c : tie.After-received) → place (c .received .result) ≡ place (c .before .before .before .before .args .word .now)
-held c = fun-ext (c .received .ensures)
+held : (c : tie.After-bytes-of) → place (c .bytes-of .result) ≡ place (c .before .before .before .before .args .word .now)
+held c = fun-ext (c .bytes-of .ensures)
 
 -- the count of ones is that of the spare bits
 spare-ones : (c : tie.After-ones-from)
     → let got = c .before .before in
     let C = meaning (got .before .before .before .before .args .code) in
-    c .ones-from .result ≡ sumBelow (fromPlace (wordBits C) (place (got .received .result))) (8 * wordLength C - wordBits C)
+    c .ones-from .result ≡ sumBelow (fromPlace (wordBits C) (place (got .bytes-of .result))) (8 * wordLength C - wordBits C)
 spare-ones c =
     let laid = c .before in
     let sized = laid .before .before .before in
@@ -37,7 +37,7 @@ spare-ones c =
 
 -- the way back: from the count of ones to the array, and to the call
 module _ (c : tie.After-ones-from) where
-  abbrev got : tie.After-received
+  abbrev got : tie.After-bytes-of
   got = c .before .before
 
   abbrev first : tie.Start
@@ -54,7 +54,7 @@ module _ (c : tie.After-ones-from) where
 
   -- the count of ones tells of the spare bits
   spare : not (eqb (c .ones-from .result) 0) ≡ spareSet C received
-  spare = spare-test C received (got .received .result) (got .received .ensures) _ (spare-ones c)
+  spare = spare-test C received (got .bytes-of .result) (got .bytes-of .ensures) _ (spare-ones c)
 
 -- the rule that is named, and its separator, are those of the received word
 named : (c : tie.After-named-rule)
@@ -85,7 +85,7 @@ by-rule-requires c κs =
     let at-named = c .before .before in
     let none = at-named .before in
     let counted = none .before in
-    let array = got counted .received in
+    let array = got counted .bytes-of in
     let unset = none-spare _ _ (whole counted) _ (spare counted) (none .if2 .left) in (
       first counted .pre,
       nothing-spare (C counted) (received counted) (array .result) (array .ensures) _ (whole counted) unset,

@@ -1,4 +1,4 @@
--- `position::hamming::heard_byte_unlike` meets its contract: two bytes differ in a bit that is heard where their exclusive-or, cut to the
+-- `reader::residual::heard_byte_unlike` meets its contract: two bytes differ in a bit that is heard where their exclusive-or, cut to the
 -- bits heard, has a 1, and it has eight bits. Assumes nothing.
 use mathlib.Core.Path.{ap, _∙_}
 use native.Mathlib.Omega.{arith}
@@ -6,8 +6,8 @@ use lib.Bits.{bitXor, and-le-r}
 use lib.Count.{ones}
 use Rattle.bits.proofs.Heard.{heard-le}
 use Rattle.bits.proofs.Masks.{and-xor, cut-distance}
-use Rattle.position.proofs.hamming.heard_byte_unlike.Statement.{statement}
-use Rattle.position.proofs.hamming.heard_byte_unlike.Tie as tie
+use Rattle.reader.proofs.residual.heard_byte_unlike.Statement.{statement}
+use Rattle.reader.proofs.residual.heard_byte_unlike.Tie as tie
 
 cast-result : tie.Need-cast-result
 cast-result c = omega (arith, and-le-r (bitXor (c .args .x) (c .args .y)) (c .args .heard), c .fits .heard .fits)

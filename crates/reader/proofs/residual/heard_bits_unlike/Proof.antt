@@ -1,4 +1,4 @@
--- `position::hamming::heard_bits_unlike` meets its contract. The loop keeps that `unlike` is the distance of the first `j` bytes over the
+-- `reader::residual::heard_bits_unlike` meets its contract. The loop keeps that `unlike` is the distance of the first `j` bytes over the
 -- places heard, which is at most their 8j bits, so the sum fits; a byte more adds the distance of the two bytes. The measure is the bytes
 -- that are left. Assumes nothing.
 use mathlib.Core.Path.{_≡_, refl}
@@ -9,8 +9,8 @@ use Rattle.bits.specs.Sums.{sumBelow, distanceHeard, marked}
 use Rattle.bits.specs.Places.{place}
 use Rattle.bits.proofs.Heard.{heard-le}
 use Rattle.bits.proofs.ByteLists.{heard-byte}
-use Rattle.position.proofs.hamming.heard_bits_unlike.Statement.{statement}
-use Rattle.position.proofs.hamming.heard_bits_unlike.Tie as tie
+use Rattle.reader.proofs.residual.heard_bits_unlike.Statement.{statement}
+use Rattle.reader.proofs.residual.heard_bits_unlike.Tie as tie
 
 abbrev Inv-loop : tie.InvT-loop
 Inv-loop a b heard unlike₀ j₀ unlike j = (j ≤ 40) × (unlike ≡ distanceHeard (marked (place heard)) (8 * j) (place a) (place b))

@@ -1,13 +1,13 @@
--- `position::words::received` meets its contract. The loop keeps that the first `j` bytes are copied and the others are 0; past its
+-- `reader::received::bytes_of` meets its contract. The loop keeps that the first `j` bytes are copied and the others are 0; past its
 -- end the received word has zeros too. The measure is the bytes that are left. Assumes nothing.
 use Prim.Native.Nat.{_-_, _≤_}
 use mathlib.Core.Path.{_≡_, refl}
 use borrow.Author.Needs.{needs}
 use native.Mathlib.Omega.{arith}
 use lib.ListN.{length, length-set}
-use Rattle.position.proofs.CopiedWord.{CopiedBelow, none-copied, one-copied, all-copied}
-use Rattle.position.proofs.words.received.Statement.{statement}
-use Rattle.position.proofs.words.received.Tie as tie
+use Rattle.reader.proofs.CopiedBytes.{CopiedBelow, none-copied, one-copied, all-copied}
+use Rattle.reader.proofs.received.bytes_of.Statement.{statement}
+use Rattle.reader.proofs.received.bytes_of.Tie as tie
 
 abbrev Inv-loop : tie.InvT-loop
 Inv-loop word held₀ j₀ held j = (j ≤ length word) × (length held ≡ 40) × CopiedBelow word held j
@@ -30,8 +30,8 @@ returns c =
     let word = c .before .before .args .word .now in
     all-copied word (loop .held) (loop .j) (omega arith) (loop .inv .2)
 
-pub received-spec : {M : Type 1} → statement M
-received-spec =
+pub bytes-of-spec : {M : Type 1} → statement M
+bytes-of-spec =
     tie.close
     (tie.spec
     Inv-loop

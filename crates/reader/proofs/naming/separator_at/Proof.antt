@@ -1,11 +1,11 @@
--- `position::places::separator_at` meets its contract: the test of the count of ones is the definition of the majority. Assumes nothing.
+-- `reader::naming::separator_at` meets its contract: the test of the count of ones is the definition of the majority. Assumes nothing.
 use Prim.Native.Nat.{_*_, _<_}
 use native.Mathlib.Omega.{arith}
 use borrow.Author.Tests.{lt-ltb, le-ltb}
 use Rattle.model.specs.Reading.{majority}
 use borrow.Author.Needs.{needs}
-use Rattle.position.proofs.places.separator_at.Statement.{statement}
-use Rattle.position.proofs.places.separator_at.Tie as tie
+use Rattle.reader.proofs.naming.separator_at.Statement.{statement}
+use Rattle.reader.proofs.naming.separator_at.Tie as tie
 
 returns : tie.Need-returns
 unfolding majority
