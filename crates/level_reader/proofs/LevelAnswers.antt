@@ -33,13 +33,15 @@ use Rattle.position_theory.proofs.ReadWords.{read-if-served}
 use Rattle.levels.specs.ToldChunks.{heardBits, readBySum}
 use Rattle.reader.specs.Naming.{Names, NamesOf}
 use Rattle.reader.specs.declared.naming.NamedRule.{NamedRule}
-use Rattle.reader.specs.Received.{residualIn, SeesIn, AnswersRule, answerBy, NothingSpare}
+use Rattle.reader.specs.Received.{SeesIn, NothingSpare}
+use Rattle.reader.specs.RuleAnswers.{AnswersRule, answerBy}
+use Rattle.reader.specs.Way.{residualIn}
 use Rattle.level_reader.specs.ToldWords.{ToldWordOf}
 use Rattle.level_reader.specs.declared.telling.ToldWord.{ToldWord}
 
 -- what the rule with this number answers of a word of told bits
 abbrev pub answerTold : Code → (word : ℕ → Told) (rule : ℕ) → ReadAnswer
-answerTold C word rule = answerBy C (seenTold C word) (residualHeard C (heardIn word) (bitsIn word)) rule
+answerTold C word rule = answerBy (twoEnds C) (seenTold C word) (residualHeard C (heardIn word) (bitsIn word)) rule
 
 -- ---- the struct that holds the word of told bits
 
@@ -48,13 +50,13 @@ module _ (C : Code) (word : ℕ → Told) (w : ToldWord) (holds : ToldWordOf C w
   mark true m e = rw e
   mark false m e = rw e
 
-  heard-marked : (p : ℕ) → p < wordBits C → heardIn word p ≡ marked (place (w .heard)) p
-  heard-marked p b = sym (mark (heardIn word p) (place (w .heard) p) (holds .heard-told p ∙ cut-below (wordBits C) (heardBits word) p b))
+  heard-marked : (p : ℕ) → p < wordBits C → heardIn word p ≡ marked (place (w .word .heard)) p
+  heard-marked p b = sym (mark (heardIn word p) (place (w .word .heard) p) (holds .heard-told p ∙ cut-below (wordBits C) (heardBits word) p b))
 
-  bits-placed : (p : ℕ) → p < wordBits C → bitsIn word p ≡ place (w .bits) p
+  bits-placed : (p : ℕ) → p < wordBits C → bitsIn word p ≡ place (w .word .bits) p
   bits-placed p b = sym (holds .bits-told p ∙ cut-below (wordBits C) (bitsIn word) p b)
 
-  pub nothing-past : NothingSpare C (w .bits) (w .heard)
+  pub nothing-past : NothingSpare C (w .word)
   unfolding NothingSpare
   nothing-past p l heard = holds .bits-told p ∙ cut-above (wordBits C) (bitsIn word) p l
 
@@ -65,7 +67,7 @@ module _ (C : Code) (word : ℕ → Told) (w : ToldWord) (holds : ToldWordOf C w
   named-by-levels named names = rw (holds .sum₁, holds .sum₂, holds .sum₃) at names
 
   -- what is seen of its arrays is what is seen of the levels, and so is the residual
-  told-in-arrays : SeesIn C (w .bits) (w .heard) (seenTold C word)
+  told-in-arrays : SeesIn C (w .word) (seenTold C word)
   unfolding seenTold
   told-in-arrays =
       record {
@@ -73,16 +75,16 @@ module _ (C : Code) (word : ℕ → Told) (w : ToldWord) (holds : ToldWordOf C w
         second = heard-reading-ext C (λ p b. heard-marked _ (omega arith)) (λ p b. bits-placed _ (omega arith));
       }
 
-  residual-in-arrays : residualIn C (w .bits) (w .heard) ≡ residualHeard C (heardIn word) (bitsIn word)
+  residual-in-arrays : residualIn C (w .word) ≡ residualHeard C (heardIn word) (bitsIn word)
   unfolding residualHeard
   residual-in-arrays =
       fun-ext (λ q. heard-ext (wordBits C) (λ p b. sym (heard-marked p b)) (λ p b. refl) (λ p b. sym (bits-placed p b)))
 
-  pub rule-of-told : (rule : ℕ) (answer : ReadAnswer) → AnswersRule C (w .bits) (w .heard) rule (separatorBy (seenTold C word) rule) answer
+  pub rule-of-told : (rule : ℕ) (answer : ReadAnswer) → AnswersRule (twoEnds C) C (residualIn C (w .word)) (w .word) rule (separatorBy (seenTold C word) rule) answer
       → answer ≡ answerTold C word rule
   rule-of-told rule answer by-rule =
       by-rule (seenTold C word) told-in-arrays refl
-      ∙ ap (λ (residual : ℕ → ℕ). answerBy C (seenTold C word) residual rule) residual-in-arrays
+      ∙ ap (λ (residual : ℕ → ℕ). answerBy (twoEnds C) (seenTold C word) residual rule) residual-in-arrays
 
 -- ---- the ways out
 

@@ -1,27 +1,18 @@
 -- A word of levels that is told, in the struct that the code folds it into. Assumes nothing.
 use mathlib.Core.Path.{_≡_}
-use Prim.Native.Nat.{ℕ, _+_, _<_}
+use Prim.Native.Nat.{ℕ}
 use Rattle.model.specs.Card.{Code}
 use Rattle.model.specs.Words.{separator₁, separator₂, separator₃, wordBits}
 use Rattle.model.specs.Levels.{bitsIn, sumOfLevels, strengthOf}
 use Rattle.model.specs.declared.Told.{Told}
 use Rattle.position.specs.HoldsWord.{HoldsWord}
-use Rattle.levels.specs.ToldChunks.{heardBits, numberFrom}
+use Rattle.levels.specs.ToldChunks.{heardBits}
 use Rattle.level_reader.specs.declared.telling.ToldWord.{ToldWord}
-
--- the bits of u in the five chunks of a word, as numbers
-pub record FiveNumbers (C : Code) (u : ℕ → ℕ) (s₁ c₁ s₂ c₂ s₃ : ℕ) : Type 0 where
-  pub bits : (p : ℕ) → u p < 2
-  pub separator₁-is : s₁ ≡ numberFrom u 0 (C .D)
-  pub chunk₁-is : c₁ ≡ numberFrom u (C .D) (C .n)
-  pub separator₂-is : s₂ ≡ numberFrom u (C .D + C .n) (C .D)
-  pub chunk₂-is : c₂ ≡ numberFrom u (C .D + C .n + C .D) (C .n)
-  pub separator₃-is : s₃ ≡ numberFrom u (C .D + C .n + C .D + C .n) (C .D)
 
 -- the bits of a word's d levels and the places that are heard, with zeros behind; the sums of its separators; and the strength
 pub record ToldWordOf (C : Code) (word : ℕ → Told) (w : ToldWord) : Type 0 where
-  pub bits-told : HoldsWord C (bitsIn word) (w .bits)
-  pub heard-told : HoldsWord C (heardBits word) (w .heard)
+  pub bits-told : HoldsWord C (bitsIn word) (w .word .bits)
+  pub heard-told : HoldsWord C (heardBits word) (w .word .heard)
   pub sum₁ : w .sum1 ≡ sumOfLevels (separator₁ C word) (C .D)
   pub sum₂ : w .sum2 ≡ sumOfLevels (separator₂ C word) (C .D)
   pub sum₃ : w .sum3 ≡ sumOfLevels (separator₃ C word) (C .D)

@@ -40,16 +40,15 @@ pub fn read(code: DecodedCode, levels: &[f32]) -> LevelsAnswer
     if limits::any_outside(levels, at.bits as usize) {
         return LevelsAnswer::Refused(16);
     }
-    let told = telling::tell_word(code, levels);
+    let told = telling::tell_word(code, at, levels);
     let named = named_rule(told.sum1, told.sum2, told.sum3);
     let rule = named.rule;
     if rule == 0 {
         return LevelsAnswer::Refused(9);
     }
-    let bits = told.bits;
-    let heard = told.heard;
+    let word = told.word;
     let strength = told.strength;
-    match reading::by_rule(code, bits, heard, named) {
+    match reading::by_rule(code, at, word, named) {
         ReadAnswer::At(reading) => LevelsAnswer::At { reading, strength },
         ReadAnswer::Refused(refusal) => LevelsAnswer::Refused(refusal),
     }

@@ -1,7 +1,7 @@
--- The five chunks of w(i), put down one after the other: after each of them the word is w(i) as far as it goes.
--- Assumes nothing.
+-- The five chunks of a word, put down one after the other: after each of them the array has the word's bits as far as it goes. And the
+-- five chunks of w(i). Assumes nothing.
 use mathlib.Core.Path.{_≡_, sym, ap, _∙_}
-use Prim.Native.Nat.{ℕ, _+_, _%_, _≤_, _<_}
+use Prim.Native.Nat.{ℕ, _+_, _%_, _^_, _≤_, _<_}
 use native.Mathlib.Nat.{zero-add}
 use native.Mathlib.Omega.{arith}
 use Rattle.bits.specs.Sums.{joinAt}
@@ -9,58 +9,43 @@ use Rattle.bits.specs.Places.{bit, cut}
 use Rattle.bits.proofs.Places.{cut-above}
 use Rattle.model.specs.Card.{Code}
 use Rattle.model.specs.Order.{codeword}
-use Rattle.model.specs.Words.{wordBits, word}
+use Rattle.model.specs.Words.{word}
 use Rattle.position_theory.proofs.Words.{word-separator₁, word-chunk₁, word-separator₂, word-chunk₂, word-separator₃}
 use Rattle.position.specs.declared.layout.Layout.{Layout}
 use Rattle.position.specs.LayoutOf.{LayoutOf}
+use Rattle.position.specs.FiveChunks.{BitsFrom, FiveChunks}
 use Rattle.position.proofs.ChunkByChunk.{chunk-appended}
 
--- `len` bits of a value put down behind the first `at` places of w
-abbrev pub Put : (at len value : ℕ) (w r : ℕ → ℕ) → Type 0
-Put at len value w r = (p : ℕ) → r p ≡ joinAt at w (cut len (bit value)) p
-
--- the first `at` bits of w(i), and zeros
-abbrev pub UpTo : Code → (i at : ℕ) → (ℕ → ℕ) → Type 0
-UpTo C i at w = (p : ℕ) → w p ≡ cut at (word C i) p
-
--- a chunk whose bits are those of w(i) from place `at` on, as far as place `next`
-put-next : (C : Code) (i at len next value : ℕ) → at + len ≡ next → ((p : ℕ) → p < len → bit value p ≡ word C i (at + p))
-    → {w r : ℕ → ℕ} → UpTo C i at w → Put at len value w r → UpTo C i next r
-put-next C i at len next value behind bits before put = rw behind at (chunk-appended at len (word C i) before bits put)
-
--- the separators
-module _ (C : Code) (l : Layout) (laid : LayoutOf C l) (i parity : ℕ) (bits : (p : ℕ) → p < C .D → bit parity p ≡ i % 2) where
-  pub put-separator₁ : {w r : ℕ → ℕ} → ((p : ℕ) → w p ≡ 0) → Put 0 (C .D) parity w r → UpTo C i (l .chunk1) r
-  put-separator₁ zeros put =
-      put-next C i 0 (C .D) (l .chunk1) parity (omega arith)
-      (λ p b. rw zero-add (bits p b ∙ sym (word-separator₁ C i p b)))
-      (λ p. zeros p ∙ sym (cut-above 0 (word C i) p (omega arith))) put
-
-  pub put-separator₂ : {w r : ℕ → ℕ} → UpTo C i (l .separator2) w → Put (l .separator2) (C .D) parity w r → UpTo C i (l .chunk2) r
-  put-separator₂ =
-      put-next C i (l .separator2) (C .D) (l .chunk2) parity (omega arith)
-      (λ p b. rw (laid .separator₂-at) (bits p b ∙ sym (word-separator₂ C i p b)))
-
-  pub put-separator₃ : {w r : ℕ → ℕ} → UpTo C i (l .separator3) w → Put (l .separator3) (C .D) parity w r → UpTo C i (wordBits C) r
-  put-separator₃ =
-      put-next C i (l .separator3) (C .D) (wordBits C) parity (omega arith)
-      (λ p b. rw (laid .separator₃-at) (bits p b ∙ sym (word-separator₃ C i p)))
-
--- the code chunks
-module _ (C : Code) (l : Layout) (laid : LayoutOf C l) (i c : ℕ) (is : c ≡ codeword C i) where
-  code-bit : (p : ℕ) → bit c p ≡ bit (codeword C i) p
-  code-bit p = ap (λ (x : ℕ). bit x p) is
-
-  pub put-chunk₁ : {w r : ℕ → ℕ} → UpTo C i (l .chunk1) w → Put (l .chunk1) (C .n) c w r → UpTo C i (l .separator2) r
-  put-chunk₁ =
-      put-next C i (l .chunk1) (C .n) (l .separator2) c (omega arith)
-      (λ p b. rw (laid .chunk₁-at) (code-bit p ∙ sym (word-chunk₁ C i p b)))
-
-  pub put-chunk₂ : {w r : ℕ → ℕ} → UpTo C i (l .chunk2) w → Put (l .chunk2) (C .n) c w r → UpTo C i (l .separator3) r
-  put-chunk₂ =
-      put-next C i (l .chunk2) (C .n) (l .separator3) c (omega arith)
-      (λ p b. rw (laid .chunk₂-at) (code-bit p ∙ sym (word-chunk₂ C i p b)))
+-- the first `at` bits of u, and zeros
+abbrev pub UpTo : (u : ℕ → ℕ) (at : ℕ) → (ℕ → ℕ) → Type 0
+UpTo u at w = (p : ℕ) → w p ≡ cut at u p
 
 -- past the chunks so far there are zeros
-pub zeros-behind : (C : Code) (i at : ℕ) {w : ℕ → ℕ} → UpTo C i at w → (p : ℕ) → at ≤ p → w p ≡ 0
-zeros-behind C i at before p h = before p ∙ cut-above at (word C i) p h
+pub zeros-behind : (u : ℕ → ℕ) (at : ℕ) {w : ℕ → ℕ} → UpTo u at w → (p : ℕ) → at ≤ p → w p ≡ 0
+zeros-behind u at before p h = before p ∙ cut-above at u p h
+
+-- before the first chunk there are zeros alone
+pub nothing-yet : (u : ℕ → ℕ) {w : ℕ → ℕ} → ((p : ℕ) → w p ≡ 0) → UpTo u 0 w
+nothing-yet u zeros p = zeros p ∙ sym (cut-above 0 u p (omega arith))
+
+-- a chunk with the bits of u from place `at` on, as far as place `next`
+pub put-next : (u : ℕ → ℕ) (at len next value : ℕ) → at + len ≡ next → BitsFrom u at len value
+    → {w r : ℕ → ℕ} → UpTo u at w → ((p : ℕ) → r p ≡ joinAt at w (cut len (bit value)) p) → UpTo u next r
+put-next u at len next value behind bits before put = rw behind at (chunk-appended at len u before (bits .1) put)
+
+-- the chunks of w(i): the parity of i in each separator, and c(i) in either code chunk
+pub chunks-of-word : (C : Code) (l : Layout) → LayoutOf C l → (i parity c : ℕ)
+    → (parity < 2 ^ C .D) × ((p : ℕ) → p < C .D → bit parity p ≡ i % 2) → (c ≡ codeword C i) × (c < 2 ^ C .n)
+    → FiveChunks l (C .n) (word C i) parity c parity c parity
+chunks-of-word C l laid i parity c (narrow, bits) (is, short) =
+    rw (laid .chunk₁-at, laid .separator₂-at, laid .chunk₂-at, laid .separator₃-at)
+    (record {
+      separator₁-bits = (narrow, λ p b. rw zero-add (bits p b ∙ sym (word-separator₁ C i p b)));
+      chunk₁-bits = (short, λ p b. code-bit p ∙ sym (word-chunk₁ C i p b));
+      separator₂-bits = (narrow, λ p b. bits p b ∙ sym (word-separator₂ C i p b));
+      chunk₂-bits = (short, λ p b. code-bit p ∙ sym (word-chunk₂ C i p b));
+      separator₃-bits = (narrow, λ p b. bits p b ∙ sym (word-separator₃ C i p));
+    })
+  where
+    code-bit : (p : ℕ) → bit c p ≡ bit (codeword C i) p
+    code-bit p = ap (λ (x : ℕ). bit x p) is

@@ -14,3 +14,4 @@ pub record LayoutOf (C : Code) (l : Layout) : Type 0 where
   -- bounds of the code, for sums that must fit
   pub fits : wordBits C ≤ 320
   pub separator-fits : C .D ≤ 64
+  pub chunk-fits : C .n ≤ 64

@@ -2,6 +2,7 @@
 ghost use mathlib.Core.Path.{_≡_};
 ghost use Prim.Native.Nat.{_≤_};
 ghost use Rattle.model.specs.Words.{wordLength};
+ghost use Rattle.model.specs.Card.{Code};
 ghost use Rattle.model.specs.Decoded.{meaning};
 ghost use Rattle.code_theory.specs.Promise.{Sound};
 ghost use Rattle.position.specs.LayoutOf.{LayoutOf};
@@ -35,10 +36,18 @@ pub fn layout_of(code: DecodedCode) -> Layout
     }
 }
 
-// The bytes of a word: 1 to 40.
+// The bytes of a word with this layout: 1 to 40.
+pub fn bytes_in(at: Layout) -> usize
+    requires { ⌜ ((C : Code) × Sound C × LayoutOf C at) ⌝ }
+    ensures { λ r. ⌜ ((C : Code) → LayoutOf C at → r ≡ wordLength C) × (1 ≤ r) × (r ≤ 40) ⌝ }
+{
+    ((at.bits + 7) / 8) as usize
+}
+
+// The bytes of a code's words.
 pub fn word_length(code: DecodedCode) -> usize
     requires { ⌜ Sound (meaning code) ⌝ }
     ensures { λ r. ⌜ (r ≡ wordLength (meaning code)) × (1 ≤ r) × (r ≤ 40) ⌝ }
 {
-    ((layout_of(code).bits + 7) / 8) as usize
+    bytes_in(layout_of(code))
 }

@@ -7,14 +7,18 @@ ghost use lib.ListN.{length};
 ghost use Rattle.bits.specs.Sums.{distance, joinAt};
 ghost use Rattle.bits.specs.Walk.{walk};
 ghost use Rattle.bits.specs.Places.{bit, place, cut};
+ghost use Rattle.model.specs.Card.{Code};
 ghost use Rattle.model.specs.Decoded.{meaning};
-ghost use Rattle.model.specs.Order.{lastCodeword, lastPosition};
+ghost use Rattle.model.specs.Order.{lastPosition};
 ghost use Rattle.model.specs.Words.{wordBits, word, wordAt, wordBytes, wordLength};
 ghost use Rattle.code_theory.specs.Promise.{Sound};
+ghost use Rattle.position.specs.FiveChunks.{FiveChunks};
 ghost use Rattle.position.specs.HoldsWord.{HoldsWord};
+ghost use Rattle.position.specs.LayoutOf.{LayoutOf};
 use super::blocks;
 use super::hamming;
 use super::layout;
+use super::layout::Layout;
 use super::splice;
 use bit_arithmetic::powers;
 use linear_code::codeword;
@@ -55,31 +59,48 @@ fn separator(i: u32, distance: u32) -> u64
     powers::low_bits(distance)
 }
 
-// w(i), built chunk by chunk.
-pub fn word_of(code: DecodedCode, i: u32) -> [u8; 40]
-    requires { ⌜ Sound (meaning code) ⌝ }
-    ensures { λ r. ⌜ HoldsWord (meaning code) (word (meaning code) i) r ⌝ }
+// A word from the numbers of its five chunks, put down one behind the other; a code chunk has n bits.
+pub fn put_down(
+    at: Layout,
+    n: u32,
+    separator1: u64,
+    chunk1: u64,
+    separator2: u64,
+    chunk2: u64,
+    separator3: u64,
+) -> [u8; 40]
+    requires { ⌜ ((C : Code) × LayoutOf C at × (n ≡ C .n)) ⌝ }
+    requires { ⌜ ((u : ℕ → ℕ) × FiveChunks at n u separator1 chunk1 separator2 chunk2 separator3) ⌝ }
+    ensures { λ r. ⌜ ((C : Code) (u : ℕ → ℕ) → LayoutOf C at → FiveChunks at n u separator1 chunk1 separator2 chunk2 separator3 → HoldsWord C u r) ⌝ }
 {
-    let n = code.n;
-    let d = code.distance;
-    let at = layout::layout_of(code);
-    let parity = separator(i, d);
-    let c = codeword::codeword(code, i);
-    let separator1 = put_chunk([0u8; 40], 0, d, parity);
-    let chunk1 = put_chunk(separator1, at.chunk1, n, c);
-    let separator2 = put_chunk(chunk1, at.separator2, d, parity);
-    let chunk2 = put_chunk(separator2, at.chunk2, n, c);
-    put_chunk(chunk2, at.separator3, d, parity)
+    let d = at.chunk1;
+    let to_chunk1 = put_chunk([0u8; 40], 0, d, separator1);
+    let to_separator2 = put_chunk(to_chunk1, at.chunk1, n, chunk1);
+    let to_chunk2 = put_chunk(to_separator2, at.separator2, d, separator2);
+    let to_separator3 = put_chunk(to_chunk2, at.chunk2, n, chunk2);
+    put_chunk(to_separator3, at.separator3, d, separator3)
 }
 
-// w(i) with the first m places in which w(i) and w(i + 1) differ taken from w(i + 1).
-pub fn word_in_block(code: DecodedCode, i: u32, m: u32) -> [u8; 40]
-    requires { ⌜ Sound (meaning code) × (i ≤ lastCodeword (meaning code)) ⌝ }
-    requires { ⌜ m ≤ distance (wordBits (meaning code)) (word (meaning code) i) (word (meaning code) (i + 1)) ⌝ }
-    ensures { λ r. ⌜ HoldsWord (meaning code) (walk (word (meaning code) i) (word (meaning code) (i + 1)) m) r ⌝ }
+// w(i), where the layout of the code's words is known.
+pub fn word_of(code: DecodedCode, at: Layout, i: u32) -> [u8; 40]
+    requires { ⌜ Sound (meaning code) × LayoutOf (meaning code) at ⌝ }
+    ensures { λ r. ⌜ HoldsWord (meaning code) (word (meaning code) i) r ⌝ }
 {
-    let u = word_of(code, i);
-    let v = word_of(code, i + 1);
+    let parity = separator(i, code.distance);
+    let c = codeword::codeword(code, i);
+    put_down(at, code.n, parity, c, parity, c, parity)
+}
+
+// w(i) with the first m places in which w(i) and w(next) differ taken from w(next): the word m steps into the block that leads from one
+// to the other.
+pub fn word_in_block(code: DecodedCode, i: u32, next: u32, m: u32) -> [u8; 40]
+    requires { ⌜ Sound (meaning code) ⌝ }
+    requires { ⌜ m ≤ distance (wordBits (meaning code)) (word (meaning code) i) (word (meaning code) next) ⌝ }
+    ensures { λ r. ⌜ HoldsWord (meaning code) (walk (word (meaning code) i) (word (meaning code) next) m) r ⌝ }
+{
+    let at = layout::layout_of(code);
+    let u = word_of(code, at, i);
+    let v = word_of(code, at, next);
     splice::spliced(u, v, hamming::place_after(u, v, m))
 }
 
@@ -89,7 +110,7 @@ pub fn word_at(code: DecodedCode, position: u32) -> [u8; 40]
     ensures { λ r. ⌜ HoldsWord (meaning code) (wordAt (meaning code) position) r ⌝ }
 {
     let i = blocks::block_of(code, position);
-    word_in_block(code, i, position - blocks::block_start(code, i))
+    word_in_block(code, i, i + 1, position - blocks::block_start(code, i))
 }
 
 // Writes the word of a position to the lent bytes.

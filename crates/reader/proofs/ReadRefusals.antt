@@ -14,7 +14,7 @@ use Rattle.bits.proofs.Heard.{heard-ext}
 use Rattle.model.specs.Refusals.{firstRefusal, unlessRefused}
 use Rattle.model.specs.ReadWord.{spareSet, rowsOfWord, readWord}
 use Rattle.model.specs.Card.{Code}
-use Rattle.model.specs.Reading.{seen, ruleNamed, separatorBy, rows9To12, rowsSeen, residual}
+use Rattle.model.specs.Reading.{seen, ruleNamed, separatorBy, twoEnds, rows9To12, rowsSeen, residual}
 use Rattle.model.specs.Levels.{residualHeard}
 use Rattle.model.specs.Words.{wordBits, wordLength}
 use Rattle.model.specs.declared.ReadAnswer.{ReadAnswer}
@@ -25,28 +25,31 @@ use Rattle.code_theory.proofs.ChunkReading.{heard-reading-ext}
 use Rattle.code_theory.proofs.Starts.{word-bits-bound}
 use Rattle.position_theory.proofs.PlainSeen.{plain-residual}
 use Rattle.position_theory.proofs.WordBytes.{readingOfSeen, read-if-whole}
-use Rattle.reader.specs.Received.{residualIn, SeesIn, AnswersRule, answerBy}
+use Rattle.reader.specs.declared.received.ReceivedWord.{ReceivedWord}
+use Rattle.reader.specs.Received.{PlainWord, SeesIn}
+use Rattle.reader.specs.RuleAnswers.{AnswersRule, answerBy}
+use Rattle.reader.specs.Way.{residualIn}
 
--- a plain word in an array, all of whose places are marked
-module _ (C : Code) (sound : Sound C) (x h : List ℕ) (all : (p : ℕ) → p < 320 → place h p ≡ 1) where
-  all-marked : (p : ℕ) → p < wordBits C → marked (place h) p ≡ true
-  all-marked p b = eq-eqb (place h p) 1 (all p (omega (arith, word-bits-bound C sound)))
+-- a plain word, all of whose places are marked
+module _ (C : Code) (sound : Sound C) (received : List ℕ) (x : ReceivedWord) (plain : PlainWord received x) where
+  all-marked : (p : ℕ) → p < wordBits C → marked (place (x .heard)) p ≡ true
+  all-marked p b = eq-eqb (place (x .heard) p) 1 (plain .all-heard p (omega (arith, word-bits-bound C sound)))
 
   -- what is seen of it is what is seen of the places marked, and so is the residual
-  plain-in-array : SeesIn C x h (seen C (place x))
+  plain-in-array : SeesIn C x (seen C (place (x .bits)))
   unfolding seen
   plain-in-array =
-      let plain = plain-reading C (promise C sound) in
+      let read = plain-reading C (promise C sound) in
       record {
-        first = plain _ ∙ heard-reading-ext C (λ p b. sym (all-marked _ (omega arith))) (λ p b. refl);
-        second = plain _ ∙ heard-reading-ext C (λ p b. sym (all-marked _ (omega arith))) (λ p b. refl);
+        first = read _ ∙ heard-reading-ext C (λ p b. sym (all-marked _ (omega arith))) (λ p b. refl);
+        second = read _ ∙ heard-reading-ext C (λ p b. sym (all-marked _ (omega arith))) (λ p b. refl);
       }
 
-  plain-residual-in : residualIn C x h ≡ residual C (place x)
+  plain-residual-in : residualIn C x ≡ residual C (place (x .bits))
   unfolding residualHeard
   plain-residual-in =
       fun-ext (λ q. heard-ext (wordBits C) all-marked (λ p b. refl) (λ p b. refl))
-      ∙ sym (plain-residual C (place x))
+      ∙ sym (plain-residual C (place (x .bits)))
 
 pub refused-6 : (C : Code) (received : List ℕ) → (length received ≡ wordLength C → ⊥) → Refused 6 ≡ readWord C received
 unfolding readWord rowsOfWord firstRefusal unlessRefused
@@ -67,13 +70,14 @@ module _ (C : Code) (received : List ℕ) (whole : length received ≡ wordLengt
 
   module _ (none : ones ≡ 0) where
     -- the array that holds the received word is answered by the rule that is named, where all of it is heard
-    pub read-by-rule : Sound C → (x h : List ℕ) → place x ≡ place received → ((p : ℕ) → p < 320 → place h p ≡ 1) → (answer : ReadAnswer)
+    pub read-by-rule : Sound C → (x : ReceivedWord) → PlainWord received x → (answer : ReadAnswer)
         → let rule : ℕ = ruleNamed C (place received) in
-        AnswersRule C x h rule (separatorBy (seen C (place received)) rule) answer → answer ≡ readWord C received
+        AnswersRule (twoEnds C) C (residualIn C x) x rule (separatorBy (seen C (place received)) rule) answer → answer ≡ readWord C received
     unfolding answerBy readingOfSeen ruleNamed
-    read-by-rule sound x h same all answer by-rule =
-        by-rule (seen C (place x)) (plain-in-array C sound x h all) (rw same)
-        ∙ rw (plain-residual-in C sound x h all, same) (sym (read-if-whole C received whole (none-spare none)))
+    read-by-rule sound x plain answer by-rule =
+        let same : place (x .bits) ≡ place received = fun-ext (plain .bits-held) in
+        by-rule (seen C (place (x .bits))) (plain-in-array C sound received x plain) (rw same)
+        ∙ rw (plain-residual-in C sound received x plain, same) (sym (read-if-whole C received whole (none-spare none)))
 
     pub refused-9 : ruleNamed C (place received) ≡ 0 → Refused 9 ≡ readWord C received
     unfolding readingOfSeen ruleNamed rowsSeen rows9To12 firstRefusal unlessRefused

@@ -1,4 +1,6 @@
 pub mod Received
 pub mod Scanned
 pub mod Passing
+pub mod Way
 pub mod Naming
+pub mod RuleAnswers

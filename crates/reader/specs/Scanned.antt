@@ -2,6 +2,7 @@
 use mathlib.Core.Path.{_≡_}
 use Prim.Native.Nat.{ℕ, _-_, _≤_}
 use Rattle.bits.specs.Searches.{leastAt}
+use Rattle.model.specs.Reading.{Range}
 use Rattle.reader.specs.declared.scan.Scan.{Scan}
 
 -- of the positions from low to the present one, best is the first at which f is least
@@ -10,6 +11,12 @@ pub record Scanned (f : ℕ → ℕ) (s : Scan) : Type 0 where
   pub here : s .residual ≡ f (s .position)
   pub nearest : s .best ≡ leastAt f (s .low) (s .position - s .low)
   pub least : s .least ≡ f (s .best)
+
+-- it has come through all positions of a range
+pub record SearchedRange (f : ℕ → ℕ) (range : Range) (s : Scan) : Type 0 where
+  pub low-is : s .low ≡ range .low
+  pub high-is : s .position ≡ range .high
+  pub scanned : Scanned f s
 
 -- a search that stands at its first position
 abbrev pub beginsAt : (low residual : ℕ) → Scan

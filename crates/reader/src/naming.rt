@@ -6,10 +6,11 @@ ghost use Rattle.bits.specs.Sums.{fromPlace};
 ghost use Rattle.bits.specs.Places.{place};
 ghost use Rattle.model.specs.Decoded.{meaning};
 ghost use Rattle.model.specs.Reading.{majority, seen, ruleOf, separatorOf, parityDiffers};
-ghost use Rattle.code_theory.specs.Promise.{Sound};
+ghost use Rattle.position.specs.LayoutOf.{LayoutOf};
 ghost use Rattle.reader.specs.Naming.{Names, NamesOf};
+use super::received::ReceivedWord;
 use model::DecodedCode;
-use position::layout;
+use position::layout::Layout;
 use position::places;
 
 // A rule by its number, or 0 for none, and what the rule's separator reads.
@@ -66,14 +67,14 @@ fn separator_at(w: [u8; 40], at: u32, distance: u32) -> u32
 }
 
 // What the separators of a plain word name.
-pub fn named_rule(code: DecodedCode, x: [u8; 40]) -> NamedRule
-    requires { ⌜ Sound (meaning code) ⌝ }
-    ensures { λ r. ⌜ NamesOf (seen (meaning code) (place x)) r ⌝ }
+pub fn named_rule(code: DecodedCode, at: Layout, x: ReceivedWord) -> NamedRule
+    requires { ⌜ LayoutOf (meaning code) at ⌝ }
+    ensures { λ r. ⌜ NamesOf (seen (meaning code) (place (x .bits))) r ⌝ }
 {
-    let at = layout::layout_of(code);
-    let s1 = separator_at(x, 0, code.distance);
-    let s2 = separator_at(x, at.separator2, code.distance);
-    let s3 = separator_at(x, at.separator3, code.distance);
+    let bits = x.bits;
+    let s1 = separator_at(bits, 0, code.distance);
+    let s2 = separator_at(bits, at.separator2, code.distance);
+    let s3 = separator_at(bits, at.separator3, code.distance);
     named_by(s1, s2, s3)
 }
 

@@ -1,11 +1,19 @@
-// A received word, held in forty bytes, and the places of it that are heard, marked in forty others: all of a plain word.
+// A received word, as the reader hands it on: its bits, and the places of it that are heard, all of a plain word and those that aren't
+// lost of one that comes as levels.
 ghost use mathlib.Core.Path.{_≡_};
 ghost use Prim.Native.Nat.{ℕ, _≤_, _<_};
 ghost use lib.ListN.{length};
 ghost use Rattle.bits.specs.Places.{place};
+ghost use Rattle.reader.specs.Received.{PlainWord};
+
+// The bits, with zeros after them, and a 1 for each place that is heard.
+pub struct ReceivedWord {
+    pub bits: [u8; 40],
+    pub heard: [u8; 40],
+}
 
 // The bytes of a received word, and zeros after them.
-pub fn bytes_of(word: &[u8]) -> [u8; 40]
+fn bytes_of(word: &[u8]) -> [u8; 40]
     requires { ⌜ length (now word) ≤ 40 ⌝ }
     ensures { λ r. ⌜ ((p : ℕ) → place r p ≡ place (now (word .entry)) p) ⌝ }
 {
@@ -18,9 +26,19 @@ pub fn bytes_of(word: &[u8]) -> [u8; 40]
     held
 }
 
-// All places marked: those that are heard of a plain word.
-pub fn all_heard() -> [u8; 40]
+// All places marked.
+fn all_heard() -> [u8; 40]
     ensures { λ r. ⌜ ((p : ℕ) → p < 320 → place r p ≡ 1) ⌝ }
 {
     [255; 40]
+}
+
+// A plain word: all of it is heard.
+pub fn plain(word: &[u8]) -> ReceivedWord
+    requires { ⌜ length (now word) ≤ 40 ⌝ }
+    ensures { λ r. ⌜ PlainWord (now (word .entry)) r ⌝ }
+{
+    let bits = bytes_of(word);
+    let heard = all_heard();
+    ReceivedWord { bits, heard }
 }

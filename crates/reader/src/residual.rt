@@ -3,6 +3,8 @@ ghost use mathlib.Core.Path.{_≡_};
 ghost use Prim.Native.Nat.{_≤_};
 ghost use Rattle.bits.specs.Sums.{distanceHeard, marked};
 ghost use Rattle.bits.specs.Places.{bit, place};
+ghost use Rattle.reader.specs.Received.{unlikeIn};
+use super::received::ReceivedWord;
 
 // In how many of the bits that are heard, those marked in `heard`, two bytes differ.
 fn heard_byte_unlike(x: u8, y: u8, heard: u8) -> u32
@@ -11,15 +13,14 @@ fn heard_byte_unlike(x: u8, y: u8, heard: u8) -> u32
     u32::count_ones(((x ^ y) & heard) as u32)
 }
 
-// In how many of the bits that are heard two words differ: the distance count, to which both words are passed by value, and the places that
-// are heard besides.
-pub fn heard_bits_unlike(a: [u8; 40], b: [u8; 40], heard: [u8; 40]) -> u32
-    ensures { λ r. ⌜ r ≡ distanceHeard (marked (place heard)) 320 (place a) (place b) ⌝ }
+// The distance count, to which the word and the received one are passed by value.
+pub fn heard_bits_unlike(w: [u8; 40], x: ReceivedWord) -> u32
+    ensures { λ r. ⌜ r ≡ unlikeIn 320 (place w) x ⌝ }
 {
     let mut unlike: u32 = 0;
     let mut j: usize = 0;
     while j < 40 {
-        unlike += heard_byte_unlike(a[j], b[j], heard[j]);
+        unlike += heard_byte_unlike(w[j], x.bits[j], x.heard[j]);
         j += 1;
     }
     unlike

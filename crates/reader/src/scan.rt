@@ -2,10 +2,12 @@
 // are passed one after the other, the residual going up or down by one where the bit is heard. It knows arrays and numbers alone, no code.
 ghost use mathlib.Core.Path.{_≡_};
 ghost use Prim.Native.Nat.{ℕ, _+_, _≤_, _<_};
-ghost use Rattle.bits.specs.Sums.{unlike, distanceHeard, marked};
+ghost use Rattle.bits.specs.Sums.{unlike};
 ghost use Rattle.bits.specs.Places.{place};
+ghost use Rattle.reader.specs.Received.{unlikeIn};
 ghost use Rattle.reader.specs.Scanned.{Scanned, beginsAt};
 ghost use Rattle.reader.specs.Passing.{unlikeHeard, residualTo, Passes, Searched};
+use super::received::ReceivedWord;
 use super::residual;
 use position::places;
 use position::splice;
@@ -21,10 +23,10 @@ pub struct Scan {
 }
 
 // A search that stands at its first position, whose word is `w`.
-pub fn begin(w: [u8; 40], x: [u8; 40], heard: [u8; 40], low: u32) -> Scan
-    ensures { λ r. ⌜ r ≡ beginsAt low (distanceHeard (marked (place heard)) 320 (place w) (place x)) ⌝ }
+pub fn begin(w: [u8; 40], x: ReceivedWord, low: u32) -> Scan
+    ensures { λ r. ⌜ r ≡ beginsAt low (unlikeIn 320 (place w) x) ⌝ }
 {
-    let unlike = residual::heard_bits_unlike(w, x, heard);
+    let unlike = residual::heard_bits_unlike(w, x);
     Scan {
         low,
         position: low,
@@ -75,17 +77,9 @@ fn advance(s: Scan, residual: u32) -> Scan
 }
 
 // From place `at` to place `to`: each place in which u and v differ is one position on.
-pub fn pass_places(
-    u: [u8; 40],
-    v: [u8; 40],
-    x: [u8; 40],
-    heard: [u8; 40],
-    at: u32,
-    to: u32,
-    s: Scan,
-) -> Scan
-    requires { ⌜ (at ≤ to) × (to ≤ 320) × (s .position ≤ 1310720) × (s .residual ≡ residualTo u v x heard at) ⌝ }
-    ensures { λ r. ⌜ Passes u v x heard at to s r ⌝ }
+pub fn pass_places(u: [u8; 40], v: [u8; 40], x: ReceivedWord, at: u32, to: u32, s: Scan) -> Scan
+    requires { ⌜ (at ≤ to) × (to ≤ 320) × (s .position ≤ 1310720) × (s .residual ≡ residualTo u v x at) ⌝ }
+    ensures { λ r. ⌜ Passes u v x at to s r ⌝ }
 {
     let mut q = at;
     let mut state = s;
@@ -93,8 +87,8 @@ pub fn pass_places(
         let j = (q / 8) as usize;
         if places::bit_of(u[j] ^ v[j], q) != 0 {
             let new = places::bit_of(v[j], q);
-            let received = places::bit_of(x[j], q);
-            let known = places::bit_of(heard[j], q);
+            let received = places::bit_of(x.bits[j], q);
+            let known = places::bit_of(x.heard[j], q);
             let next = advance(state, next_residual(state.residual, new, received, known));
             state = next;
         }
@@ -105,18 +99,10 @@ pub fn pass_places(
 
 // The search from position `low`, at which the places below `at` have been passed, to the one at which those below `to` have. The first
 // residual is counted, and each step changes it by one at most.
-pub fn search_places(
-    u: [u8; 40],
-    v: [u8; 40],
-    x: [u8; 40],
-    heard: [u8; 40],
-    low: u32,
-    at: u32,
-    to: u32,
-) -> Scan
+pub fn search_places(u: [u8; 40], v: [u8; 40], x: ReceivedWord, low: u32, at: u32, to: u32) -> Scan
     requires { ⌜ (at ≤ to) × (to ≤ 320) × (low ≤ 1310720) ⌝ }
-    ensures { λ r. ⌜ Searched u v x heard low at to r ⌝ }
+    ensures { λ r. ⌜ Searched u v x low at to r ⌝ }
 {
     let w = splice::spliced(u, v, at);
-    pass_places(u, v, x, heard, at, to, begin(w, x, heard, low))
+    pass_places(u, v, x, at, to, begin(w, x, low))
 }

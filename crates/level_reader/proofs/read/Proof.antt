@@ -13,6 +13,7 @@ use Rattle.model.specs.Decoded.{meaning}
 use Rattle.model.specs.Words.{wordBits}
 use Rattle.model.specs.Levels.{anyOutside, toldAt, seenTold}
 use Rattle.model.specs.Reading.{ruleSeen}
+use Rattle.position.specs.LayoutOf.{LayoutOf}
 use Rattle.reader.specs.Naming.{NamesOf}
 use Rattle.level_reader.proofs.LevelAnswers.{answerTold, nothing-past, named-by-levels, rule-of-told}
 use Rattle.level_reader.proofs.LevelAnswers.{refused-15, refused-16, refused-9, word-read, rule-refused}
@@ -34,8 +35,11 @@ module _ (c : tie.After-any-outside) where
   abbrev levels : List Float
   levels = first .args .levels .now
 
+  laid : LayoutOf C (c .before .before .before .before .layout-of .result)
+  laid = c .before .before .before .before .layout-of .ensures
+
   bits-are : c .before .before .before .before .layout-of .result .bits ≡ wordBits C
-  bits-are = c .before .before .before .before .layout-of .ensures .bits-are
+  bits-are = laid .bits-are
 
   whole : length levels ≡ wordBits C
   whole = c .before .before .if1 .left ∙ bits-are
@@ -50,7 +54,7 @@ returns-2 : tie.Need-returns-2
 returns-2 c = let test = c .before in refused-16 _ _ (whole test) (sym (tested test) ∙ c .if2 .taken)
 
 tell-word-requires : tie.Need-tell-word-requires
-tell-word-requires c κs = let test = c .before in (first test .pre, whole test)
+tell-word-requires c κs = let test = c .before in (laid test, whole test)
 
 -- none is outside, and what is told names the rule of the levels
 module _ (c : tie.After-named-rule) where
@@ -69,21 +73,24 @@ returns-3 c =
 
 by-rule-requires : tie.Need-by-rule-requires
 by-rule-requires c κs =
-    let named = c .before .before .before .before in (
-      first (test named) .pre,
-      nothing-past (C (test named)) (toldAt (levels (test named))) _ (named .before .tell-word .ensures),
-      omega (arith, c .before .before .before .if3 .left),
+    let named = c .before .before .before in (
+      (
+        first (test named) .pre,
+        laid (test named),
+        nothing-past (C (test named)) (toldAt (levels (test named))) _ (named .before .tell-word .ensures),
+      ),
+      omega (arith, c .before .before .if3 .left),
       names named .at-most-three,
     )
 
 -- what the rule answers
 answered : (c : tie.After-by-rule)
-    → let named = c .before .before .before .before .before in
+    → let named = c .before .before .before .before in
     let C′ = C (test named) in
     let word = toldAt (levels (test named)) in
     answerTold C′ word (ruleSeen (seenTold C′ word)) ≡ c .by-rule .result
 answered c =
-    let named = c .before .before .before .before .before in
+    let named = c .before .before .before .before in
     let word = toldAt (levels (test named)) in
     ap (answerTold (C (test named)) word) (sym (names named .rule))
     ∙ sym (rule-of-told (C (test named)) word _ (named .before .tell-word .ensures) _ _ (rw (names named .separator) at (c .by-rule .ensures)))
@@ -91,14 +98,14 @@ answered c =
 returns-4 : tie.Need-returns-4
 returns-4 c =
     let by-rule = c .before .before .before in
-    let named = by-rule .before .before .before .before .before in
+    let named = by-rule .before .before .before .before in
     rw (named .before .tell-word .ensures .strength-told)
     (word-read _ _ (whole (test named)) (inside named) _ (answered by-rule ∙ c .before .reading .given .1))
 
 returns-5 : tie.Need-returns-5
 returns-5 c =
     let by-rule = c .before .before .before in
-    let named = by-rule .before .before .before .before .before in
+    let named = by-rule .before .before .before .before in
     rule-refused _ _ (whole (test named)) (inside named) _ (answered by-rule ∙ c .before .refusal .given .1)
 
 pub read-spec : {M : Type 1} → statement M

@@ -1,6 +1,6 @@
 -- `level_reader::telling::tell_word` meets its contract: each chunk is told where the layout has it, the strength going on to where the next
 -- one begins; bits and places heard are those of the five chunks, and the sums those of the separators. Assumes nothing.
-use mathlib.Core.Path.{_≡_, ap, _∙_}
+use mathlib.Core.Path.{_≡_, refl, ap, _∙_}
 use Prim.Native.Nat.{ℕ, _+_}
 use native.Mathlib.Omega.{arith}
 use borrow.Author.Needs.{needs}
@@ -9,11 +9,11 @@ use Rattle.model.specs.Card.{Code}
 use Rattle.model.specs.Decoded.{meaning}
 use Rattle.model.specs.Levels.{toldAt, bitsIn, sumOfLevels, strengthOf}
 use Rattle.model.specs.declared.Told.{Told}
+use Rattle.position.specs.FiveChunks.{FiveChunks}
 use Rattle.position.specs.LayoutOf.{LayoutOf}
 use Rattle.position.specs.declared.layout.Layout.{Layout}
 use Rattle.levels.specs.ToldChunks.{heardBits, ToldChunkOf}
 use Rattle.levels.specs.declared.chunks.ToldChunk.{ToldChunk}
-use Rattle.level_reader.specs.ToldWords.{FiveNumbers}
 use Rattle.level_reader.proofs.ToldParts.{five-bits, five-heard}
 use Rattle.level_reader.proofs.telling.tell_word.Statement.{statement}
 use Rattle.level_reader.proofs.telling.tell_word.Tie as tie
@@ -21,7 +21,7 @@ use Rattle.level_reader.proofs.telling.tell_word.Tie as tie
 -- where the layout is known
 module _ (c : tie.After-no-strength) where
   abbrev first : tie.Start
-  first = c .before .before .before
+  first = c .before .before
 
   abbrev C : Code
   C = meaning (first .args .code)
@@ -30,10 +30,10 @@ module _ (c : tie.After-no-strength) where
   word = toldAt (first .args .levels .now)
 
   abbrev layout : Layout
-  layout = c .before .layout-of .result
+  layout = first .args .at
 
   laid : LayoutOf C layout
-  laid = c .before .layout-of .ensures
+  laid = first .pre .0
 
   -- the strength of a chunk goes as far as the next one begins
   goes-on : (at len next : ℕ) (chunk : ToldChunk) → ToldChunkOf word at len chunk → at + len ≡ next → chunk .strength ≡ strengthOf word next
@@ -83,31 +83,31 @@ module _ (c : tie.After-tell-chunk5) where
   abbrev told₅ : ToldChunk
   told₅ = c .tell-chunk5 .result
 
-  all-bits : FiveNumbers (C known) (bitsIn (word known)) (told₁ .bits) (told₂ .bits) (told₃ .bits) (told₄ .bits) (told₅ .bits)
+  all-bits : FiveChunks (layout known) (C known .n) (bitsIn (word known)) (told₁ .bits) (told₂ .bits) (told₃ .bits) (told₄ .bits) (told₅ .bits)
   all-bits =
       five-bits _ _ (laid known) _ _ _ _ _ _ (c .before .before .before .before .tell-chunk .ensures .0)
       (c .before .before .before .tell-chunk2 .ensures .0) (c .before .before .tell-chunk3 .ensures .0)
       (c .before .tell-chunk4 .ensures .0) (c .tell-chunk5 .ensures .0)
 
-  all-heard : FiveNumbers (C known) (heardBits (word known)) (told₁ .heard) (told₂ .heard) (told₃ .heard) (told₄ .heard) (told₅ .heard)
+  all-heard : FiveChunks (layout known) (C known .n) (heardBits (word known)) (told₁ .heard) (told₂ .heard) (told₃ .heard) (told₄ .heard) (told₅ .heard)
   all-heard =
       five-heard _ _ (laid known) _ _ _ _ _ _ (c .before .before .before .before .tell-chunk .ensures .0)
       (c .before .before .before .tell-chunk2 .ensures .0) (c .before .before .tell-chunk3 .ensures .0)
       (c .before .tell-chunk4 .ensures .0) (c .tell-chunk5 .ensures .0)
 
-joined-requires : tie.Need-joined-requires
-joined-requires c κs = let told = c .before in (first (known told) .pre .0, (_, all-bits told))
+put-down-requires : tie.Need-put-down-requires
+put-down-requires c κs = ((C (known c), laid (known c), refl), (_, all-bits c))
 
-joined-requires-2 : tie.Need-joined-requires-2
-joined-requires-2 c κs = let told = c .before .before in (first (known told) .pre .0, (_, all-heard told))
+put-down-requires-2 : tie.Need-put-down-requires-2
+put-down-requires-2 c κs = let told = c .before in ((C (known told), laid (known told), refl), (_, all-heard told))
 
 returns : tie.Need-returns
 returns c =
     let told = c .before .before .before in
     let at = laid (known told) in
     record {
-      bits-told = c .before .joined .ensures _ (all-bits told);
-      heard-told = c .joined2 .ensures _ (all-heard told);
+      bits-told = c .before .before .put-down .ensures _ _ at (all-bits told);
+      heard-told = c .before .put-down2 .ensures _ _ at (all-heard told);
       sum₁ =
           told .before .before .before .before .tell-chunk .ensures .1 .0
           ∙ ap (λ (separator : ℕ → Told). sumOfLevels separator (C (known told) .D)) (from-place-zero (word (known told)));
@@ -121,12 +121,11 @@ tell-word-spec =
     tie.close
     (tie.spec
     (λ c κs. search needs)
-    (λ c κs. search needs)
     tell-chunk-requires
     tell-chunk-requires-2
     tell-chunk-requires-3
     tell-chunk-requires-4
     tell-chunk-requires-5
-    joined-requires
-    joined-requires-2
+    put-down-requires
+    put-down-requires-2
     returns)

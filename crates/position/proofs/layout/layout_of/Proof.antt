@@ -34,6 +34,7 @@ returns c =
       bits-are = omega arith;
       fits = short c;
       separator-fits = omega (arith, D-high (meaning (c .args .code)) (c .pre));
+      chunk-fits = c .pre .n-high;
     }
 
 pub layout-of-spec : {M : Type 1} → statement M

@@ -1,10 +1,15 @@
 -- `reader::nearest::nearest_around` meets its contract: the track ends at the last start, and goes on at any other.
 -- Assumes nothing.
-use mathlib.Core.Path.{_∙_}
-use Rattle.model.specs.Decoded.{meaning}
-use Rattle.reader.proofs.RuleRanges.{track-ends, track-goes-on}
+use mathlib.Core.Path.{refl, ap, _∙_}
+use Prim.Native.Nat.{_<_}
 use native.Mathlib.Omega.{arith}
 use borrow.Author.Needs.{needs}
+use Rattle.model.specs.Decoded.{meaning}
+use Rattle.model.specs.Order.{lastCodeword}
+use Rattle.code_theory.proofs.Starts.{last-codeword-bound}
+use Rattle.reader.specs.Way.{residualIn}
+use Rattle.reader.proofs.BlockResiduals.{residual-of-start, residuals-of-block}
+use Rattle.reader.proofs.RuleRanges.{at-chunk₁, track-ends, track-goes-on}
 use Rattle.reader.proofs.nearest.nearest_around.Statement.{statement}
 use Rattle.reader.proofs.nearest.nearest_around.Tie as tie
 
@@ -14,21 +19,43 @@ returns c =
     let C = meaning (first .args .code) in
     let (low, position, scanned) = c .before .before .search-before-start .ensures in
     record {
-      low = low;
-      high = position ∙ track-ends C (first .args .p) (c .if1 .taken ∙ c .before .last-codeword .ensures);
+      low-is = low;
+      high-is = position ∙ track-ends C (first .args .p) (c .if1 .taken ∙ c .before .last-codeword .ensures);
       scanned = scanned;
     }
 
+goes-on : (c : tie.Else1) → let first = c .before .before .before in first .args .p < lastCodeword (meaning (first .args .code))
+goes-on c = omega (arith, c .if1 .left, c .before .last-codeword .ensures, c .before .before .before .pre .1)
+
+add-search-after-start : tie.Need-add-search-after-start
+add-search-after-start c =
+    let first = c .before .before .before in omega (arith, goes-on c, last-codeword-bound _ (first .pre .0 .0))
+
+search-after-start-requires : tie.Need-search-after-start-requires
+search-after-start-requires c κs =
+    let started = c .before .before in
+    let first = started .before in
+    let C = meaning (first .args .code) in
+    let (low, position, scanned) = started .search-before-start .ensures in (
+      first .pre,
+      (
+        position,
+        scanned .here ∙ ap (residualIn C (first .args .x)) position ∙ residual-of-start C (first .pre .0 .0) (first .args .x) _ (first .pre .1),
+      ),
+    )
+
 returns-2 : tie.Need-returns-2
 returns-2 c =
-    let first = c .before .before .before .before in
+    let later = c .before in
+    let first = later .before .before .before in
     let C = meaning (first .args .code) in
-    let before = c .before .before .before .search-before-start .ensures in
-    let (low, position, scanned) = c .search-after-start .ensures in
+    let sound = first .pre .0 .0 in
+    let (begun, stood, before) = later .before .before .search-before-start .ensures in
+    let ((low, position), scanned) = c .search-after-start .ensures in
     record {
-      low = low ∙ before .0;
-      high = position ∙ track-goes-on C (first .pre .0) (first .args .p) (omega arith);
-      scanned = scanned;
+      low-is = low ∙ begun;
+      high-is = position ∙ at-chunk₁ C sound _ _ refl (goes-on later) ∙ track-goes-on C sound (first .args .p) (goes-on later);
+      scanned = scanned _ (residuals-of-block C sound _ _ _ refl (goes-on later)) before;
     }
 
 pub nearest-around-spec : {M : Type 1} → statement M
@@ -38,5 +65,6 @@ nearest-around-spec =
     (λ c κs. search needs)
     (λ c κs. search needs)
     returns
-    (λ c κs. search needs)
+    add-search-after-start
+    search-after-start-requires
     returns-2)

@@ -10,77 +10,81 @@ use Rattle.model.specs.Order.{lastCodeword, start}
 use Rattle.code_theory.specs.Promise.{Sound}
 use Rattle.code_theory.proofs.Promise.{promise}
 use Rattle.code_theory.proofs.Starts.{last-position-bound}
+use Rattle.position.specs.LayoutOf.{LayoutOf}
 use Rattle.position_theory.proofs.Blocks.{start-on-track}
-use Rattle.reader.specs.Received.{positionAt}
+use Rattle.reader.specs.Way.{positionAt}
+use Rattle.reader.proofs.BlockResiduals.{residuals-of-block}
 use Rattle.reader.proofs.RuleRanges.{at-separator₂, at-end}
 use Rattle.reader.proofs.nearest.nearest_before.Statement.{statement}
 use Rattle.reader.proofs.nearest.nearest_before.Tie as tie
 
 -- the block before p, and its start
-module _ (c : tie.After-layout-of) where
-  abbrev first : tie.Start
-  first = c .before
-
+module _ (first : tie.Start) where
   abbrev C : Code
   C = meaning (first .args .code)
 
   abbrev sound : Sound C
-  sound = first .pre .0
+  sound = first .pre .0 .0
+
+  abbrev laid : LayoutOf C (first .args .at)
+  laid = first .pre .0 .1
 
   abbrev i : ℕ
   i = first .args .p - 1
 
-  next : i + 1 ≡ first .args .p
-  next = omega (arith, first .pre .2)
+  after : first .args .p ≡ i + 1
+  after = omega (arith, first .pre .1)
 
   inside : i < lastCodeword C
-  inside = omega (arith, first .pre .2, first .pre .3)
+  inside = omega (arith, first .pre .1, first .pre .2)
 
   start-bound : start C i ≤ 1310400
   start-bound = omega (arith, start-on-track C (promise C sound) i (omega (arith, inside)), last-position-bound C sound)
 
 add-low : tie.Need-add-low
 add-low c =
-    let laid = c .before .before in
-    omega (arith, c .before .block-start .ensures, start-bound laid, laid .layout-of .ensures .separator-fits)
+    let first = c .before .before in omega (arith, c .before .block-start .ensures, start-bound first, laid first .separator-fits)
 
 add-low-2 : tie.Need-add-low-2
 add-low-2 c =
-    let laid = c .before .before .before in
+    let first = c .before .before .before in
     omega (
       arith,
       c .before .before .block-start .ensures,
-      start-bound laid,
-      laid .layout-of .ensures .separator-fits,
+      start-bound first,
+      laid first .separator-fits,
       c .changed-weight .ensures .1,
     )
 
 search-block-requires : tie.Need-search-block-requires
 search-block-requires c κs =
-    let laid = c .before .before .before in
-    let at = laid .layout-of .ensures in
+    let first = c .before .before .before in
     let started = c .before .before .block-start in
-    let low = at-separator₂ (C laid) (sound laid) (i laid) (inside laid) in
-    let block : i laid + 1 - 1 ≡ i laid = omega arith in
-    let begins : started .result + C laid .D + c .changed-weight .result ≡ positionAt (C laid) (i laid) (C laid .D + C laid .n) =
-    rw (started .ensures, c .changed-weight .ensures .0) (sym (low ∙ rw block)) in (
-      (sound laid, laid .before .pre .1, inside laid, omega (arith, at .separator₂-at, at .bits-are), omega (arith, at .bits-are)),
-      begins ∙ ap (positionAt (C laid) (i laid)) (sym (at .separator₂-at)),
+    let begins : started .result + C first .D + c .changed-weight .result ≡ positionAt (C first) (i first) (first .args .p) (C first .D + C first .n) =
+    rw (started .ensures, c .changed-weight .ensures .0) (sym (at-separator₂ (C first) (sound first) _ _ (after first) (inside first))) in (
+      first .pre .0,
+      (
+        omega (arith, inside first),
+        begins ∙ ap (positionAt (C first) (i first) (first .args .p)) (sym (laid first .separator₂-at)),
+        omega (arith, laid first .separator₂-at, laid first .bits-are),
+        omega (arith, laid first .bits-are),
+      ),
     )
 
 returns : tie.Need-returns
 returns c =
-    let laid = c .before .before .before .before in
-    let at = laid .layout-of .ensures in
-    let (low, position, scanned) = c .search-block .ensures in
+    let first = c .before .before .before .before in
+    let ((low, position), scanned) = c .search-block .ensures in
     record {
-      low =
-          low ∙ rw (c .before .before .before .block-start .ensures, c .before .changed-weight .ensures .0);
-      high = rw (next laid) at (position ∙ ap (positionAt (C laid) (i laid)) (at .bits-are) ∙ at-end (C laid) (sound laid) (i laid) (inside laid));
-      scanned = scanned;
+      low-is = low ∙ rw (c .before .before .before .block-start .ensures, c .before .changed-weight .ensures .0);
+      high-is =
+          position
+          ∙ ap (positionAt (C first) (i first) (first .args .p)) (laid first .bits-are)
+          ∙ at-end (C first) (sound first) _ _ (after first) (inside first);
+      scanned = scanned _ (residuals-of-block (C first) (sound first) _ _ _ (after first) (inside first));
     }
 
 pub nearest-before-spec : {M : Type 1} → statement M
 nearest-before-spec =
     tie.close
-    (tie.spec (λ c κs. search needs) (λ c. search needs) (λ c κs. search needs) add-low (λ c κs. search needs) add-low-2 search-block-requires returns)
+    (tie.spec (λ c. search needs) (λ c κs. search needs) add-low (λ c κs. search needs) add-low-2 search-block-requires returns)

@@ -1,7 +1,7 @@
 -- `reader::reading::found` meets its contract: the answer is the search's nearest position, with the residual that the search has
 -- counted for it, and the bits that it is handed. Assumes nothing.
 use mathlib.Core.Path.{refl}
-use Rattle.reader.specs.Received.{foundAt}
+use Rattle.reader.specs.RuleAnswers.{foundAt}
 use Rattle.reader.proofs.reading.found.Statement.{statement}
 use Rattle.reader.proofs.reading.found.Tie as tie
 

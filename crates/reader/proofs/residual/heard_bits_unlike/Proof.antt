@@ -9,14 +9,15 @@ use Rattle.bits.specs.Sums.{sumBelow, distanceHeard, marked}
 use Rattle.bits.specs.Places.{place}
 use Rattle.bits.proofs.Heard.{heard-le}
 use Rattle.bits.proofs.ByteLists.{heard-byte}
+use Rattle.reader.specs.Received.{unlikeIn}
 use Rattle.reader.proofs.residual.heard_bits_unlike.Statement.{statement}
 use Rattle.reader.proofs.residual.heard_bits_unlike.Tie as tie
 
 abbrev Inv-loop : tie.InvT-loop
-Inv-loop a b heard unlike₀ j₀ unlike j = (j ≤ 40) × (unlike ≡ distanceHeard (marked (place heard)) (8 * j) (place a) (place b))
+Inv-loop w x unlike₀ j₀ unlike j = (j ≤ 40) × (unlike ≡ unlikeIn (8 * j) (place w) x)
 
 abbrev μ-loop : tie.MeasureT-loop
-μ-loop a b heard unlike₀ j₀ unlike j = 40 - j
+μ-loop w x unlike₀ j₀ unlike j = 40 - j
 
 loop-holds : tie.Need-loop-holds Inv-loop μ-loop
 unfolding distanceHeard sumBelow
@@ -24,15 +25,15 @@ loop-holds c = (omega arith, refl)
 
 add-unlike : tie.Need-add-unlike Inv-loop μ-loop
 add-unlike c =
-    let loop = c .before .before .loop in
-    let args = c .before .before .before .args in
-    omega (arith, heard-le (marked (place (args .t3))) (8 * loop .j) (place (args .t1)) (place (args .t2)))
+    let loop = c .before .before .before .before .loop in
+    let args = c .before .before .before .before .before .args in
+    omega (arith, heard-le (marked (place (args .t2 .heard))) (8 * loop .j) (place (args .t1)) (place (args .t2 .bits)))
 
 loop-again : tie.Need-loop-again Inv-loop μ-loop
 loop-again c =
-    let loop = c .before .before .loop in
-    let args = c .before .before .before .args in
-    (omega arith, omega (arith, heard-byte (args .t1) (args .t2) (args .t3) (loop .j)))
+    let loop = c .before .before .before .before .loop in
+    let args = c .before .before .before .before .before .args in
+    (omega arith, omega (arith, heard-byte (args .t1) (args .t2 .bits) (args .t2 .heard) (loop .j)))
 
 returns : tie.Need-returns Inv-loop μ-loop
 returns c =
