@@ -12,6 +12,7 @@ use Rattle.bits.specs.Places.{place}
 use Rattle.model.specs.ReadWord.{spareSet}
 use Rattle.model.specs.Card.{Code}
 use Rattle.model.specs.Decoded.{meaning}
+use Rattle.model.specs.Words.{wordLength}
 use Rattle.model.specs.Reading.{seen, ruleNamed}
 use Rattle.position.specs.LayoutOf.{LayoutOf}
 use Rattle.reader.specs.Naming.{NamesOf}
