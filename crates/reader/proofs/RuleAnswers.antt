@@ -27,7 +27,7 @@ module _ (s : Seen) (R : Rules) (residual : ℕ → ℕ) where
   unfolding answerBy rowsSeen rows9To12 unreadable firstRefusal unlessRefused
   rule₁-unreadable r = rw r
 
-  rule₂-unreadable : s .read₂ ≡ Unreadable → Refused 10 ≡ answerBy R s residual 2
+  pub rule₂-unreadable : s .read₂ ≡ Unreadable → Refused 10 ≡ answerBy R s residual 2
   unfolding answerBy rowsSeen rows9To12 unreadable firstRefusal unlessRefused
   rule₂-unreadable r = rw r
 
@@ -35,18 +35,13 @@ module _ (s : Seen) (R : Rules) (residual : ℕ → ℕ) where
   unfolding answerBy rowsSeen rows9To12 unreadable firstRefusal unlessRefused
   rule₃-unreadable r = rw r
 
-  -- the chunk that is read first: chunk 2 by rule 2, and chunk 1 by any other
-  pub first-unreadable : (rule : ℕ) → 1 ≤ rule → rule ≤ 3 → (rule ≡ 2 → s .read₂ ≡ Unreadable) → ((rule ≡ 2 → ⊥) → s .read₁ ≡ Unreadable)
-      → Refused 10 ≡ answerBy R s residual rule
-  first-unreadable rule low high second first =
+  -- chunk 1, which each rule but 2 names
+  pub first-unreadable : (rule : ℕ) → 1 ≤ rule → rule ≤ 3 → (rule ≡ 2 → ⊥) → s .read₁ ≡ Unreadable → Refused 10 ≡ answerBy R s residual rule
+  first-unreadable rule low high other r =
       ⊎-elim
-      (λ (two : rule ≡ 2). rw two (rule₂-unreadable (second two)))
-      (λ (other : rule ≡ 2 → ⊥).
-      ⊎-elim
-      (λ (one : rule ≡ 1). rw one (rule₁-unreadable (first other)))
-      (λ (not-one : rule ≡ 1 → ⊥). let three : rule ≡ 3 = omega arith in rw three (rule₃-unreadable (first other)))
-      (eq-or-ne rule 1))
-      (eq-or-ne rule 2)
+      (λ (one : rule ≡ 1). rw one (rule₁-unreadable r))
+      (λ (not-one : rule ≡ 1 → ⊥). let three : rule ≡ 3 = omega arith in rw three (rule₃-unreadable r))
+      (eq-or-ne rule 1)
 
   module _ (p e : ℕ) (r : s .read₁ ≡ Codeword p e) where
     pub rule₃-second-unreadable : s .read₂ ≡ Unreadable → Refused 10 ≡ answerBy R s residual 3

@@ -47,23 +47,24 @@ pub fn chunks_named(code: DecodedCode, at: Layout, x: ReceivedWord, rule: u32) -
     requires { ⌜ Sound (meaning code) × LayoutOf (meaning code) at × (1 ≤ rule) × (rule ≤ 3) ⌝ }
     ensures { λ r. ⌜ ReadsNamed (meaning code) x rule r ⌝ }
 {
-    let first = if rule == 2 { at.chunk2 } else { at.chunk1 };
-    let Chunk::Codeword { number, unlike } = chunk_reading(code, x, first) else {
-        return NamedChunks::Refused(10);
-    };
-    let needed = ChunkBits::Differing(unlike);
-    if rule == 1 {
-        return NamedChunks::Read(ChunksRead {
-            number,
-            chunk1: needed,
-            chunk2: ChunkBits::NotRead,
-        });
-    }
     if rule == 2 {
+        let Chunk::Codeword { number, unlike } = chunk_reading(code, x, at.chunk2) else {
+            return NamedChunks::Refused(10);
+        };
         return NamedChunks::Read(ChunksRead {
             number,
             chunk1: ChunkBits::NotRead,
-            chunk2: needed,
+            chunk2: ChunkBits::Differing(unlike),
+        });
+    }
+    let Chunk::Codeword { number, unlike } = chunk_reading(code, x, at.chunk1) else {
+        return NamedChunks::Refused(10);
+    };
+    if rule == 1 {
+        return NamedChunks::Read(ChunksRead {
+            number,
+            chunk1: ChunkBits::Differing(unlike),
+            chunk2: ChunkBits::NotRead,
         });
     }
     let Chunk::Codeword {
@@ -78,7 +79,7 @@ pub fn chunks_named(code: DecodedCode, at: Layout, x: ReceivedWord, rule: u32) -
     }
     NamedChunks::Read(ChunksRead {
         number,
-        chunk1: needed,
+        chunk1: ChunkBits::Differing(unlike),
         chunk2: ChunkBits::Differing(bits2),
     })
 }

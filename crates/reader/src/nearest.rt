@@ -41,7 +41,7 @@ fn nearest_before(code: DecodedCode, at: Layout, x: ReceivedWord, p: u32) -> Sca
     let i = p - 1;
     let start = blocks::block_start(code, i);
     let low = start + code.distance + blocks::changed_weight(code, i);
-    block::search_block(code, at, x, i, p, low, at.separator2, at.bits)
+    block::search_block(code, x, i, p, low, at.separator2, at.bits)
 }
 
 // Rule 2, chunk 2 reading p: the search from r(p) to r(p) + 2D + A(p), where separator 2 has changed.
@@ -50,7 +50,7 @@ fn nearest_after(code: DecodedCode, at: Layout, x: ReceivedWord, p: u32) -> Scan
     ensures { λ r. ⌜ SearchedRange (residualIn (meaning code) x) (range₂ (meaning code) p) r ⌝ }
 {
     let low = blocks::block_start(code, p);
-    block::search_block(code, at, x, p, p + 1, low, 0, at.chunk2)
+    block::search_block(code, x, p, p + 1, low, 0, at.chunk2)
 }
 
 // The search from D steps before r(p), or from 0, to r(p): separator 3 of the block before changes.
@@ -59,10 +59,10 @@ fn search_before_start(code: DecodedCode, at: Layout, x: ReceivedWord, p: u32) -
     ensures { λ r. ⌜ (r .low ≡ start (meaning code) p - code .distance) × (r .position ≡ start (meaning code) p) × Scanned (residualIn (meaning code) x) r ⌝ }
 {
     if p == 0 {
-        return scan::begin(words::word_of(code, at, 0), x, 0);
+        return scan::begin(words::word_of(code, 0), x, 0);
     }
     let low = blocks::block_start(code, p) - code.distance;
-    block::search_block(code, at, x, p - 1, p, low, at.separator3, at.bits)
+    block::search_block(code, x, p - 1, p, low, at.separator3, at.bits)
 }
 
 // Rule 3, both chunks reading p: the search from r(p) - D to r(p) + D, cut to the track.
@@ -74,7 +74,7 @@ fn nearest_around(code: DecodedCode, at: Layout, x: ReceivedWord, p: u32) -> Sca
     if p == blocks::last_codeword(code) {
         return before;
     }
-    block::search_after_start(code, at, x, p, p + 1, before)
+    block::search_after_start(code, x, p, p + 1, before)
 }
 
 // The search through the positions that the rule allows where its chunks read p, and there is a block for it.

@@ -16,7 +16,7 @@ use Rattle.position.proofs.words.word_in_block.Tie as tie
 -- there are m places to pass
 place-after-requires : tie.Need-place-after-requires
 place-after-requires c κs =
-    let first = c .before .before .before in
+    let first = c .before .before in
     let C = meaning (first .args .code) in
     let d = wordBits C in
     let u = word C (first .args .i) in
@@ -28,7 +28,7 @@ place-after-requires c κs =
 returns : tie.Need-returns
 returns c p =
     let words = c .before .before in
-    let first = words .before .before .before in
+    let first = words .before .before in
     let C = meaning (first .args .code) in
     c .spliced .ensures p
     ∙ walk-spliced (place-bit _) (place-bit _) _ _ (c .before .place-after .ensures .1) p
@@ -39,7 +39,6 @@ pub word-in-block-spec : {M : Type 1} → statement M
 word-in-block-spec =
     tie.close
     (tie.spec
-    (λ c κs. search needs)
     (λ c κs. search needs)
     (λ c κs. search needs)
     place-after-requires

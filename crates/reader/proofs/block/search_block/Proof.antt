@@ -6,7 +6,7 @@ use Rattle.model.specs.Decoded.{meaning}
 use Rattle.model.specs.Words.{word}
 use Rattle.bits.proofs.Distance.{distance-le}
 use Rattle.code_theory.proofs.Promise.{promise}
-use Rattle.code_theory.proofs.Starts.{last-position-bound}
+use Rattle.code_theory.proofs.Starts.{last-position-bound, word-bits-bound}
 use Rattle.position_theory.proofs.Blocks.{start-on-track}
 use Rattle.reader.proofs.BlockResiduals.{block-ends, block-searched}
 use Rattle.reader.proofs.block.search_block.Statement.{statement}
@@ -16,15 +16,15 @@ search-places-requires : tie.Need-search-places-requires
 search-places-requires c κs =
     let first = c .before .before in
     let C = meaning (first .args .code) in
-    let ((sound, laid, spare), (inside, is, forward, room)) = first .pre in (
+    let ((sound, spare), (inside, is, forward, room)) = first .pre in (
       forward,
-      omega (arith, room, laid .fits),
+      omega (arith, room, word-bits-bound C sound),
       rw is
           (omega (
             arith,
             start-on-track C (promise C sound) (first .args .i) inside,
             last-position-bound C sound,
-            laid .fits,
+            word-bits-bound C sound,
             distance-le (first .args .from) (word C (first .args .i)) (word C (first .args .next)),
           )),
     )
@@ -35,7 +35,7 @@ returns c =
     let old = new .before in
     let first = old .before in
     let C = meaning (first .args .code) in
-    let ((sound, laid, spare), (inside, is, forward, room)) = first .pre in (
+    let ((sound, spare), (inside, is, forward, room)) = first .pre in (
       block-ends C sound _ _ _ _ (old .word-of .ensures) (new .word-of2 .ensures) _ spare _ _ _ _ is forward room (c .search-places .ensures),
       block-searched C sound _ _ _ _ (old .word-of .ensures) (new .word-of2 .ensures) _ spare _ _ _ _ is forward room (c .search-places .ensures),
     )

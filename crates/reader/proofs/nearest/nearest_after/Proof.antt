@@ -19,7 +19,7 @@ search-block-requires : tie.Need-search-block-requires
 search-block-requires c κs =
     let first = c .before in
     let ((sound, laid, spare), inside) = first .pre in (
-      first .pre .0,
+      (sound, spare),
       (
         omega (arith, inside),
         c .block-start .ensures ∙ sym (at-start _ sound _ _ refl inside),

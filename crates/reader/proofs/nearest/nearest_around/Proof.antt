@@ -37,7 +37,7 @@ search-after-start-requires c κs =
     let first = started .before in
     let C = meaning (first .args .code) in
     let (low, position, scanned) = started .search-before-start .ensures in (
-      first .pre,
+      (first .pre .0 .0, first .pre .0 .2, first .pre .1),
       (
         position,
         scanned .here ∙ ap (residualIn C (first .args .x)) position ∙ residual-of-start C (first .pre .0 .0) (first .args .x) _ (first .pre .1),

@@ -62,7 +62,7 @@ search-block-requires c κs =
     let started = c .before .before .block-start in
     let begins : started .result + C first .D + c .changed-weight .result ≡ positionAt (C first) (i first) (first .args .p) (C first .D + C first .n) =
     rw (started .ensures, c .changed-weight .ensures .0) (sym (at-separator₂ (C first) (sound first) _ _ (after first) (inside first))) in (
-      first .pre .0,
+      (sound first, first .pre .0 .2),
       (
         omega (arith, inside first),
         begins ∙ ap (positionAt (C first) (i first) (first .args .p)) (sym (laid first .separator₂-at)),

@@ -62,7 +62,7 @@ sub-low c =
 search-block-requires : tie.Need-search-block-requires
 search-block-requires c κs =
     let later = c .before .before in (
-      first later .pre .0,
+      (sound later, first later .pre .0 .2),
       (
         omega (arith, inside later),
         rw (laid later .separator₃-at, c .before .block-start .ensures) (sym (at-separator₃ (C later) (sound later) _ _ (after later) (inside later))),
