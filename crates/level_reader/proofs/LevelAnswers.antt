@@ -33,9 +33,10 @@ use Rattle.position_theory.proofs.ReadWords.{read-if-served}
 use Rattle.levels.specs.ToldChunks.{heardBits, readBySum}
 use Rattle.reader.specs.Naming.{Names, NamesOf}
 use Rattle.reader.specs.declared.naming.NamedRule.{NamedRule}
-use Rattle.reader.specs.Received.{SeesIn, NothingSpare}
+use Rattle.nearest_position.specs.Received.{NothingSpare}
+use Rattle.reader.specs.RuleAnswers.{SeesIn}
 use Rattle.reader.specs.RuleAnswers.{AnswersRule, answerBy}
-use Rattle.reader.specs.Way.{residualIn}
+use Rattle.nearest_position.specs.Way.{residualIn}
 use Rattle.level_reader.specs.ToldWords.{ToldWordOf}
 use Rattle.level_reader.specs.declared.telling.ToldWord.{ToldWord}
 

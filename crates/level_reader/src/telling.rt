@@ -11,9 +11,9 @@ use levels::chunks;
 use levels::strength;
 use model::DecodedCode;
 use model::Strength;
+use nearest_position::received::ReceivedWord;
 use position::layout::Layout;
 use position::words;
-use reader::received::ReceivedWord;
 
 // The word received, its lost bits 0; the sums of its separators; and the strength.
 pub struct ToldWord {

@@ -1,8 +1,3 @@
-pub mod CopiedBytes
-pub mod Scanning
-pub mod Passing
-pub mod BlockResiduals
-pub mod RuleRanges
 pub mod RuleAnswers
 pub mod SpareBits
 pub mod ReadRefusals

@@ -25,10 +25,11 @@ use Rattle.code_theory.proofs.ChunkReading.{heard-reading-ext}
 use Rattle.code_theory.proofs.Starts.{word-bits-bound}
 use Rattle.position_theory.proofs.PlainSeen.{plain-residual}
 use Rattle.position_theory.proofs.WordBytes.{readingOfSeen, read-if-whole}
-use Rattle.reader.specs.declared.received.ReceivedWord.{ReceivedWord}
-use Rattle.reader.specs.Received.{PlainWord, SeesIn}
+use Rattle.nearest_position.specs.declared.received.ReceivedWord.{ReceivedWord}
+use Rattle.nearest_position.specs.Received.{PlainWord}
+use Rattle.reader.specs.RuleAnswers.{SeesIn}
 use Rattle.reader.specs.RuleAnswers.{AnswersRule, answerBy}
-use Rattle.reader.specs.Way.{residualIn}
+use Rattle.nearest_position.specs.Way.{residualIn}
 
 -- a plain word, all of whose places are marked
 module _ (C : Code) (sound : Sound C) (received : List ℕ) (x : ReceivedWord) (plain : PlainWord received x) where

@@ -16,8 +16,8 @@ use Rattle.model.specs.declared.Chunk.the-variants.{Codeword, Unreadable}
 use Rattle.model.specs.declared.ChunkBits.the-variants.{Differing, NotRead}
 use Rattle.model.specs.declared.ReadAnswer.the-variants.{At, Refused}
 use Rattle.reader.specs.declared.chunks.ChunksRead.{ChunksRead}
-use Rattle.reader.specs.declared.scan.Scan.{Scan}
-use Rattle.reader.specs.Scanned.{SearchedRange}
+use Rattle.nearest_position.specs.declared.scan.Scan.{Scan}
+use Rattle.nearest_position.specs.Scanned.{SearchedRange}
 use Rattle.reader.specs.RuleAnswers.{foundAt, answerBy, ReadAs}
 
 -- ---- what the chunks read as

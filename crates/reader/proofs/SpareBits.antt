@@ -18,8 +18,8 @@ use Rattle.model.specs.Card.{Code}
 use Rattle.model.specs.Words.{wordBits, wordLength}
 use Rattle.model.specs.ReadWord.{spareSet}
 use Rattle.position_theory.proofs.WordBytes.{spare-bits-zero}
-use Rattle.reader.specs.declared.received.ReceivedWord.{ReceivedWord}
-use Rattle.reader.specs.Received.{PlainWord, NothingSpare}
+use Rattle.nearest_position.specs.declared.received.ReceivedWord.{ReceivedWord}
+use Rattle.nearest_position.specs.Received.{PlainWord, NothingSpare}
 
 -- places past the end of a list are 0
 past-end : (l : List ℕ) (p : ℕ) → 8 * length l ≤ p → place l p ≡ 0

@@ -1,6 +1,2 @@
-pub mod Received
-pub mod Scanned
-pub mod Passing
-pub mod Way
 pub mod Naming
 pub mod RuleAnswers

@@ -10,11 +10,11 @@ ghost use Rattle.model.specs.Levels.{heardReading};
 ghost use Rattle.code_theory.specs.Promise.{Sound};
 ghost use Rattle.position.specs.LayoutOf.{LayoutOf};
 ghost use Rattle.reader.specs.RuleAnswers.{ReadsNamed};
-use super::received::ReceivedWord;
 use linear_code::search;
 use model::Chunk;
 use model::ChunkBits;
 use model::DecodedCode;
+use nearest_position::received::ReceivedWord;
 use position::layout::Layout;
 use position::places;
 

@@ -8,8 +8,8 @@ ghost use Rattle.model.specs.Decoded.{meaning};
 ghost use Rattle.model.specs.Reading.{majority, seen, ruleOf, separatorOf, parityDiffers};
 ghost use Rattle.position.specs.LayoutOf.{LayoutOf};
 ghost use Rattle.reader.specs.Naming.{Names, NamesOf};
-use super::received::ReceivedWord;
 use model::DecodedCode;
+use nearest_position::received::ReceivedWord;
 use position::layout::Layout;
 use position::places;
 

@@ -7,21 +7,21 @@ ghost use Rattle.model.specs.Decoded.{meaning};
 ghost use Rattle.model.specs.Order.{lastCodeword};
 ghost use Rattle.model.specs.Reading.{Seen, separatorBy, twoEnds};
 ghost use Rattle.code_theory.specs.Promise.{Sound};
-ghost use Rattle.reader.specs.Received.{ReceivedIn};
+ghost use Rattle.nearest_position.specs.Received.{ReceivedIn};
 ghost use Rattle.reader.specs.RuleAnswers.{foundAt, answerBy, AnswersRule, ReadAs};
-ghost use Rattle.reader.specs.Way.{residualIn};
+ghost use Rattle.nearest_position.specs.Way.{residualIn};
 use super::chunks;
 use super::chunks::ChunksRead;
 use super::chunks::NamedChunks;
 use super::naming;
 use super::naming::NamedRule;
-use super::nearest;
-use super::received;
-use super::received::ReceivedWord;
-use super::scan::Scan;
 use model::DecodedCode;
 use model::ReadAnswer;
 use model::Reading;
+use nearest_position::received;
+use nearest_position::received::ReceivedWord;
+use nearest_position::scan::Scan;
+use nearest_position::two_ends;
 use position::layout;
 use position::layout::Layout;
 use position::places;
@@ -52,13 +52,13 @@ fn by_chunks(
     requires { ⌜ ReceivedIn (meaning code) at x × (1 ≤ named .rule) × (named .rule ≤ 3) × (read .number ≤ lastCodeword (meaning code)) ⌝ }
     ensures { λ r. ⌜ ((s : Seen) → ReadAs s (named .rule) read → separatorBy s (named .rule) ≡ named .separator → r ≡ answerBy (twoEnds (meaning code)) s (residualIn (meaning code) x) (named .rule)) ⌝ }
 {
-    if nearest::no_block(code, named.rule, read.number) {
+    if two_ends::no_block(code, named.rule, read.number) {
         return ReadAnswer::Refused(12);
     }
     if naming::contradicts(named.separator, read.number) {
         return ReadAnswer::Refused(17);
     }
-    let s = nearest::nearest_by(code, at, x, named.rule, read.number);
+    let s = two_ends::nearest_by(code, at, x, named.rule, read.number);
     found(s, named.rule, read)
 }
 

@@ -1,0 +1,5 @@
+pub mod CopiedBytes
+pub mod Scanning
+pub mod Passing
+pub mod BlockResiduals
+pub mod RuleRanges
