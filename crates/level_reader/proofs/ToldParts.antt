@@ -1,5 +1,5 @@
 -- What is told of the five chunks of a word gives them as numbers: its bits, and its places that are heard. Assumes nothing.
-use mathlib.Core.Path.{_≡_, sym}
+use mathlib.Core.Path.{_≡_}
 use Prim.Native.Nat.{ℕ, _+_, _<_}
 use Rattle.bits.specs.Sums.{fromPlace}
 use Rattle.bits.proofs.Places.{number-below, bit-of-number}
@@ -26,15 +26,14 @@ module _ (u : ℕ → ℕ) (bits : (p : ℕ) → u p < 2) where
   -- so five of them are the chunks of a word, where the layout has them
   module _ (C : Code) (l : Layout) (laid : LayoutOf C l) {s₁ c₁ s₂ c₂ s₃ : ℕ} where
     five-numbers : s₁ ≡ numberFrom u 0 (C .D) → c₁ ≡ numberFrom u (l .chunk1) (C .n) → s₂ ≡ numberFrom u (l .separator2) (C .D)
-        → c₂ ≡ numberFrom u (l .chunk2) (C .n) → s₃ ≡ numberFrom u (l .separator3) (C .D) → FiveChunks l (C .n) u s₁ c₁ s₂ c₂ s₃
+        → c₂ ≡ numberFrom u (l .chunk2) (C .n) → s₃ ≡ numberFrom u (l .separator3) (C .D) → FiveChunks (C .n) (C .D) u s₁ c₁ s₂ c₂ s₃
     five-numbers first second third fourth fifth =
-        let long : C .D ≡ l .chunk1 = sym (laid .chunk₁-at) in
         record {
-          separator₁-bits = rw long at (bits-from 0 (C .D) s₁ first);
-          chunk₁-bits = bits-from (l .chunk1) (C .n) c₁ second;
-          separator₂-bits = rw long at (bits-from (l .separator2) (C .D) s₂ third);
-          chunk₂-bits = bits-from (l .chunk2) (C .n) c₂ fourth;
-          separator₃-bits = rw long at (bits-from (l .separator3) (C .D) s₃ fifth);
+          separator₁-bits = bits-from 0 (C .D) s₁ first;
+          chunk₁-bits = rw (laid .chunk₁-at) at (bits-from (l .chunk1) (C .n) c₁ second);
+          separator₂-bits = rw (laid .separator₂-at) at (bits-from (l .separator2) (C .D) s₂ third);
+          chunk₂-bits = rw (laid .chunk₂-at) at (bits-from (l .chunk2) (C .n) c₂ fourth);
+          separator₃-bits = rw (laid .separator₃-at) at (bits-from (l .separator3) (C .D) s₃ fifth);
         }
 
 -- what is told of the five chunks of a word, where the layout has them
@@ -42,12 +41,12 @@ module _ (C : Code) (l : Layout) (laid : LayoutOf C l) (word : ℕ → Told) (a 
     (first : ToldChunkOf word 0 (C .D) a) (second : ToldChunkOf word (l .chunk1) (C .n) b)
     (third : ToldChunkOf word (l .separator2) (C .D) c) (fourth : ToldChunkOf word (l .chunk2) (C .n) d)
     (fifth : ToldChunkOf word (l .separator3) (C .D) e) where
-  pub five-bits : FiveChunks l (C .n) (bitsIn word) (a .bits) (b .bits) (c .bits) (d .bits) (e .bits)
+  pub five-bits : FiveChunks (C .n) (C .D) (bitsIn word) (a .bits) (b .bits) (c .bits) (d .bits) (e .bits)
   five-bits =
       five-numbers (bitsIn word) (bit-told word) C l laid (first .bits-told) (second .bits-told) (third .bits-told) (fourth .bits-told)
       (fifth .bits-told)
 
-  pub five-heard : FiveChunks l (C .n) (heardBits word) (a .heard) (b .heard) (c .heard) (d .heard) (e .heard)
+  pub five-heard : FiveChunks (C .n) (C .D) (heardBits word) (a .heard) (b .heard) (c .heard) (d .heard) (e .heard)
   five-heard =
       five-numbers (heardBits word) (heard-bit word) C l laid (first .heard-told) (second .heard-told) (third .heard-told)
       (fourth .heard-told) (fifth .heard-told)

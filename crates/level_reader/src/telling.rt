@@ -36,8 +36,8 @@ pub fn tell_word(code: DecodedCode, at: Layout, levels: &[f32]) -> ToldWord
     let s2 = chunks::tell_chunk(levels, at.separator2, d, c1.strength);
     let c2 = chunks::tell_chunk(levels, at.chunk2, n, s2.strength);
     let s3 = chunks::tell_chunk(levels, at.separator3, d, c2.strength);
-    let bits = words::put_down(at, n, s1.bits, c1.bits, s2.bits, c2.bits, s3.bits);
-    let heard = words::put_down(at, n, s1.heard, c1.heard, s2.heard, c2.heard, s3.heard);
+    let bits = words::put_down(n, d, s1.bits, c1.bits, s2.bits, c2.bits, s3.bits);
+    let heard = words::put_down(n, d, s1.heard, c1.heard, s2.heard, c2.heard, s3.heard);
     let word = ReceivedWord { bits, heard };
     let strength = s3.strength;
     ToldWord {

@@ -11,8 +11,6 @@ use Rattle.model.specs.Card.{Code}
 use Rattle.model.specs.Order.{codeword}
 use Rattle.model.specs.Words.{word}
 use Rattle.position_theory.proofs.Words.{word-separator₁, word-chunk₁, word-separator₂, word-chunk₂, word-separator₃}
-use Rattle.position.specs.declared.layout.Layout.{Layout}
-use Rattle.position.specs.LayoutOf.{LayoutOf}
 use Rattle.position.specs.FiveChunks.{BitsFrom, FiveChunks}
 use Rattle.position.proofs.ChunkByChunk.{chunk-appended}
 
@@ -34,18 +32,17 @@ pub put-next : (u : ℕ → ℕ) (at len next value : ℕ) → at + len ≡ next
 put-next u at len next value behind bits before put = rw behind at (chunk-appended at len u before (bits .1) put)
 
 -- the chunks of w(i): the parity of i in each separator, and c(i) in either code chunk
-pub chunks-of-word : (C : Code) (l : Layout) → LayoutOf C l → (i parity c : ℕ)
+pub chunks-of-word : (C : Code) (i parity c : ℕ)
     → (parity < 2 ^ C .D) × ((p : ℕ) → p < C .D → bit parity p ≡ i % 2) → (c ≡ codeword C i) × (c < 2 ^ C .n)
-    → FiveChunks l (C .n) (word C i) parity c parity c parity
-chunks-of-word C l laid i parity c (narrow, bits) (is, short) =
-    rw (laid .chunk₁-at, laid .separator₂-at, laid .chunk₂-at, laid .separator₃-at)
-    (record {
+    → FiveChunks (C .n) (C .D) (word C i) parity c parity c parity
+chunks-of-word C i parity c (narrow, bits) (is, short) =
+    record {
       separator₁-bits = (narrow, λ p b. rw zero-add (bits p b ∙ sym (word-separator₁ C i p b)));
       chunk₁-bits = (short, λ p b. code-bit p ∙ sym (word-chunk₁ C i p b));
       separator₂-bits = (narrow, λ p b. bits p b ∙ sym (word-separator₂ C i p b));
       chunk₂-bits = (short, λ p b. code-bit p ∙ sym (word-chunk₂ C i p b));
       separator₃-bits = (narrow, λ p b. bits p b ∙ sym (word-separator₃ C i p));
-    })
+    }
   where
     code-bit : (p : ℕ) → bit c p ≡ bit (codeword C i) p
     code-bit p = ap (λ (x : ℕ). bit x p) is

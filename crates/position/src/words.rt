@@ -7,18 +7,14 @@ ghost use lib.ListN.{length};
 ghost use Rattle.bits.specs.Sums.{distance, joinAt};
 ghost use Rattle.bits.specs.Walk.{walk};
 ghost use Rattle.bits.specs.Places.{bit, place, cut};
-ghost use Rattle.model.specs.Card.{Code};
 ghost use Rattle.model.specs.Decoded.{meaning};
 ghost use Rattle.model.specs.Order.{lastPosition};
 ghost use Rattle.model.specs.Words.{wordBits, word, wordAt, wordBytes, wordLength};
 ghost use Rattle.code_theory.specs.Promise.{Sound};
 ghost use Rattle.position.specs.FiveChunks.{FiveChunks};
 ghost use Rattle.position.specs.HoldsWord.{HoldsWord};
-ghost use Rattle.position.specs.LayoutOf.{LayoutOf};
 use super::blocks;
 use super::hamming;
-use super::layout;
-use super::layout::Layout;
 use super::splice;
 use bit_arithmetic::powers;
 use linear_code::codeword;
@@ -59,37 +55,39 @@ fn separator(i: u32, distance: u32) -> u64
     powers::low_bits(distance)
 }
 
-// A word from the numbers of its five chunks, put down one behind the other; a code chunk has n bits.
+// A word from the numbers of its five chunks, put down one behind the other: code chunks of n bits, separators of d.
 pub fn put_down(
-    at: Layout,
     n: u32,
+    d: u32,
     separator1: u64,
     chunk1: u64,
     separator2: u64,
     chunk2: u64,
     separator3: u64,
 ) -> [u8; 40]
-    requires { ⌜ ((C : Code) × LayoutOf C at × (n ≡ C .n)) ⌝ }
-    requires { ⌜ ((u : ℕ → ℕ) × FiveChunks at n u separator1 chunk1 separator2 chunk2 separator3) ⌝ }
-    ensures { λ r. ⌜ ((C : Code) (u : ℕ → ℕ) → LayoutOf C at → FiveChunks at n u separator1 chunk1 separator2 chunk2 separator3 → HoldsWord C u r) ⌝ }
+    requires { ⌜ (n ≤ 64) × (d ≤ 64) × (d + n + d + n + d ≤ 320) ⌝ }
+    requires { ⌜ ((u : ℕ → ℕ) × FiveChunks n d u separator1 chunk1 separator2 chunk2 separator3) ⌝ }
+    ensures { λ r. ⌜ ((u : ℕ → ℕ) → FiveChunks n d u separator1 chunk1 separator2 chunk2 separator3
+        → (p : ℕ) → place r p ≡ cut (d + n + d + n + d) u p) ⌝ }
 {
-    let d = at.chunk1;
+    let separator2_at = d + n;
+    let chunk2_at = separator2_at + d;
+    let separator3_at = chunk2_at + n;
     let to_chunk1 = put_chunk([0u8; 40], 0, d, separator1);
-    let to_separator2 = put_chunk(to_chunk1, at.chunk1, n, chunk1);
-    let to_chunk2 = put_chunk(to_separator2, at.separator2, d, separator2);
-    let to_separator3 = put_chunk(to_chunk2, at.chunk2, n, chunk2);
-    put_chunk(to_separator3, at.separator3, d, separator3)
+    let to_separator2 = put_chunk(to_chunk1, d, n, chunk1);
+    let to_chunk2 = put_chunk(to_separator2, separator2_at, d, separator2);
+    let to_separator3 = put_chunk(to_chunk2, chunk2_at, n, chunk2);
+    put_chunk(to_separator3, separator3_at, d, separator3)
 }
 
-// w(i), from the parity of i and c(i). It lays the word out itself: a layout that is handed in costs a read 3 % more instructions.
+// w(i), from the parity of i and c(i).
 pub fn word_of(code: DecodedCode, i: u32) -> [u8; 40]
     requires { ⌜ Sound (meaning code) ⌝ }
     ensures { λ r. ⌜ HoldsWord (meaning code) (word (meaning code) i) r ⌝ }
 {
-    let at = layout::layout_of(code);
     let parity = separator(i, code.distance);
     let c = codeword::codeword(code, i);
-    put_down(at, code.n, parity, c, parity, c, parity)
+    put_down(code.n, code.distance, parity, c, parity, c, parity)
 }
 
 // w(i) with the first m places in which w(i) and w(next) differ taken from w(next): the word m steps into the block that leads from one

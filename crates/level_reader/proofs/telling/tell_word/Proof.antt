@@ -1,12 +1,14 @@
 -- `level_reader::telling::tell_word` meets its contract: each chunk is told where the layout has it, the strength going on to where the next
 -- one begins; bits and places heard are those of the five chunks, and the sums those of the separators. Assumes nothing.
-use mathlib.Core.Path.{_≡_, refl, ap, _∙_}
-use Prim.Native.Nat.{ℕ, _+_}
+use mathlib.Core.Path.{_≡_, ap, _∙_}
+use Prim.Native.Nat.{ℕ, _+_, _≤_}
 use native.Mathlib.Omega.{arith}
 use borrow.Author.Needs.{needs}
+use Rattle.bits.specs.Places.{cut}
 use Rattle.bits.proofs.Sums.{from-place-zero}
 use Rattle.model.specs.Card.{Code}
 use Rattle.model.specs.Decoded.{meaning}
+use Rattle.model.specs.Words.{wordBits}
 use Rattle.model.specs.Levels.{toldAt, bitsIn, sumOfLevels, strengthOf}
 use Rattle.model.specs.declared.Told.{Told}
 use Rattle.position.specs.FiveChunks.{FiveChunks}
@@ -83,31 +85,41 @@ module _ (c : tie.After-tell-chunk5) where
   abbrev told₅ : ToldChunk
   told₅ = c .tell-chunk5 .result
 
-  all-bits : FiveChunks (layout known) (C known .n) (bitsIn (word known)) (told₁ .bits) (told₂ .bits) (told₃ .bits) (told₄ .bits) (told₅ .bits)
+  all-bits : FiveChunks (C known .n) (C known .D) (bitsIn (word known)) (told₁ .bits) (told₂ .bits) (told₃ .bits) (told₄ .bits) (told₅ .bits)
   all-bits =
       five-bits _ _ (laid known) _ _ _ _ _ _ (c .before .before .before .before .tell-chunk .ensures .0)
       (c .before .before .before .tell-chunk2 .ensures .0) (c .before .before .tell-chunk3 .ensures .0)
       (c .before .tell-chunk4 .ensures .0) (c .tell-chunk5 .ensures .0)
 
-  all-heard : FiveChunks (layout known) (C known .n) (heardBits (word known)) (told₁ .heard) (told₂ .heard) (told₃ .heard) (told₄ .heard) (told₅ .heard)
+  all-heard : FiveChunks (C known .n) (C known .D) (heardBits (word known)) (told₁ .heard) (told₂ .heard) (told₃ .heard) (told₄ .heard) (told₅ .heard)
   all-heard =
       five-heard _ _ (laid known) _ _ _ _ _ _ (c .before .before .before .before .tell-chunk .ensures .0)
       (c .before .before .before .tell-chunk2 .ensures .0) (c .before .before .tell-chunk3 .ensures .0)
       (c .before .tell-chunk4 .ensures .0) (c .tell-chunk5 .ensures .0)
 
+fits : (c : tie.After-tell-chunk5)
+    → let C′ = C (known c) in (C′ .n ≤ 64) × (C′ .D ≤ 64) × (C′ .D + C′ .n + C′ .D + C′ .n + C′ .D ≤ 320)
+fits c =
+    let at = laid (known c) in (at .chunk-fits, at .separator-fits, omega (arith, at .fits))
+
+-- five chunks put down are a word
+whole : (C : Code) (u : ℕ → ℕ) (p : ℕ) → cut (C .D + C .n + C .D + C .n + C .D) u p ≡ cut (wordBits C) u p
+whole C u p =
+    let bits : C .D + C .n + C .D + C .n + C .D ≡ wordBits C = omega arith in ap (λ (d : ℕ). cut d u p) bits
+
 put-down-requires : tie.Need-put-down-requires
-put-down-requires c κs = ((C (known c), laid (known c), refl), (_, all-bits c))
+put-down-requires c κs = (fits c, (_, all-bits c))
 
 put-down-requires-2 : tie.Need-put-down-requires-2
-put-down-requires-2 c κs = let told = c .before in ((C (known told), laid (known told), refl), (_, all-heard told))
+put-down-requires-2 c κs = let told = c .before in (fits told, (_, all-heard told))
 
 returns : tie.Need-returns
 returns c =
     let told = c .before .before .before in
     let at = laid (known told) in
     record {
-      bits-told = c .before .before .put-down .ensures _ _ at (all-bits told);
-      heard-told = c .before .put-down2 .ensures _ _ at (all-heard told);
+      bits-told = λ p. c .before .before .put-down .ensures _ (all-bits told) p ∙ whole (C (known told)) _ p;
+      heard-told = λ p. c .before .put-down2 .ensures _ (all-heard told) p ∙ whole (C (known told)) _ p;
       sum₁ =
           told .before .before .before .before .tell-chunk .ensures .1 .0
           ∙ ap (λ (separator : ℕ → Told). sumOfLevels separator (C (known told) .D)) (from-place-zero (word (known told)));
