@@ -1,6 +1,6 @@
 -- The places of byte lists. Any m bits are the bits of one number below 2^m, the sum of the bits, each times its power of two; so
 -- packing d places into bytes and reading the places back gives the same places, and 0 past them. Assumes nothing.
-use mathlib.Core.Path.{_≡_, refl, sym, ap, _∙_, fun-ext}
+use mathlib.Core.Path.{_≡_, refl, sym, ap, _∙_}
 use mathlib.Core.List.{List, [], _∷_}
 use mathlib.Core.Logic.{⊎-elim}
 use Prim.Native.Nat.{ℕ, zero, suc, _+_, _*_, _/_, _%_, _^_, _≤_, _<_}
@@ -79,14 +79,6 @@ cut-above d u p h = rw (le-ltb p d h)
 cut-bit : (d : ℕ) (u : ℕ → ℕ) → ((p : ℕ) → u p < 2) → (p : ℕ) → cut d u p < 2
 cut-bit d u bits p =
     ⊎-elim (λ h. rw (cut-below d u p h) (bits p)) (λ h. rw (cut-above d u p h) (omega arith)) (lt-or-le p d)
-
-pub cut-ext : (d : ℕ) (u v : ℕ → ℕ) → ((p : ℕ) → p < d → u p ≡ v p) → cut d u ≡ cut d v
-cut-ext d u v same =
-    fun-ext
-    (λ p.
-    ⊎-elim (λ h. cut-below d u p h ∙ same p h ∙ sym (cut-below d v p h))
-    (λ h. cut-above d u p h ∙ sym (cut-above d v p h))
-    (lt-or-le p d))
 
 -- ---- packing
 

@@ -28,8 +28,8 @@ use reader::reading;
 
 // Writes the word of a position into the lent word. Refused: the card, 1 to 5 or 14; a lent word that has not exactly the bytes of a
 // word, 6; a position above the last, 7. The word that is written differs in just one bit from the word of each neighbouring position
-// (`neighbours`), and is the word of no other position (`alone`). The promises: anything else is written, and a refused write changes no
-// byte of the lent word.
+// (`neighbours`), and is the word of no other position (`alone`). The promises: what is not refused is written, and a refused write changes
+// no byte of the lent word.
 pub fn write_word(card: &[u8], position: u32, word: &mut [u8]) -> WriteAnswer
     ensures answer { λ r. ⌜ r ≡ writeAnswer (now (card .entry)) position (now (word .entry)) ⌝ }
     ensures status { λ r. ⌜ writeStatus r ≡ writeRefusal (now (card .entry)) position (now (word .entry)) ⌝ }
@@ -62,8 +62,9 @@ pub fn write_word(card: &[u8], position: u32, word: &mut [u8]) -> WriteAnswer
 // Of the word of any position on the track, with at most t bits turned in each chunk, the answer is a position, and it is at most
 // twice as many steps off as bits are turned (`bounded`), and at most as many as bits are turned and the residual together (`sharper`).
 // The promises: a chunk that is read needed as many bits as are turned in it; both distances hold also where the divided chunk of that
-// position's word is turned at will, and then the bar about the answer holds the position. Of any word that is read, the answer is the
-// nearest of the positions that the rule allows, a chunk's count is that of the places in which it differs from its codeword, at most t,
+// position's word (`divided`, model/specs/Words.antt; at most one is, by the theorem `at-most-one-divided`) is turned at will and each other
+// one has at most t bits turned, and if then at most e bits are turned in all, the residual plus e on either side of the answer, the bar,
+// holds the position, and the residual is at most e. Of any word that is read, the answer is the nearest of the positions that the rule allows, a chunk's count is that of the places in which it differs from its codeword, at most t,
 // and separator 1, by rule 2 separator 3, has the parity of the codeword's number: a word pasted from two telegrams whose parities differ
 // is never read. 17 changes no other answer.
 pub fn read_word(card: &[u8], word: &[u8]) -> ReadAnswer

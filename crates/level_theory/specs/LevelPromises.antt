@@ -1,4 +1,4 @@
--- Document 02, P5: what is promised of a read of levels, as the contract of the call states it of the card, the levels and the position
+-- Document 02, P5 and P6: what is promised of a read of levels, as the contract of the call states it of the card, the levels and the position
 -- answer, which is the answer but for the strength. Assumes nothing.
 use mathlib.Core.Path.{_≡_}
 use mathlib.Core.Bool.{false}

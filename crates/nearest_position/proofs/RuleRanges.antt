@@ -30,10 +30,6 @@ module _ (C : Code) (p : ℕ) where
   unfolding twoEnds
   no-block₂ = refl
 
-  pub no-block₃ : twoEnds C .noBlock 3 p ≡ false
-  unfolding twoEnds
-  no-block₃ = refl
-
 -- block i, which leads to the codeword after it
 module _ (C : Code) (sound : Sound C) (i next : ℕ) (after : next ≡ i + 1) (inside : i < lastCodeword C) where
   -- at the block's first place stands its start, and at its end the next start

@@ -14,7 +14,7 @@ ghost use Rattle.code_theory.specs.Promise.{Sound};
 ghost use Rattle.position.specs.FiveChunks.{FiveChunks};
 ghost use Rattle.position.specs.HoldsWord.{HoldsWord};
 use super::blocks;
-use super::hamming;
+use super::differences;
 use super::splice;
 use bit_arithmetic::powers;
 use linear_code::codeword;
@@ -99,7 +99,7 @@ pub fn word_in_block(code: DecodedCode, i: u32, next: u32, m: u32) -> [u8; 40]
 {
     let u = word_of(code, i);
     let v = word_of(code, next);
-    splice::spliced(u, v, hamming::place_after(u, v, m))
+    splice::spliced(u, v, differences::place_after(u, v, m))
 }
 
 // The word of a position.

@@ -43,7 +43,7 @@ module _ (C : Code) where
   pub wrong-of-chunks : (R : Rules) {heard : ℕ → Bool} {x : ℕ → ℕ} (s : Seen) → SeesChunks C heard x s → (residual : ℕ → ℕ)
       → refusalOf R s ≡ 0
       → let r : Reading = nearest residual s (ruleSeen s) (allowedBy R s) in
-      BitsSeen ChunkBits C R s (λ named. TellsWrong C named (chunk₁ C heard) (chunk₁ C x))
+      BitsSeen C R s (λ named. TellsWrong C named (chunk₁ C heard) (chunk₁ C x))
       (λ named. TellsWrong C named (chunk₂ C heard) (chunk₂ C x)) (r .rule) (r .chunk1) (r .chunk2)
   unfolding nearest
   wrong-of-chunks R s sees residual none =
@@ -67,7 +67,7 @@ module _ (C : Code) where
 
   pub bits-of-chunks : ChunkPromise C → (x : ℕ → ℕ) → refusalOf (twoEnds C) (seen C x) ≡ 0
       → let r : Reading = nearest (residual C x) (seen C x) (ruleSeen (seen C x)) (allowedBy (twoEnds C) (seen C x)) in
-      BitsOfChunks ChunkBits TellsBits C x (r .rule) (r .chunk1) (r .chunk2)
+      BitsOfChunks C x (r .rule) (r .chunk1) (r .chunk2)
   bits-of-chunks promise x none =
       let bits = wrong-of-chunks (twoEnds C) (seen C x) (plain-sees-chunks C promise x) (residual C x) none in
       record {

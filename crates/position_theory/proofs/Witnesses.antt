@@ -137,7 +137,7 @@ module _ (R : Rules) (last : ℕ) (s : Seen) (residualAt : ℕ → ℕ) where
 -- the rule is the one that the separators name
 told-by-rule : (card received : List ℕ) (r : Reading) → TellsBitsOfChunks card received (At r)
     → let C : Code = codeOf card in
-    BitsOfChunks ChunkBits TellsBits C (place received) (ruleSeen (seen C (place received))) (r .chunk1) (r .chunk2)
+    BitsOfChunks C (place received) (ruleSeen (seen C (place received))) (r .chunk1) (r .chunk2)
 unfolding TellsBitsOfChunks
 told-by-rule card received r promise = let told = promise r refl in rw (told .by-rule) at told
 

@@ -31,11 +31,11 @@ TellsWrong C true heard chunk p answered =
     (count : ℕ) × (answered ≡ Differing count) × (count ≡ chunkWrong C heard chunk p) × (2 * count + lostBelow heard (C .n) < C .D)
 TellsWrong C false heard chunk p answered = answered ≡ NotRead
 
--- What is told of both code chunks of a word of which s is seen, of each in its own form: the rule is the one that the separators name;
+-- What is told of both code chunks of a word of which s is seen: the rule is the one that the separators name;
 -- the chunks that it names read as one codeword c(p), by which it allows positions; and what is told of either chunk is its bits against
 -- that codeword.
-pub record BitsSeen (B : Type 0) (C : Code) (R : Rules) (s : Seen) (Tells₁ Tells₂ : (named : Bool) (p : ℕ) → B → Type 0)
-    (rule : ℕ) (bits₁ bits₂ : B) : Type 0 where
+pub record BitsSeen (C : Code) (R : Rules) (s : Seen) (Tells₁ Tells₂ : (named : Bool) (p : ℕ) → ChunkBits → Type 0)
+    (rule : ℕ) (bits₁ bits₂ : ChunkBits) : Type 0 where
   pub by-rule : rule ≡ ruleSeen s
   pub p : ℕ
   pub in-code : p ≤ lastCodeword C
@@ -43,16 +43,15 @@ pub record BitsSeen (B : Type 0) (C : Code) (R : Rules) (s : Seen) (Tells₁ Tel
   pub first : Tells₁ (namesFirst rule) p bits₁
   pub second : Tells₂ (namesSecond rule) p bits₂
 
--- of the received word x, by `TellsBits` or in another form of it
-abbrev pub BitsOfChunks : (B : Type 0) (Tells : Code → (named : Bool) (chunk : ℕ → ℕ) (p : ℕ) → B → Type 0)
-    → Code → (x : ℕ → ℕ) (rule : ℕ) (bits₁ bits₂ : B) → Type 0
-BitsOfChunks B Tells C x =
-    BitsSeen B C (twoEnds C) (seen C x) (λ named. Tells C named (chunk₁ C x)) (λ named. Tells C named (chunk₂ C x))
+-- of the received word x, all of which is heard
+abbrev pub BitsOfChunks : Code → (x : ℕ → ℕ) (rule : ℕ) (bits₁ bits₂ : ChunkBits) → Type 0
+BitsOfChunks C x =
+    BitsSeen C (twoEnds C) (seen C x) (λ named. TellsBits C named (chunk₁ C x)) (λ named. TellsBits C named (chunk₂ C x))
 
 -- of a word x of which these places are heard
 abbrev pub WrongOfChunks : Code → (heard : ℕ → Bool) (x : ℕ → ℕ) → Seen → (rule : ℕ) (bits₁ bits₂ : ChunkBits) → Type 0
 WrongOfChunks C heard x s =
-    BitsSeen ChunkBits C (twoEnds C) s
+    BitsSeen C (twoEnds C) s
     (λ named. TellsWrong C named (chunk₁ C heard) (chunk₁ C x))
     (λ named. TellsWrong C named (chunk₂ C heard) (chunk₂ C x))
 

@@ -11,13 +11,12 @@ use Rattle.model.specs.Order.{lastPosition}
 use Rattle.model.specs.Words.{wordLength, wordBytes}
 use Rattle.model.specs.Reading.{seen, residual, bitsValue}
 use Rattle.model.specs.ReadWord.{spareSet}
-use Rattle.model.specs.declared.ChunkBits.{ChunkBits}
 use Rattle.model.specs.declared.Reading.{Reading}
 use Rattle.model.specs.declared.ReadAnswer.{ReadAnswer}
 use Rattle.model.specs.declared.ReadAnswer.the-variants.{At}
 use Rattle.position_theory.specs.Damage.{WithinRadius, UndividedWithinRadius, turned, Near, residualOf}
 use Rattle.position_theory.specs.Nearest.{IsReading}
-use Rattle.position_theory.specs.ChunkBits.{BitsOfChunks, TellsBits, AreTurned}
+use Rattle.position_theory.specs.ChunkBits.{BitsOfChunks, AreTurned}
 use Rattle.position_theory.specs.Contradictions.{AgreesIfRead, Pasted, contradicted, unlessContradicted, answerBefore}
 
 -- ---- clauses of their own
@@ -69,7 +68,7 @@ NearestOfAllowed card received answer =
 unfoldable pub TellsBitsOfChunks : (card received : List ℕ) → ReadAnswer → Type 0
 TellsBitsOfChunks card received answer =
     (r : Reading) → answer ≡ At r
-    → BitsOfChunks ChunkBits TellsBits (codeOf card) (place received) (r .rule) (r .chunk1) (r .chunk2)
+    → BitsOfChunks (codeOf card) (place received) (r .rule) (r .chunk1) (r .chunk2)
 
 -- Damage per chunk: for a sound card, every position on its track and whichever bits of that position's word are turned, at most t in
 -- each of the five chunks, a chunk that is read needed as many bits as are turned in it

@@ -1,11 +1,11 @@
--- `position::hamming::byte_unlike` meets its contract: two bytes differ where their exclusive-or has a 1, and it has eight bits.
+-- `position::differences::byte_unlike` meets its contract: two bytes differ where their exclusive-or has a 1, and it has eight bits.
 -- Assumes nothing.
 use native.Mathlib.Omega.{arith}
 use lib.Bits.{xor-lt}
 use Rattle.bits.proofs.Binary.{ones-xor}
 use Rattle.bits.proofs.Distance.{distance-le}
-use Rattle.position.proofs.hamming.byte_unlike.Statement.{statement}
-use Rattle.position.proofs.hamming.byte_unlike.Tie as tie
+use Rattle.position.proofs.differences.byte_unlike.Statement.{statement}
+use Rattle.position.proofs.differences.byte_unlike.Tie as tie
 
 cast-result : tie.Need-cast-result
 cast-result c = omega (arith, xor-lt 8 (c .args .x) (c .args .y) (c .fits .x .fits) (c .fits .y .fits))

@@ -1,4 +1,4 @@
--- `position::hamming::place_after` meets its contract. Both loops keep that u and v differ in `passed` places before the byte, or the
+-- `position::differences::place_after` meets its contract. Both loops keep that u and v differ in `passed` places before the byte, or the
 -- place, that they have come to, and that these are at most m; the second goes on until they are m. It comes to no end of the word
 -- before, since u and v differ in m places at least. The measures are the bytes and the places that are left. Assumes nothing.
 use mathlib.Core.Path.{_≡_, refl}
@@ -13,8 +13,8 @@ use Rattle.bits.specs.Sums.{sumBelow, distance}
 use Rattle.bits.specs.Places.{place}
 use Rattle.bits.proofs.Distance.{distance-suc, distance-le}
 use Rattle.bits.proofs.ByteLists.{distance-byte}
-use Rattle.position.proofs.hamming.place_after.Statement.{statement}
-use Rattle.position.proofs.hamming.place_after.Tie as tie
+use Rattle.position.proofs.differences.place_after.Statement.{statement}
+use Rattle.position.proofs.differences.place_after.Tie as tie
 
 -- u and v differ in `passed` places before place q, at most m
 abbrev Passed : (u v : List ℕ) (m q passed : ℕ) → Type 0
