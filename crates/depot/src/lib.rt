@@ -7,13 +7,13 @@
 // decoded its card.
 pub mod cards;
 mod codes;
-mod levels;
+mod level_words;
 mod words;
 
 pub use cards::check_card;
 pub use codes::make_card;
 pub use codes::vote_chunk;
-pub use levels::read_levels;
+pub use level_words::read_levels;
 pub use words::block_start;
 pub use words::millimetres;
 pub use words::read_word;

@@ -1,10 +1,10 @@
--- `depot::levels::read_levels` meets its contract: a card that is refused is answered by its refusal, and past the card's test the
+-- `depot::level_words::read_levels` meets its contract: a card that is refused is answered by its refusal, and past the card's test the
 -- code is sound, as the reader asks; either answer is the one that the definition gives, of which the clauses are theorems. Assumes
 -- nothing.
 use borrow.Author.Needs.{needs}
 use Rattle.depot.proofs.LevelsReading.{levels-card-refused, levels-read}
-use Rattle.depot.proofs.levels.read_levels.Statement.{statement}
-use Rattle.depot.proofs.levels.read_levels.Tie as tie
+use Rattle.depot.proofs.level_words.read_levels.Statement.{statement}
+use Rattle.depot.proofs.level_words.read_levels.Tie as tie
 
 returns : tie.Need-returns
 returns c =
