@@ -48,7 +48,7 @@ pub fn read(code: DecodedCode, levels: &[f32]) -> LevelsAnswer
     }
     let word = told.word;
     let strength = told.strength;
-    match reading::by_rule(code, word, named) {
+    match reading::by_rule(code, at, word, named) {
         ReadAnswer::At(reading) => LevelsAnswer::At { reading, strength },
         ReadAnswer::Refused(refusal) => LevelsAnswer::Refused(refusal),
     }

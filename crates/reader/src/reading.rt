@@ -7,7 +7,7 @@ ghost use Rattle.model.specs.Decoded.{meaning};
 ghost use Rattle.model.specs.Order.{lastCodeword};
 ghost use Rattle.model.specs.Reading.{Seen, separatorBy, twoEnds};
 ghost use Rattle.code_theory.specs.Promise.{Sound};
-ghost use Rattle.nearest_position.specs.Received.{NothingSpare, ReceivedIn};
+ghost use Rattle.nearest_position.specs.Received.{ReceivedIn};
 ghost use Rattle.reader.specs.RuleAnswers.{foundAt, answerBy, AnswersRule, ReadAs};
 ghost use Rattle.nearest_position.specs.Way.{residualIn};
 use super::chunks;
@@ -62,12 +62,11 @@ fn by_chunks(
     found(s, named.rule, read)
 }
 
-// What the named rule answers. The layout is computed here, not handed in by either reader, which took more instructions.
-pub fn by_rule(code: DecodedCode, x: ReceivedWord, named: NamedRule) -> ReadAnswer
-    requires { ⌜ Sound (meaning code) × NothingSpare (meaning code) x × (1 ≤ named .rule) × (named .rule ≤ 3) ⌝ }
+// What the named rule answers.
+pub fn by_rule(code: DecodedCode, at: Layout, x: ReceivedWord, named: NamedRule) -> ReadAnswer
+    requires { ⌜ ReceivedIn (meaning code) at x × (1 ≤ named .rule) × (named .rule ≤ 3) ⌝ }
     ensures { λ r. ⌜ AnswersRule (twoEnds (meaning code)) (meaning code) (residualIn (meaning code) x) x (named .rule) (named .separator) r ⌝ }
 {
-    let at = layout::layout_of(code);
     match chunks::chunks_named(code, at, x, named.rule) {
         NamedChunks::Refused(refusal) => ReadAnswer::Refused(refusal),
         NamedChunks::Read(read) => by_chunks(code, at, x, named, read),
@@ -95,5 +94,5 @@ pub fn read(code: DecodedCode, word: &[u8]) -> ReadAnswer
     if rule == 0 {
         return ReadAnswer::Refused(9);
     }
-    by_rule(code, x, named)
+    by_rule(code, at, x, named)
 }

@@ -74,8 +74,7 @@ returns-3 c =
 by-rule-requires : tie.Need-by-rule-requires
 by-rule-requires c κs =
     let named = c .before .before .before in (
-      first (test named) .pre,
-      nothing-past (C (test named)) (toldAt (levels (test named))) _ (named .before .tell-word .ensures),
+      (first (test named) .pre, laid (test named), nothing-past (C (test named)) (toldAt (levels (test named))) _ (named .before .tell-word .ensures)),
       omega (arith, c .before .before .if3 .left),
       names named .at-most-three,
     )

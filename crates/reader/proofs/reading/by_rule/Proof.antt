@@ -6,7 +6,7 @@ use Rattle.reader.proofs.reading.by_rule.Tie as tie
 
 chunks-named-requires : tie.Need-chunks-named-requires
 chunks-named-requires c κs =
-    let (sound, spare, low, high) = c .before .pre in (sound, c .layout-of .ensures, low, high)
+    let ((sound, laid, spare), low, high) = c .pre in (sound, laid, low, high)
 
 returns : tie.Need-returns
 unfolding ReadsNamed
@@ -17,10 +17,9 @@ by-chunks-requires : tie.Need-by-chunks-requires
 unfolding ReadsNamed
 by-chunks-requires c κs =
     let named = c .before .before .before in
-    let laid = named .before in
-    let (sound, spare, low, high) = laid .before .pre in
+    let (held, low, high) = named .before .pre in
     let read = rw (c .before .read .given .1) at (named .chunks-named .ensures) in
-    ((sound, laid .layout-of .ensures, spare), low, high, read .0)
+    (held, low, high, read .0)
 
 returns-2 : tie.Need-returns-2
 unfolding ReadsNamed
@@ -30,4 +29,4 @@ returns-2 c s sees separator =
     c .by-chunks .ensures s (read .1 s sees) separator
 
 pub by-rule-spec : {M : Type 1} → statement M
-by-rule-spec = tie.close (tie.spec (λ c κs. search needs) chunks-named-requires (λ c. search needs) (λ c. search needs) by-chunks-requires returns returns-2)
+by-rule-spec = tie.close (tie.spec chunks-named-requires (λ c. search needs) (λ c. search needs) by-chunks-requires returns returns-2)

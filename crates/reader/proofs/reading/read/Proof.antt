@@ -101,8 +101,7 @@ by-rule-requires c κs =
     let counted = none .before in
     let held = got counted .plain in
     let unset = none-spare _ _ (whole counted) _ (spare counted) (none .if2 .left) in (
-      first counted .pre,
-      nothing-spare (C counted) (received counted) (held .result) (held .ensures) (whole counted) unset,
+      (first counted .pre, laid counted, nothing-spare (C counted) (received counted) (held .result) (held .ensures) (whole counted) unset),
       omega (arith, c .if3 .left),
       at-named .named-rule .ensures .at-most-three,
     )
