@@ -9,7 +9,6 @@ ghost use Rattle.model.specs.Reading.{majority, seen, ruleOf, separatorOf, pari
 ghost use Rattle.position.specs.LayoutOf.{LayoutOf};
 ghost use Rattle.reader.specs.Naming.{Names, NamesOf};
 use model::DecodedCode;
-use nearest_position::received::ReceivedWord;
 use position::layout::Layout;
 use position::places;
 
@@ -66,12 +65,11 @@ fn separator_at(w: [u8; 40], at: u32, distance: u32) -> u32
     }
 }
 
-// What the separators of a plain word name.
-pub fn named_rule(code: DecodedCode, at: Layout, x: ReceivedWord) -> NamedRule
+// What the separators of a plain word name, by its bits.
+pub fn named_rule(code: DecodedCode, at: Layout, bits: [u8; 40]) -> NamedRule
     requires { ⌜ LayoutOf (meaning code) at ⌝ }
-    ensures { λ r. ⌜ NamesOf (seen (meaning code) (place (x .bits))) r ⌝ }
+    ensures { λ r. ⌜ NamesOf (seen (meaning code) (place bits)) r ⌝ }
 {
-    let bits = x.bits;
     let s1 = separator_at(bits, 0, code.distance);
     let s2 = separator_at(bits, at.separator2, code.distance);
     let s3 = separator_at(bits, at.separator3, code.distance);

@@ -89,7 +89,7 @@ pub fn read(code: DecodedCode, word: &[u8]) -> ReadAnswer
     if places::ones_from(held, bits, 8 * len as u32 - bits) != 0 {
         return ReadAnswer::Refused(8);
     }
-    let named = naming::named_rule(code, at, x);
+    let named = naming::named_rule(code, at, held);
     let rule = named.rule;
     if rule == 0 {
         return ReadAnswer::Refused(9);

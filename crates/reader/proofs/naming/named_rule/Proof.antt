@@ -14,10 +14,10 @@ returns c =
     let third = c .before in
     let second = third .before in
     let first = second .before in
-    let at = first .before .before .pre in
-    let args = first .before .before .args in
-    let s₁ : first .separator-at .result ≡ majority (args .code .distance) (place (args .x .bits)) =
-    first .separator-at .ensures ∙ ap (majority (args .code .distance)) (from-place-zero (place (args .x .bits))) in
+    let at = first .before .pre in
+    let args = first .before .args in
+    let s₁ : first .separator-at .result ≡ majority (args .code .distance) (place (args .bits)) =
+    first .separator-at .ensures ∙ ap (majority (args .code .distance)) (from-place-zero (place (args .bits))) in
     let s₂ = rw (at .separator₂-at) at (second .separator-at2 .ensures) in
     let s₃ = rw (at .separator₃-at) at (third .separator-at3 .ensures) in
     rw (s₁, s₂, s₃) at (c .named-by .ensures)
