@@ -30,6 +30,13 @@ pub record Call {A B : Type 0} (status : A → ℕ) (values : A → List B) (ref
   pub decodes : told .refusal ≡ 0 → decode (values (told .served)) ≡ told .served
   pub promised : Promise answer
 
+-- a status is that of the answer that it tells
+pub status-told : {A : Type 0} (status : A → ℕ) (refused : ℕ → A) (served : A) → ((n : ℕ) → status (refused n) ≡ n) → status served ≡ 0
+    → (s : ℕ) → status (unlessRefused s refused served) ≡ s
+status-told status refused served number zero s =
+    ⊎-elim (λ (none : s ≡ 0). ap status (served-if-none s refused served none) ∙ zero ∙ sym none)
+    (λ (some : s ≡ 0 → ⊥). ap status (refused-if-some s refused served some) ∙ number s) (eq-or-ne s 0)
+
 no-values : {B : Type 0} (values : List B) (first : B) (rest : List B) → values ≡ first ∷ rest → values ≡ [] → ⊥
 no-values values first rest some none = let never : _≡_ {A = ℕ} 0 1 = cc in omega arith
 
@@ -43,8 +50,8 @@ module _ {A B : Type 0} {status : A → ℕ} {values : A → List B} {refused : 
 
   status-is : status answer ≡ told .refusal
   status-is =
-      ⊎-elim (λ (none : told .refusal ≡ 0). ap status (is-served none) ∙ told .served-told .0 ∙ sym none)
-      (λ (some : told .refusal ≡ 0 → ⊥). ap status (is-refused some) ∙ told .refused-told (told .refusal) .0) (eq-or-ne (told .refusal) 0)
+      ap status (told .is)
+      ∙ status-told status refused (told .served) (λ n. told .refused-told n .0) (told .served-told .0) (told .refusal)
 
   -- no call is refused by the number 0, so a refusal leaves what was lent
   pub refused-nonzero : (n : ℕ) → answer ≡ refused n → n ≡ 0 → ⊥

@@ -5,4 +5,5 @@ pub mod Distances
 pub mod ReadsCross
 pub mod Writes
 pub mod MadeCards
+pub mod NothingLost
 pub mod Witnesses

@@ -1,6 +1,5 @@
 -- What is written out over status and numbers says the same of the answer that they stand for: a status of 0 is that of a word that is
--- read. Which answer that is computes. Assumes nothing.
-use mathlib.Core.Path.{refl}
+-- read. Assumes nothing.
 use mathlib.Core.List.{List}
 use Prim.Native.Nat.{ℕ, zero, suc, _+_}
 use native.Mathlib.Omega.{arith}
@@ -9,10 +8,10 @@ use Rattle.position_theory.specs.Damage.{Near, residualOf}
 use Rattle.position_theory.specs.ReadPromises.{OffByAtMostTwiceTurned, OffByAtMostTurnedAndResidual}
 use Rattle.level_theory.specs.LevelPromises.{OffByAtMostTwiceWrongAndLost}
 use Rattle.dunnavish.specs.Crossing.{UnchangedUnlessZero}
-use Rattle.dunnavish.specs.Decoding.{residualLeft, cardLeft, writeLeft, bitsLeft, readLeft, millimetresLeft, voteLeft}
+use Rattle.dunnavish.specs.Decoding.{residualLeft, readLeft}
 use Rattle.dunnavish.specs.Demands.{ServedNear, ServedWithinTwiceTurned, ServedWithinTurnedAndResidual, ServedWithinTwiceWrongAndLost}
 use Rattle.dunnavish.specs.Demands.{MadeWithinLimits}
-use Rattle.dunnavish.specs.Witnesses.{Decoded, HeldForC}
+use Rattle.dunnavish.specs.Witnesses.{HeldForC}
 
 near-of : (status : ℕ) (left : List ℕ) (position e : ℕ) → ServedNear status left position e → Near (readLeft status left) position e
 unfolding ServedNear readLeft unlessRefused Near
@@ -25,29 +24,11 @@ unfolding ServedNear readLeft unlessRefused Near residualOf
 near-with-residual-of zero left position e (served, low, high) = (low, high)
 near-with-residual-of (suc status) left position e (served, low, high) = absurd (omega arith)
 
-decoded : Decoded
-unfolding cardLeft writeLeft bitsLeft readLeft millimetresLeft voteLeft unlessRefused
-decoded =
-    record {
-      checked = refl;
-      check-refused = λ left. refl;
-      written = refl;
-      write-refused = refl;
-      by-rule-1 = refl;
-      by-rule-2 = refl;
-      read-refused = λ left. refl;
-      before-the-face = refl;
-      distance-refused = refl;
-      voted = refl;
-      vote-refused = λ left. refl;
-    }
-
 pub held-for-C : HeldForC
 unfolding ServedWithinTwiceTurned OffByAtMostTwiceTurned ServedWithinTurnedAndResidual OffByAtMostTurnedAndResidual
     ServedWithinTwiceWrongAndLost OffByAtMostTwiceWrongAndLost UnchangedUnlessZero MadeWithinLimits
 held-for-C =
     record {
-      decoded = decoded;
       read = λ card received lent status left five.
           record {
             bounded = λ promise position sound on-track within.

@@ -1,4 +1,5 @@
 pub mod Crossing
 pub mod Decoding
 pub mod Demands
+pub mod NothingLost
 pub mod Witnesses
