@@ -1,95 +1,86 @@
--- One law for all calls for C: where the right count is lent, what a call returns and leaves decodes to the library's answer, so whatever
--- is promised of that answer holds of what it decodes to. Of a call it is asked how its answers are told, and that the values of an
--- answer that is served decode to it. Assumes nothing.
-use mathlib.Core.Path.{_≡_, sym, ap, subst, _∙_}
-use mathlib.Core.List.{List, [], _∷_}
-use mathlib.Core.Logic.{⊎-elim}
+-- The laws for all calls for C, one for each way out: the wrong count, a refusal, and the values put down. Each gives the whole contract of
+-- a call from what the library's own contract says of its answer: where the right count is lent, what is returned and left decodes to that
+-- answer, so whatever is promised of it holds of what is decoded. Assumes nothing.
+use mathlib.Core.Path.{_≡_, refl, sym, ap, subst, _∙_}
+use mathlib.Core.Bool.{false, false≢true}
+use mathlib.Core.List.{List, []}
 use Prim.Native.Nat.{ℕ}
-use native.Mathlib.Omega.{arith}
 use borrow.Author.Tests.{eq-eqb}
+use lib.Dec.{eqb}
 use lib.ListN.{length}
-use Rattle.bits.proofs.Numbers.{eq-or-ne}
-use Rattle.model.specs.Refusals.{unlessRefused}
+use lib.Seq.{sets}
+use Rattle.model.specs.Refusals.{unlessRefused, ifServed}
 use Rattle.code_theory.proofs.Refusals.{served-if-none, refused-if-some}
-use Rattle.dunnavish.specs.Crossing.{statusFor, leftBy, UnchangedUnlessZero}
-use Rattle.dunnavish.proofs.Lent.{Crosses, refusal-crosses, status-lent, unchanged-by}
+use Rattle.dunnavish.specs.Crossing.{wrongCount, statusFor, leftBy, UnchangedUnlessZero}
+use Rattle.dunnavish.proofs.Lent.{Crosses, wrong-count-crosses, refusal-crosses, values-cross, unchanged-by, all-stored}
 
--- How a call's answer is told: it is the refusal by this number, or where that is 0 what is served; a refusal has its number for a status
--- and no values, what is served 0 and some values.
-pub record Told {A B : Type 0} (status : A → ℕ) (values : A → List B) (refused : ℕ → A) (answer : A) : Type 0 where
-  pub refusal : ℕ
-  pub served : A
-  pub is : answer ≡ unlessRefused refusal refused served
-  pub refused-told : (n : ℕ) → (status (refused n) ≡ n) × (values (refused n) ≡ [])
-  pub served-told : (status served ≡ 0) × ((first : B) × (rest : List B) × (values served ≡ first ∷ rest))
+module _ {A B : Type 0} (status : A → ℕ) (values : A → List B) where
+  -- what the library's contract says of the values of what it answers: where it serves they are these figures, and there are some
+  abbrev pub Serves : (figures : List B) (answered : A) → Type 0
+  Serves figures answered = (values answered ≡ ifServed (status answered) figures) × (eqb (length figures) 0 ≡ false)
 
--- and a call: the values of what is served decode to it, and the answer is as promised
-pub record Call {A B : Type 0} (status : A → ℕ) (values : A → List B) (refused : ℕ → A) (decode : List B → A) (Promise : A → Type 0)
-    (answer : A) : Type 0 where
-  pub told : Told status values refused answer
-  pub decodes : told .refusal ≡ 0 → decode (values (told .served)) ≡ told .served
-  pub promised : Promise answer
+  -- a refusal has no values, so it has not the number 0
+  pub refused-nonzero : {answered refusal : A} (figures : List B) → Serves figures answered → answered ≡ refusal → values refusal ≡ []
+      → status refusal ≡ 0 → ⊥
+  unfolding ifServed
+  refused-nonzero {answered} figures (serves, some) is none served-0 =
+      let no-figures : figures ≡ [] = sym (serves ∙ rw (eq-eqb (status answered) 0 (ap status is ∙ served-0))) ∙ ap values is ∙ none in
+      false≢true (sym some ∙ rw no-figures)
 
--- a status is that of the answer that it tells
-pub status-told : {A : Type 0} (status : A → ℕ) (refused : ℕ → A) (served : A) → ((n : ℕ) → status (refused n) ≡ n) → status served ≡ 0
-    → (s : ℕ) → status (unlessRefused s refused served) ≡ s
-status-told status refused served number zero s =
-    ⊎-elim (λ (none : s ≡ 0). ap status (served-if-none s refused served none) ∙ zero ∙ sym none)
-    (λ (some : s ≡ 0 → ⊥). ap status (refused-if-some s refused served some) ∙ number s) (eq-or-ne s 0)
+  -- what crosses of a refusal, and of what is served, where the right count is lent
+  module _ {count : ℕ} (lent : List B) {answer answered : A} (alike : length lent ≡ count) (is : answered ≡ answer) where
+    pub refused-crosses : (figures : List B) → Serves figures answered → {refusal : A} {n : ℕ} → answered ≡ refusal
+        → status refusal ≡ n → values refusal ≡ [] → Crosses count lent (status answer) (values answer) n lent
+    refused-crosses figures serves {refusal} {n} refused number none =
+        let nonzero : n ≡ 0 → ⊥ = λ zero. refused-nonzero figures serves refused none (number ∙ zero) in
+        rw (ap status (sym is ∙ refused) ∙ number) (refusal-crosses count lent alike n nonzero (values answer))
 
-no-values : {B : Type 0} (values : List B) (first : B) (rest : List B) → values ≡ first ∷ rest → values ≡ [] → ⊥
-no-values values first rest some none = let never : _≡_ {A = ℕ} 0 1 = cc in omega arith
+    served-crosses : {served : A} {left : List B} → answered ≡ served → status served ≡ 0 → left ≡ values served
+        → Crosses count lent (status answer) (values answer) 0 left
+    served-crosses {served} {left} given zero put =
+        let same : answer ≡ served = sym is ∙ given in
+        rw (ap status same ∙ zero, ap values same, put) (values-cross count lent alike (values served))
 
-module _ {A B : Type 0} {status : A → ℕ} {values : A → List B} {refused : ℕ → A} {answer : A}
-    (told : Told status values refused answer) where
-  is-served : told .refusal ≡ 0 → answer ≡ told .served
-  is-served none = told .is ∙ served-if-none (told .refusal) refused (told .served) none
+    -- the values put down by one store for each
+    pub stored-crosses : {served : A} → answered ≡ served → status served ≡ 0 → length (values served) ≡ count
+        → Crosses count lent (status answer) (values answer) 0 (sets lent 0 (values served))
+    stored-crosses {served} given zero size = served-crosses given zero (all-stored (values served) lent (alike ∙ sym size))
 
-  is-refused : (told .refusal ≡ 0 → ⊥) → answer ≡ refused (told .refusal)
-  is-refused some = told .is ∙ refused-if-some (told .refusal) refused (told .served) some
+module _ {A B : Type 0} (status : A → ℕ) (values : A → List B) (refusal : ℕ → A) (decoded : ℕ → List B → A) (Promise : A → Type 0) where
+  -- the contract of a call: its status, what is left, that nothing has changed unless the status is 0, and the promise of what is decoded
+  abbrev pub Contract : (count : ℕ) (lent : List B) (answer : A) (s : ℕ) (left : List B) → Type 0
+  Contract count lent answer s left =
+      (s ≡ statusFor count lent (status answer))
+      × ((left ≡ leftBy s (values answer) lent) × (UnchangedUnlessZero lent s left × (length lent ≡ count → Promise (decoded s left))))
 
-  status-is : status answer ≡ told .refusal
-  status-is =
-      ap status (told .is)
-      ∙ status-told status refused (told .served) (λ n. told .refused-told n .0) (told .served-told .0) (told .refusal)
+  module _ {count : ℕ} (lent : List B) (answer : A) where
+    inherits : (s : ℕ) (left : List B) → Crosses count lent (status answer) (values answer) s left
+        → (length lent ≡ count → Promise (decoded s left)) → Contract count lent answer s left
+    inherits s left (is-status, is-left) promised =
+        (is-status, (is-left, (unchanged-by s (values answer) lent left is-left, promised)))
 
-  -- no call is refused by the number 0, so a refusal leaves what was lent
-  pub refused-nonzero : (n : ℕ) → answer ≡ refused n → n ≡ 0 → ⊥
-  refused-nonzero n is zero =
-      let (number, none) = told .refused-told n in
-      let (first, rest, some) = told .served-told .1 in
-      let served = is-served (sym status-is ∙ ap status is ∙ number ∙ zero) in
-      no-values (values answer) first rest (ap values served ∙ some) (ap values is ∙ none)
+    pub wrong-count : (length lent ≡ count → ⊥) → Contract count lent answer wrongCount lent
+    wrong-count unlike =
+        inherits wrongCount lent (wrong-count-crosses count lent unlike (status answer) (values answer)) (λ alike. absurd (unlike alike))
 
-  pub refused-crosses : (count : ℕ) (lent : List B) → length lent ≡ count → (n : ℕ) → answer ≡ refused n
-      → Crosses count lent (status answer) (values answer) n lent
-  refused-crosses count lent alike n is =
-      rw (ap status is ∙ told .refused-told n .0) (refusal-crosses count lent alike n (refused-nonzero n is) (values answer))
+    module _ {answered : A} (alike : length lent ≡ count) (is : answered ≡ answer) (promised : Promise answered) where
+      pub refused : (figures : List B) → Serves status values figures answered → (n : ℕ) → answered ≡ refusal n
+          → status (refusal n) ≡ n → values (refusal n) ≡ [] → (other : A) → decoded n lent ≡ unlessRefused n refusal other
+          → Contract count lent answer n lent
+      refused figures serves n given number none other decodes =
+          let nonzero : n ≡ 0 → ⊥ = λ zero. refused-nonzero status values figures serves given none (number ∙ zero) in
+          let back : decoded n lent ≡ answered = decodes ∙ refused-if-some n refusal other nonzero ∙ sym given in
+          inherits n lent (refused-crosses status values lent alike is figures serves given number none)
+          (λ _. subst Promise (sym back) promised)
 
-module _ {A B : Type 0} {status : A → ℕ} {values : A → List B} {refused : ℕ → A} {decode : List B → A} {Promise : A → Type 0} {answer : A}
-    (call : Call status values refused decode Promise answer) where
-  -- the law
-  pub decodes-to : (s : ℕ) (left lent : List B) → s ≡ status answer → left ≡ leftBy s (values answer) lent
-      → unlessRefused s refused (decode left) ≡ answer
-  unfolding leftBy
-  decodes-to s left lent is-status is-left =
-      let told = call .told in
-      let number : s ≡ told .refusal = is-status ∙ status-is told in
-      ⊎-elim
-      (λ (none : told .refusal ≡ 0).
-      let put : left ≡ values answer = is-left ∙ rw (eq-eqb s 0 (number ∙ none)) in
-      served-if-none s refused (decode left) (number ∙ none)
-      ∙ ap decode (put ∙ ap values (is-served told none)) ∙ call .decodes none ∙ sym (is-served told none))
-      (λ (some : told .refusal ≡ 0 → ⊥).
-      refused-if-some s refused (decode left) (λ zero. some (sym number ∙ zero)) ∙ ap refused number ∙ sym (is-refused told some))
-      (eq-or-ne (told .refusal) 0)
+      pub served : (answers : A) (left : List B) → answered ≡ answers → status answers ≡ 0 → left ≡ values answers
+          → decoded 0 (values answers) ≡ unlessRefused 0 refusal answers → Contract count lent answer 0 left
+      served answers left given zero put decodes =
+          let back : decoded 0 left ≡ answered = ap (decoded 0) put ∙ decodes ∙ served-if-none 0 refusal answers refl ∙ sym given in
+          inherits 0 left (served-crosses status values lent alike is given zero put) (λ _. subst Promise (sym back) promised)
 
-  pub inherits : (count : ℕ) (lent : List B) (s : ℕ) (left : List B) → Crosses count lent (status answer) (values answer) s left
-      → (s ≡ statusFor count lent (status answer))
-      × ((left ≡ leftBy s (values answer) lent)
-      × (UnchangedUnlessZero lent s left × (length lent ≡ count → Promise (unlessRefused s refused (decode left)))))
-  inherits count lent s left (is-status, is-left) =
-      let decoded : length lent ≡ count → unlessRefused s refused (decode left) ≡ answer =
-      λ alike. decodes-to s left lent (is-status ∙ status-lent count lent alike (status answer)) is-left in
-      let unchanged = unchanged-by s (values answer) lent left is-left in
-      (is-status, (is-left, (unchanged, λ alike. subst Promise (sym (decoded alike)) (call .promised))))
+      -- by one store for each of them
+      pub stored : (answers : A) → answered ≡ answers → status answers ≡ 0 → length (values answers) ≡ count
+          → decoded 0 (values answers) ≡ unlessRefused 0 refusal answers → Contract count lent answer 0 (sets lent 0 (values answers))
+      stored answers given zero size =
+          served answers (sets lent 0 (values answers)) given zero (all-stored (values answers) lent (alike ∙ sym size))

@@ -1,6 +1,6 @@
 pub mod Lent
 pub mod Inherited
-pub mod ReadCalls
+pub mod ReadsDecode
 pub mod Distances
 pub mod ReadsCross
 pub mod Writes

@@ -1,6 +1,6 @@
 -- Decoding loses nothing, of every call: a status is that of the answer which it decodes to, and a list of so many entries is the list of
 -- its entries, from which the values of the answer were taken. Assumes nothing.
-use mathlib.Core.Path.{_≡_, refl, ap, _∙_}
+use mathlib.Core.Path.{_≡_, refl, sym, ap, _∙_}
 use mathlib.Core.List.{List, [], _∷_}
 use mathlib.Core.Logic.{⊎-elim}
 use Prim.Native.Nat.{ℕ, zero, suc}
@@ -16,14 +16,32 @@ use Rattle.model.specs.WriteWord.{writeStatus}
 use Rattle.model.specs.ReadWord.{readStatus, readValues}
 use Rattle.model.specs.Millimetres.{millimetresStatus, millimetresValues}
 use Rattle.model.specs.VoteChunk.{voteStatus, voteValues}
+use Rattle.code_theory.proofs.Refusals.{served-if-none, refused-if-some}
 use Rattle.model.specs.declared.CardAnswer.the-variants.{Refused as CardRefused}
 use Rattle.model.specs.declared.WriteAnswer.the-variants.{Refused as WriteRefused}
 use Rattle.model.specs.declared.ReadAnswer.the-variants.{Refused as ReadRefused}
 use Rattle.model.specs.declared.MillimetresAnswer.the-variants.{Refused as MillimetresRefused}
 use Rattle.model.specs.declared.VoteAnswer.the-variants.{Refused as VoteRefused}
 use Rattle.dunnavish.specs.Decoding.{cardLeft, writeLeft, bitsLeft, readLeft, millimetresLeft, voteLeft}
-use Rattle.dunnavish.specs.NothingLost.{NothingLost}
-use Rattle.dunnavish.proofs.Inherited.{status-told}
+use Rattle.dunnavish.specs.NothingLost.{Kept, NothingLost}
+
+-- a status is that of the answer which it decodes to
+status-told : {A : Type 0} (status : A → ℕ) (refused : ℕ → A) (served : A) → ((n : ℕ) → status (refused n) ≡ n) → status served ≡ 0
+    → (s : ℕ) → status (unlessRefused s refused served) ≡ s
+status-told status refused served number served-0 s =
+    ⊎-elim (λ (none : s ≡ 0). ap status (served-if-none s refused served none) ∙ served-0 ∙ sym none)
+    (λ (some : s ≡ 0 → ⊥). ap status (refused-if-some s refused served some) ∙ number s) (eq-or-ne s 0)
+
+-- so decoding keeps both, where it keeps what is served
+kept : {A B : Type 0} {status : A → ℕ} {values : A → List B} (refused : ℕ → A) (served : List B → A) (count : ℕ)
+    → ((n : ℕ) → status (refused n) ≡ n) → ((left : List B) → status (served left) ≡ 0)
+    → ((left : List B) → length left ≡ count → values (served left) ≡ left)
+    → Kept status values (λ s left. unlessRefused s refused (served left)) count
+kept {status} {values} refused served count number served-0 whole =
+    record {
+      status-kept = λ s left. status-told status refused (served left) number (served-0 left) s;
+      values-kept = λ left is. ap values (served-if-none 0 refused (served left) refl) ∙ whole left is;
+    }
 
 -- the entries of a list from place i on, so many
 abbrev entriesFrom : {A : Type 0} (d : A) (l : List A) (i many : ℕ) → List A
@@ -34,11 +52,11 @@ entries-after : {A : Type 0} (d x : A) (l : List A) (i many : ℕ) → entriesFr
 entries-after d x l i zero = refl
 entries-after d x l i (suc many) = rw (entries-after d x l (suc i) many)
 
-all-entries : {A : Type 0} (d : A) (l : List A) (many : ℕ) → length l ≡ many → entriesFrom d l 0 many ≡ l
-all-entries d [] zero is = refl
-all-entries d [] (suc many) is = absurd (omega arith)
-all-entries d (x ∷ l) zero is = absurd (omega arith)
-all-entries d (x ∷ l) (suc many) is = rw (entries-after d x l 0 many, all-entries d l many (omega arith))
+all-entries : {A : Type 0} (d : A) (many : ℕ) (l : List A) → length l ≡ many → entriesFrom d l 0 many ≡ l
+all-entries d zero [] is = refl
+all-entries d (suc many) [] is = absurd (omega arith)
+all-entries d zero (x ∷ l) is = absurd (omega arith)
+all-entries d (suc many) (x ∷ l) is = rw (entries-after d x l 0 many, all-entries d many l (omega arith))
 
 bits-kept : (left : ℕ) → bitsValue (bitsLeft left) ≡ left
 unfolding bitsValue bitsLeft
@@ -51,16 +69,11 @@ unfolding cardLeft cardStatus cardValues writeLeft writeStatus readLeft readStat
     millimetresValues voteLeft voteStatus voteValues unlessRefused
 nothing-lost =
     record {
-      check = record { status-kept = λ s left. status-told cardStatus CardRefused _ (λ n. refl) refl s; values-kept = λ left is. all-entries 0 left 7 is };
-      read = record {
-        status-kept = λ s left. status-told readStatus ReadRefused _ (λ n. refl) refl s;
-        values-kept = λ left is. rw (bits-kept (getD left 3 0), bits-kept (getD left 4 0)) (all-entries 0 left 5 is);
-      };
-      distance = record {
-        status-kept = λ s left. status-told millimetresStatus MillimetresRefused _ (λ n. refl) refl s;
-        values-kept = λ left is. all-entries (pos 0) left 1 is;
-      };
-      vote = record { status-kept = λ s left. status-told voteStatus VoteRefused _ (λ n. refl) refl s; values-kept = λ left is. all-entries 0 left 2 is };
+      check = kept CardRefused _ _ (λ n. refl) (λ left. refl) (all-entries 0 7);
+      read = kept ReadRefused _ _ (λ n. refl) (λ left. refl)
+          (λ left is. rw (bits-kept (getD left 3 0), bits-kept (getD left 4 0)) (all-entries 0 5 left is));
+      distance = kept MillimetresRefused _ _ (λ n. refl) (λ left. refl) (all-entries (pos 0) 1);
+      vote = kept VoteRefused _ _ (λ n. refl) (λ left. refl) (all-entries 0 2);
       write = λ s. status-told writeStatus WriteRefused _ (λ n. refl) refl s;
       written = refl;
       by-rule-1 = refl;

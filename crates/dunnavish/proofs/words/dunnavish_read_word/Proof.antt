@@ -1,32 +1,37 @@
--- `dunnavish::words::dunnavish_read_word` meets its contract: the count of the lent numbers, then what the library answered. Assumes
--- nothing.
-use mathlib.Core.Path.{sym, _∙_}
+-- `dunnavish::words::dunnavish_read_word` meets its contract: the count of the lent numbers, then the library's answer. Assumes nothing.
+use mathlib.Core.Path.{refl}
 use borrow.Author.Needs.{needs}
-use Rattle.model.specs.ReadWord.{readStatus, readValues}
-use Rattle.dunnavish.specs.Crossing.{readCount}
-use Rattle.dunnavish.proofs.Lent.{wrong-count-crosses, values-cross}
-use Rattle.dunnavish.proofs.Inherited.{refused-crosses}
-use Rattle.dunnavish.proofs.ReadCalls.{read-call}
-use Rattle.dunnavish.proofs.ReadsCross.{read-crosses}
+use Rattle.model.specs.ReadWord.{readStatus, readValues, readFigures}
+use Rattle.model.specs.declared.ReadAnswer.the-variants.{Refused}
+use Rattle.dunnavish.specs.Decoding.{readLeft}
+use Rattle.dunnavish.proofs.Inherited.{wrong-count, refused, served}
+use Rattle.dunnavish.proofs.ReadsDecode.{read-decodes}
+use Rattle.dunnavish.proofs.ReadsCross.{PromisedOfRead, read-crosses}
 use Rattle.dunnavish.proofs.words.dunnavish_read_word.Statement.{statement}
 use Rattle.dunnavish.proofs.words.dunnavish_read_word.Tie as tie
 
 returns : tie.Need-returns
-returns c = read-crosses _ _ _ _ _ (wrong-count-crosses readCount _ (c .if1 .taken) _ _)
+returns c = read-crosses _ _ _ _ _ (wrong-count readStatus readValues Refused readLeft (PromisedOfRead _ _) _ _ (c .if1 .taken))
 
 returns-2 : tie.Need-returns-2
+unfolding readStatus readValues readFigures readLeft
 returns-2 c =
     let asked = c .before .before .before in
-    let is = sym (asked .read-word .ensures .0) ∙ c .before .answer .given .1 in
-    read-crosses _ _ _ _ _ (refused-crosses (read-call _ _ .told) readCount _ (asked .before .if1 .left) _ is)
+    let (is, (_, (serves, promised))) = asked .read-word .ensures in
+    read-crosses _ _ _ _ _
+    (refused readStatus readValues Refused readLeft (PromisedOfRead _ _) _ _ (asked .before .if1 .left) is promised _ (serves, refl) _
+    (c .before .answer .given .1) refl refl _ refl)
 
 returns-3 : tie.Need-returns-3
-unfolding readStatus readValues
+unfolding readStatus
 returns-3 c =
     let arm = c .before .before .before .before .before in
     let asked = arm .before .before in
-    let is = sym (asked .read-word .ensures .0) ∙ arm .answer2 .given .1 in
-    read-crosses _ _ _ _ _ (rw (is, c .before .before .put-reading .ensures) (values-cross readCount _ (asked .before .if1 .left) _))
+    let given = arm .answer2 .given .1 in
+    let (is, (_, (_, promised))) = asked .read-word .ensures in
+    read-crosses _ _ _ _ _
+    (served readStatus readValues Refused readLeft (PromisedOfRead _ _) _ _ (asked .before .if1 .left) is promised _ _ given refl
+    (c .before .before .put-reading .ensures) (read-decodes _ _ given _ is (promised .1 .1 .bits)))
 
 pub dunnavish-read-word-spec : {M : Type 1} → statement M
 dunnavish-read-word-spec =

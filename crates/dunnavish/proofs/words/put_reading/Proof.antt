@@ -9,18 +9,6 @@ use Rattle.dunnavish.proofs.Lent.{all-stored}
 use Rattle.dunnavish.proofs.words.put_reading.Statement.{statement}
 use Rattle.dunnavish.proofs.words.put_reading.Tie as tie
 
-slice-write-values-2 : tie.Need-slice-write-values-2
-slice-write-values-2 c = simp length-set (omega arith)
-
-slice-write-values-3 : tie.Need-slice-write-values-3
-slice-write-values-3 c = simp length-set (omega arith)
-
-slice-write-values-4 : tie.Need-slice-write-values-4
-slice-write-values-4 c = simp length-set (omega arith)
-
-slice-write-values-5 : tie.Need-slice-write-values-5
-slice-write-values-5 c = simp length-set (omega arith)
-
 returns : tie.Need-returns
 unfolding readValues
 returns c =
@@ -33,9 +21,9 @@ put-reading-spec =
     (λ c κs. search needs)
     (λ c κs. search needs)
     (λ c. search needs)
-    slice-write-values-2
-    slice-write-values-3
-    slice-write-values-4
-    slice-write-values-5
+    (λ c. simp length-set (omega arith))
+    (λ c. simp length-set (omega arith))
+    (λ c. simp length-set (omega arith))
+    (λ c. simp length-set (omega arith))
     (λ c. search needs)
     returns)
