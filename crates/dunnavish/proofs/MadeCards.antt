@@ -1,16 +1,13 @@
 -- The contract of the call that makes a card, for each way out: from the count of the lent bytes, and from what the library's own contract
 -- says of what it made. Assumes nothing.
 use mathlib.Core.Path.{_≡_, refl, sym, _∙_}
-use mathlib.Core.Bool.{true}
 use mathlib.Core.List.{List}
 use Prim.Native.Nat.{ℕ}
 use lib.ListN.{length}
-use Rattle.model.specs.ReedMuller.{orderWithinLimits}
 use Rattle.model.specs.MakeCard.{makeRefusal, makeAnswer}
 use Rattle.model.specs.declared.MadeCard.{MadeCard}
 use Rattle.code_theory.proofs.SoundCard.{card-tests}
-use Rattle.reed_muller_theory.specs.MadeCards.{IsReedMullerCard}
-use Rattle.depot.proofs.MadeCards.{unrefused-card}
+use Rattle.depot.proofs.MadeCards.{MadeWithinLimits as CardIfWithin, unrefused-card}
 use Rattle.dunnavish.specs.Crossing.{wrongCount, cardBytes, statusFor, leftBy, UnchangedUnlessZero}
 use Rattle.dunnavish.specs.Demands.{MadeWithinLimits}
 use Rattle.dunnavish.proofs.Lent.{Crosses, wrong-count-crosses, refusal-crosses, values-cross, unchanged-by}
@@ -18,9 +15,7 @@ use Rattle.dunnavish.proofs.Lent.{Crosses, wrong-count-crosses, refusal
 -- what the library's contract says of what it made
 abbrev Made : (track r m : ℕ) (card : MadeCard) → Type 0
 Made track r m card =
-    (card ≡ makeAnswer track r m)
-    × ((card .refusal ≡ makeRefusal r m)
-    × (orderWithinLimits r m ≡ true → (card .refusal ≡ 0) × IsReedMullerCard track r m (card .bytes)))
+    (card ≡ makeAnswer track r m) × ((card .refusal ≡ makeRefusal r m) × CardIfWithin track r m card)
 
 -- a card that is not refused is sound, so it has the bytes of a card
 pub whole-card : (track r m : ℕ) (card : MadeCard) → Made track r m card → card .refusal ≡ 0 → length (card .bytes) ≡ cardBytes

@@ -1,6 +1,6 @@
 -- Decoding loses nothing, of every call: a status is that of the answer which it decodes to, and a list of so many entries is the list of
 -- its entries, from which the values of the answer were taken. Assumes nothing.
-use mathlib.Core.Path.{_≡_, refl, sym, ap, _∙_}
+use mathlib.Core.Path.{_≡_, refl, ap, _∙_}
 use mathlib.Core.List.{List, [], _∷_}
 use mathlib.Core.Logic.{⊎-elim}
 use Prim.Native.Nat.{ℕ, zero, suc}
@@ -12,34 +12,28 @@ use Rattle.bits.proofs.Numbers.{eq-or-ne}
 use Rattle.model.specs.Refusals.{unlessRefused}
 use Rattle.model.specs.Reading.{notRead, bitsValue}
 use Rattle.model.specs.CheckCard.{cardStatus, cardValues}
-use Rattle.model.specs.WriteWord.{writeStatus}
+use Rattle.model.specs.WriteWord.{writeStatus, writeValues}
 use Rattle.model.specs.ReadWord.{readStatus, readValues}
 use Rattle.model.specs.Millimetres.{millimetresStatus, millimetresValues}
 use Rattle.model.specs.VoteChunk.{voteStatus, voteValues}
-use Rattle.code_theory.proofs.Refusals.{served-if-none, refused-if-some}
 use Rattle.model.specs.declared.CardAnswer.the-variants.{Refused as CardRefused}
-use Rattle.model.specs.declared.WriteAnswer.the-variants.{Refused as WriteRefused}
+use Rattle.model.specs.declared.WriteAnswer.the-variants.{Written, Refused as WriteRefused}
 use Rattle.model.specs.declared.ReadAnswer.the-variants.{Refused as ReadRefused}
 use Rattle.model.specs.declared.MillimetresAnswer.the-variants.{Refused as MillimetresRefused}
 use Rattle.model.specs.declared.VoteAnswer.the-variants.{Refused as VoteRefused}
+use Rattle.code_theory.proofs.Refusals.{served-if-none}
+use Rattle.depot.proofs.Statuses.{told}
 use Rattle.dunnavish.specs.Decoding.{cardLeft, writeLeft, bitsLeft, readLeft, millimetresLeft, voteLeft}
 use Rattle.dunnavish.specs.NothingLost.{Kept, NothingLost}
 
--- a status is that of the answer which it decodes to
-status-told : {A : Type 0} (status : A → ℕ) (refused : ℕ → A) (served : A) → ((n : ℕ) → status (refused n) ≡ n) → status served ≡ 0
-    → (s : ℕ) → status (unlessRefused s refused served) ≡ s
-status-told status refused served number served-0 s =
-    ⊎-elim (λ (none : s ≡ 0). ap status (served-if-none s refused served none) ∙ served-0 ∙ sym none)
-    (λ (some : s ≡ 0 → ⊥). ap status (refused-if-some s refused served some) ∙ number s) (eq-or-ne s 0)
-
--- so decoding keeps both, where it keeps what is served
+-- decoding keeps status and numbers where it keeps those of what is served
 kept : {A B : Type 0} {status : A → ℕ} {values : A → List B} (refused : ℕ → A) (served : List B → A) (count : ℕ)
-    → ((n : ℕ) → status (refused n) ≡ n) → ((left : List B) → status (served left) ≡ 0)
+    → ((n : ℕ) → status (refused n) ≡ n) → ((n : ℕ) → values (refused n) ≡ []) → ((left : List B) → status (served left) ≡ 0)
     → ((left : List B) → length left ≡ count → values (served left) ≡ left)
     → Kept status values (λ s left. unlessRefused s refused (served left)) count
-kept {status} {values} refused served count number served-0 whole =
+kept {status} {values} refused served count number none served-0 whole =
     record {
-      status-kept = λ s left. status-told status refused (served left) number (served-0 left) s;
+      status-kept = λ s left. told status values s _ refused (served left) number none (served-0 left) refl .0;
       values-kept = λ left is. ap values (served-if-none 0 refused (served left) refl) ∙ whole left is;
     }
 
@@ -65,16 +59,16 @@ bits-kept left =
     (eq-or-ne left notRead)
 
 pub nothing-lost : NothingLost
-unfolding cardLeft cardStatus cardValues writeLeft writeStatus readLeft readStatus readValues bitsLeft millimetresLeft millimetresStatus
-    millimetresValues voteLeft voteStatus voteValues unlessRefused
+unfolding cardLeft cardStatus cardValues writeLeft writeStatus writeValues readLeft readStatus readValues bitsLeft millimetresLeft
+    millimetresStatus millimetresValues voteLeft voteStatus voteValues unlessRefused
 nothing-lost =
     record {
-      check = kept CardRefused _ _ (λ n. refl) (λ left. refl) (all-entries 0 7);
-      read = kept ReadRefused _ _ (λ n. refl) (λ left. refl)
+      check = kept CardRefused _ _ (λ n. refl) (λ n. refl) (λ left. refl) (all-entries 0 7);
+      read = kept ReadRefused _ _ (λ n. refl) (λ n. refl) (λ left. refl)
           (λ left is. rw (bits-kept (getD left 3 0), bits-kept (getD left 4 0)) (all-entries 0 5 left is));
-      distance = kept MillimetresRefused _ _ (λ n. refl) (λ left. refl) (all-entries (pos 0) 1);
-      vote = kept VoteRefused _ _ (λ n. refl) (λ left. refl) (all-entries 0 2);
-      write = λ s. status-told writeStatus WriteRefused _ (λ n. refl) refl s;
+      distance = kept MillimetresRefused _ _ (λ n. refl) (λ n. refl) (λ left. refl) (all-entries (pos 0) 1);
+      vote = kept VoteRefused _ _ (λ n. refl) (λ n. refl) (λ left. refl) (all-entries 0 2);
+      write = λ s. told writeStatus writeValues s [] WriteRefused Written (λ n. refl) (λ n. refl) refl refl .0;
       written = refl;
       by-rule-1 = refl;
       by-rule-2 = refl;

@@ -2,13 +2,11 @@
 -- library's answer. Assumes nothing.
 use mathlib.Core.Path.{_≡_, refl, sym, ap, _∙_}
 use mathlib.Core.List.{List, []}
-use mathlib.Core.Logic.{⊎-elim}
 use Prim.Native.Nat.{ℕ}
-use Rattle.bits.proofs.Numbers.{eq-or-ne}
 use Rattle.model.specs.WriteWord.{writeRefusal, writeAnswer, lentAfterWrite, writeStatus, writeValues}
 use Rattle.model.specs.declared.WriteAnswer.{WriteAnswer}
 use Rattle.model.specs.declared.WriteAnswer.the-variants.{Written, Refused}
-use Rattle.code_theory.proofs.Refusals.{served-if-none, refused-if-some}
+use Rattle.code_theory.proofs.Refusals.{served-if-none}
 use Rattle.position_theory.specs.WritePromises.{NeighboursDifferInOneBit, NoOtherPositionsWord, WritePromises, UnchangedIfRefused}
 use Rattle.dunnavish.specs.Crossing.{UnchangedUnlessZero}
 use Rattle.dunnavish.specs.Decoding.{writeLeft}
@@ -21,13 +19,9 @@ module _ (card : List ℕ) (position : ℕ) (lent : List ℕ) where
   abbrev answer : WriteAnswer
   answer = writeAnswer card position lent
 
-  answer-decodes : writeLeft (writeStatus answer) ≡ answer
-  unfolding writeAnswer writeStatus writeLeft
-  answer-decodes =
-      let refusal = writeRefusal card position lent in
-      ⊎-elim (λ (none : refusal ≡ 0). rw (served-if-none refusal Refused Written none) (served-if-none 0 Refused Written refl))
-      (λ (some : refusal ≡ 0 → ⊥). rw (refused-if-some refusal Refused Written some) (refused-if-some refusal Refused Written some))
-      (eq-or-ne refusal 0)
+  answer-decodes : writeLeft (writeRefusal card position lent) ≡ answer
+  unfolding writeAnswer writeLeft
+  answer-decodes = refl
 
   -- what the library's contract says of its answer and of the lent word after it
   abbrev WriteEnsured : (answered : WriteAnswer) (left : List ℕ) → Type 0
@@ -46,8 +40,8 @@ module _ (card : List ℕ) (position : ℕ) (lent : List ℕ) where
       × ((status ≡ 0 → NeighboursDifferInOneBit card position left)
       × ((status ≡ 0 → NoOtherPositionsWord card position left) × WritePromises card position lent (writeLeft status) left))))
   unfolding UnchangedUnlessZero UnchangedIfRefused writeStatus
-  write-crosses answered status left (is, (_, (_, (is-left, (neighbours, (alone, promises)))))) is-status =
-      let decoded : writeLeft status ≡ answered = rw (is-status, is) answer-decodes in
+  write-crosses answered status left (is, (refusal-is, (_, (is-left, (neighbours, (alone, promises)))))) is-status =
+      let decoded : writeLeft status ≡ answered = rw (is-status, refusal-is, is) answer-decodes in
       let written : status ≡ 0 → answered ≡ Written = λ zero. sym decoded ∙ written-if-zero status zero in
       let unchanged : UnchangedUnlessZero lent status left =
       λ nonzero. promises .unchanged (λ is-written. nonzero (is-status ∙ ap writeStatus is-written)) in

@@ -25,6 +25,7 @@ pub record Kept {A B : Type 0} (status : A → ℕ) (values : A → List B) (dec
 
 pub record NothingLost : Type 0 where
   pub check : Kept cardStatus cardValues cardLeft cardCount
+  -- of a plain word or of levels
   pub read : Kept readStatus readValues readLeft readCount
   pub distance : Kept millimetresStatus millimetresValues millimetresLeft numberCount
   pub vote : Kept voteStatus voteValues voteLeft voteCount
