@@ -59,3 +59,8 @@ module _ (track r m : ℕ) where
       → MakeMeets record { refusal = 0; bytes = bytes }
   unfolding makeAnswer makeRefusal unlessRefused firstRefusal
   card-made fits within bytes is = rw is (rw within, (rw within, λ _. (refl, is-reed-muller-card track r m within fits)))
+
+  -- a caller has seen no refusal
+  pub unrefused-card : {answer : MadeCard} → answer .refusal ≡ makeRefusal r m → MadeWithinLimits answer → answer .refusal ≡ 0
+      → IsReedMullerCard track r m (answer .bytes)
+  unrefused-card refusal made none = made (limits-passed r m (sym refusal ∙ none)) .1

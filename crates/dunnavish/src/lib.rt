@@ -8,13 +8,13 @@
 // how to call them.
 mod cards;
 mod codes;
-mod levels;
+mod level_words;
 mod words;
 
 pub use cards::dunnavish_check_card;
 pub use codes::dunnavish_make_card;
 pub use codes::dunnavish_vote_chunk;
-pub use levels::dunnavish_read_levels;
+pub use level_words::dunnavish_read_levels;
 pub use words::dunnavish_block_start;
 pub use words::dunnavish_millimetres;
 pub use words::dunnavish_read_word;

@@ -1,4 +1,4 @@
--- `dunnavish::levels::dunnavish_read_levels` meets its contract: the counts of the lent numbers and floats, then the library's answer.
+-- `dunnavish::level_words::dunnavish_read_levels` meets its contract: the counts of the lent numbers and floats, then the library's answer.
 -- Assumes nothing.
 use mathlib.Core.Path.{refl, sym, ap, _∙_}
 use mathlib.Core.List.{[], _∷_}
@@ -15,8 +15,8 @@ use Rattle.dunnavish.proofs.Lent.{wrong-count-crosses, status-lent, all
 use Rattle.dunnavish.proofs.Inherited.{refused-nonzero, refused, served}
 use Rattle.dunnavish.proofs.ReadsDecode.{levels-decode}
 use Rattle.dunnavish.proofs.ReadsCross.{PromisedOfLevels, levels-miscounted, levels-cross}
-use Rattle.dunnavish.proofs.levels.dunnavish_read_levels.Statement.{statement}
-use Rattle.dunnavish.proofs.levels.dunnavish_read_levels.Tie as tie
+use Rattle.dunnavish.proofs.level_words.dunnavish_read_levels.Statement.{statement}
+use Rattle.dunnavish.proofs.level_words.dunnavish_read_levels.Tie as tie
 
 returns : tie.Need-returns
 returns c = levels-miscounted _ _ _ _ (wrong-count-crosses readCount _ (c .if1 .taken) _ [] .0) (λ five _. c .if1 .taken five)
