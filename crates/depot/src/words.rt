@@ -64,9 +64,9 @@ pub fn write_word(card: &[u8], position: u32, word: &mut [u8]) -> WriteAnswer
 // The promises: a chunk that is read needed as many bits as are turned in it; both distances hold also where the divided chunk of that
 // position's word (`divided`, model/specs/Words.antt; at most one is, by the theorem `at-most-one-divided`) is turned at will and each other
 // one has at most t bits turned, and if then at most e bits are turned in all, the residual plus e on either side of the answer, the bar,
-// holds the position, and the residual is at most e. Of any word that is read, the answer is the nearest of the positions that the rule allows, a chunk's count is that of the places in which it differs from its codeword, at most t,
-// and separator 1, by rule 2 separator 3, has the parity of the codeword's number: a word pasted from two telegrams whose parities differ
-// is never read. 17 changes no other answer.
+// holds the position, and the residual is at most e. Of any word that is read, the answer is the nearest of the positions that the rule
+// allows, a chunk's count is that of the places in which it differs from its codeword, at most t, and separator 1, by rule 2 separator 3, has
+// the parity of the codeword's number: a word pasted from two telegrams whose parities differ is never read. 17 changes no other answer.
 pub fn read_word(card: &[u8], word: &[u8]) -> ReadAnswer
     ensures answer { λ r. ⌜ r ≡ readAnswer (now (card .entry)) (now (word .entry)) ⌝ }
     ensures status { λ r. ⌜ readStatus r ≡ readRefusal (now (card .entry)) (now (word .entry)) ⌝ }

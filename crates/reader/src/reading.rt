@@ -50,7 +50,8 @@ fn by_chunks(
     read: ChunksRead,
 ) -> ReadAnswer
     requires { ⌜ ReceivedIn (meaning code) at x × (1 ≤ named .rule) × (named .rule ≤ 3) × (read .number ≤ lastCodeword (meaning code)) ⌝ }
-    ensures { λ r. ⌜ ((s : Seen) → ReadAs s (named .rule) read → separatorBy s (named .rule) ≡ named .separator → r ≡ answerBy (twoEnds (meaning code)) s (residualIn (meaning code) x) (named .rule)) ⌝ }
+    ensures { λ r. ⌜ ((s : Seen) → ReadAs s (named .rule) read → separatorBy s (named .rule) ≡ named .separator
+        → r ≡ answerBy (twoEnds (meaning code)) s (residualIn (meaning code) x) (named .rule)) ⌝ }
 {
     if two_ends::no_block(code, named.rule, read.number) {
         return ReadAnswer::Refused(12);
