@@ -47,6 +47,11 @@ module _ {A B : Type 0} (status : A → ℕ) (values : A → List B) where
     stored-crosses {served} given zero size = served-crosses given zero (all-stored (values served) lent (alike ∙ sym size))
 
 module _ {A B : Type 0} (status : A → ℕ) (values : A → List B) (refusal : ℕ → A) (decoded : ℕ → List B → A) (Promise : A → Type 0) where
+  -- what the library's contract says of its answer: it is the definition's, its status and its values, and what is promised of it
+  abbrev Ensured : (answer : A) (number : ℕ) (figures : List B) (answered : A) → Type 0
+  Ensured answer number figures answered =
+      (answered ≡ answer) × ((status answered ≡ number) × ((values answered ≡ ifServed (status answered) figures) × Promise answered))
+
   -- the contract of a call: its status, what is left, that nothing has changed unless the status is 0, and the promise of what is decoded
   abbrev pub Contract : (count : ℕ) (lent : List B) (answer : A) (s : ℕ) (left : List B) → Type 0
   Contract count lent answer s left =
@@ -63,19 +68,21 @@ module _ {A B : Type 0} (status : A → ℕ) (values : A → List B) (refusal : 
     wrong-count unlike =
         inherits wrongCount lent (wrong-count-crosses count lent unlike (status answer) (values answer)) (λ alike. absurd (unlike alike))
 
-    module _ {answered : A} (alike : length lent ≡ count) (is : answered ≡ answer) (promised : Promise answered) where
-      pub refused : (figures : List B) → Serves status values figures answered → (n : ℕ) → answered ≡ refusal n
-          → status (refusal n) ≡ n → values (refusal n) ≡ [] → (other : A) → decoded n lent ≡ unlessRefused n refusal other
-          → Contract count lent answer n lent
-      refused figures serves n given number none other decodes =
-          let nonzero : n ≡ 0 → ⊥ = λ zero. refused-nonzero status values figures serves given none (number ∙ zero) in
+    module _ (alike : length lent ≡ count) {number : ℕ} (figures : List B) {answered : A}
+        (ensured : Ensured answer number figures answered) where
+      pub refused : eqb (length figures) 0 ≡ false → (n : ℕ) → answered ≡ refusal n → status (refusal n) ≡ n → values (refusal n) ≡ []
+          → (other : A) → decoded n lent ≡ unlessRefused n refusal other → Contract count lent answer n lent
+      refused some n given told none other decodes =
+          let (is, (_, (serves, promised))) = ensured in
+          let nonzero : n ≡ 0 → ⊥ = λ zero. refused-nonzero status values figures (serves, some) given none (told ∙ zero) in
           let back : decoded n lent ≡ answered = decodes ∙ refused-if-some n refusal other nonzero ∙ sym given in
-          inherits n lent (refused-crosses status values lent alike is figures serves given number none)
+          inherits n lent (refused-crosses status values lent alike is figures (serves, some) given told none)
           (λ _. subst Promise (sym back) promised)
 
       pub served : (answers : A) (left : List B) → answered ≡ answers → status answers ≡ 0 → left ≡ values answers
           → decoded 0 (values answers) ≡ unlessRefused 0 refusal answers → Contract count lent answer 0 left
       served answers left given zero put decodes =
+          let (is, (_, (_, promised))) = ensured in
           let back : decoded 0 left ≡ answered = ap (decoded 0) put ∙ decodes ∙ served-if-none 0 refusal answers refl ∙ sym given in
           inherits 0 left (served-crosses status values lent alike is given zero put) (λ _. subst Promise (sym back) promised)
 

@@ -18,16 +18,14 @@ returns-2 : tie.Need-returns-2
 unfolding cardStatus cardValues cardFigures cardLeft
 returns-2 c =
     let asked = c .before .before .before in
-    let (is, (_, (serves, promised))) = asked .check-card .ensures in
-    refused cardStatus cardValues Refused cardLeft (CheckPromises _) _ _ (asked .before .if1 .left) is promised _ (serves, refl) _
+    refused cardStatus cardValues Refused cardLeft (CheckPromises _) _ _ (asked .before .if1 .left) _ (asked .check-card .ensures) refl _
     (c .before .answer .given .1) refl refl _ refl
 
 returns-3 : tie.Need-returns-3
 unfolding cardStatus cardValues cardLeft
 returns-3 c =
     let asked = c .before .before .before in
-    let (is, (_, (_, promised))) = asked .check-card .ensures in
-    stored cardStatus cardValues Refused cardLeft (CheckPromises _) _ _ (asked .before .if1 .left) is promised _
+    stored cardStatus cardValues Refused cardLeft (CheckPromises _) _ _ (asked .before .if1 .left) _ (asked .check-card .ensures) _
     (c .before .answer2 .given .1) refl refl refl
 
 pub dunnavish-check-card-spec : {M : Type 1} → statement M

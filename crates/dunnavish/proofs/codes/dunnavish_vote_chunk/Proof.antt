@@ -16,16 +16,14 @@ returns-2 : tie.Need-returns-2
 unfolding voteStatus voteValues voteFigures voteLeft
 returns-2 c =
     let asked = c .before .before .before in
-    let (is, (_, (serves, promised))) = asked .vote-chunk .ensures in
-    refused voteStatus voteValues Refused voteLeft (VotePromises _ _ _) _ _ (asked .before .if1 .left) is promised _ (serves, refl) _
+    refused voteStatus voteValues Refused voteLeft (VotePromises _ _ _) _ _ (asked .before .if1 .left) _ (asked .vote-chunk .ensures) refl _
     (c .before .answer .given .1) refl refl _ refl
 
 returns-3 : tie.Need-returns-3
 unfolding voteStatus voteValues voteLeft
 returns-3 c =
     let asked = c .before .before .before in
-    let (is, (_, (_, promised))) = asked .vote-chunk .ensures in
-    stored voteStatus voteValues Refused voteLeft (VotePromises _ _ _) _ _ (asked .before .if1 .left) is promised _
+    stored voteStatus voteValues Refused voteLeft (VotePromises _ _ _) _ _ (asked .before .if1 .left) _ (asked .vote-chunk .ensures) _
     (c .before .answer2 .given .1) refl refl refl
 
 pub dunnavish-vote-chunk-spec : {M : Type 1} → statement M

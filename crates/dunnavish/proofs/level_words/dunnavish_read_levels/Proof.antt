@@ -37,11 +37,11 @@ returns-3 : tie.Need-returns-3
 unfolding positionAnswer readStatus readValues levelsFigures readLeft leftBy
 returns-3 c =
     let asked = c .before .before .before in
-    let (is, (_, (serves, (_, promised)))) = asked .read-levels .ensures in
+    let (is, (number, (serves, (_, promised)))) = asked .read-levels .ensures in
     let given = ap positionAnswer (c .before .answer .given .1) in
     levels-cross _ _ _ _ _ _ _ (asked .before .if2 .left)
-    (refused readStatus readValues Refused readLeft (PromisedOfLevels _ _) _ _ (asked .before .before .if1 .left) (ap positionAnswer is)
-    promised _ (serves, refl) _ given refl refl _ refl)
+    (refused readStatus readValues Refused readLeft (PromisedOfLevels _ _) _ _ (asked .before .before .if1 .left) _
+    (ap positionAnswer is, (number, (serves, promised))) refl _ given refl refl _ refl)
     (rw (ne-eqb _ 0 (refused-nonzero readStatus readValues _ (serves, refl) given refl)))
 
 returns-4 : tie.Need-returns-4
@@ -50,12 +50,12 @@ returns-4 c =
     let arm = c .before .before .before .before .before in
     let asked = arm .before .before in
     let floats = asked .before .if2 .left in
-    let (is, (_, (_, (_, promised)))) = asked .read-levels .ensures in
+    let (is, (number, (serves, (_, promised)))) = asked .read-levels .ensures in
     let read = arm .answer2 .given .1 in
     let given = ap positionAnswer read in
     levels-cross _ _ _ _ _ _ _ floats
-    (served readStatus readValues Refused readLeft (PromisedOfLevels _ _) _ _ (asked .before .before .if1 .left) (ap positionAnswer is)
-    promised _ _ given refl (c .before .before .put-reading .ensures)
+    (served readStatus readValues Refused readLeft (PromisedOfLevels _ _) _ _ (asked .before .before .if1 .left) _
+    (ap positionAnswer is, (number, (serves, promised))) _ _ given refl (c .before .before .put-reading .ensures)
     (levels-decode _ _ given _ (ap positionAnswer is) (promised .1 .bits)))
     (rw (sym is ∙ read, all-stored (_ ∷ _ ∷ []) _ floats))
 

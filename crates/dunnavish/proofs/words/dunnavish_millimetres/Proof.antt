@@ -19,19 +19,17 @@ returns-2 : tie.Need-returns-2
 unfolding millimetresStatus millimetresValues millimetresLeft
 returns-2 c =
     let asked = c .before .before .before in
-    let (is, (_, (serves, promised))) = asked .millimetres .ensures in
-    refused millimetresStatus millimetresValues Refused millimetresLeft (MillimetresPromises _ _) _ _ (asked .before .if1 .left) is promised
-    _ (serves, refl) _ (c .before .answer .given .1) refl refl _ refl
+    refused millimetresStatus millimetresValues Refused millimetresLeft (MillimetresPromises _ _) _ _ (asked .before .if1 .left) _
+    (asked .millimetres .ensures) refl _ (c .before .answer .given .1) refl refl _ refl
 
 returns-3 : tie.Need-returns-3
 unfolding millimetresStatus millimetresValues millimetresLeft
 returns-3 c =
     let asked = c .before .before .before in
-    let (is, (_, (_, promised))) = asked .millimetres .ensures in
     let number = toZ-ofZ {w = w32} {z = c .before .answer2 .given .0 .0} (record { sfits = c .known-told2 .given .0 .1 }) in
     rw number
-    (stored millimetresStatus millimetresValues Refused millimetresLeft (MillimetresPromises _ _) _ _ (asked .before .if1 .left) is promised
-    _ (c .before .answer2 .given .1) refl refl refl)
+    (stored millimetresStatus millimetresValues Refused millimetresLeft (MillimetresPromises _ _) _ _ (asked .before .if1 .left) _
+    (asked .millimetres .ensures) _ (c .before .answer2 .given .1) refl refl refl)
 
 pub dunnavish-millimetres-spec : {M : Type 1} → statement M
 dunnavish-millimetres-spec =

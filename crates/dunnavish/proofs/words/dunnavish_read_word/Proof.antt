@@ -17,9 +17,8 @@ returns-2 : tie.Need-returns-2
 unfolding readStatus readValues readFigures readLeft
 returns-2 c =
     let asked = c .before .before .before in
-    let (is, (_, (serves, promised))) = asked .read-word .ensures in
     read-crosses _ _ _ _ _
-    (refused readStatus readValues Refused readLeft (PromisedOfRead _ _) _ _ (asked .before .if1 .left) is promised _ (serves, refl) _
+    (refused readStatus readValues Refused readLeft (PromisedOfRead _ _) _ _ (asked .before .if1 .left) _ (asked .read-word .ensures) refl _
     (c .before .answer .given .1) refl refl _ refl)
 
 returns-3 : tie.Need-returns-3
@@ -30,8 +29,8 @@ returns-3 c =
     let given = arm .answer2 .given .1 in
     let (is, (_, (_, promised))) = asked .read-word .ensures in
     read-crosses _ _ _ _ _
-    (served readStatus readValues Refused readLeft (PromisedOfRead _ _) _ _ (asked .before .if1 .left) is promised _ _ given refl
-    (c .before .before .put-reading .ensures) (read-decodes _ _ given _ is (promised .1 .1 .bits)))
+    (served readStatus readValues Refused readLeft (PromisedOfRead _ _) _ _ (asked .before .if1 .left) _ (asked .read-word .ensures) _ _
+    given refl (c .before .before .put-reading .ensures) (read-decodes _ _ given _ is (promised .1 .1 .bits)))
 
 pub dunnavish-read-word-spec : {M : Type 1} → statement M
 dunnavish-read-word-spec =
