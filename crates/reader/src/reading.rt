@@ -66,7 +66,8 @@ fn by_chunks(
 // What the named rule answers.
 pub fn by_rule(code: DecodedCode, at: Layout, x: ReceivedWord, named: NamedRule) -> ReadAnswer
     requires { ⌜ ReceivedIn (meaning code) at x × (1 ≤ named .rule) × (named .rule ≤ 3) ⌝ }
-    ensures { λ r. ⌜ AnswersRule (twoEnds (meaning code)) (meaning code) (residualIn (meaning code) x) x (named .rule) (named .separator) r ⌝ }
+    ensures { λ r. ⌜ AnswersRule (twoEnds (meaning code)) (meaning code) (residualIn (meaning code) x) x
+        (named .rule) (named .separator) r ⌝ }
 {
     match chunks::chunks_named(code, at, x, named.rule) {
         NamedChunks::Refused(refusal) => ReadAnswer::Refused(refusal),

@@ -1,5 +1,5 @@
--- `level_reader::read` meets its contract: 15 and 16; then the levels are told, and 9 or what the named rule answers, with the strength where
--- the word is read. Assumes nothing.
+-- `level_reader::read` meets its contract: 15 and 16; then the levels are told, and 9 or what the named rule answers, with the strength
+-- where the word is read. Assumes nothing.
 use mathlib.Core.Path.{_≡_, sym, ap, _∙_}
 use mathlib.Core.Bool.{false}
 use mathlib.Core.List.{List}
@@ -73,8 +73,9 @@ returns-3 c =
 
 by-rule-requires : tie.Need-by-rule-requires
 by-rule-requires c κs =
-    let named = c .before .before .before in (
-      (first (test named) .pre, laid (test named), nothing-past (C (test named)) (toldAt (levels (test named))) _ (named .before .tell-word .ensures)),
+    let named = c .before .before .before in
+    let spare = nothing-past (C (test named)) (toldAt (levels (test named))) _ (named .before .tell-word .ensures) in (
+      (first (test named) .pre, laid (test named), spare),
       omega (arith, c .before .before .if3 .left),
       names named .at-most-three,
     )
@@ -88,8 +89,9 @@ answered : (c : tie.After-by-rule)
 answered c =
     let named = c .before .before .before .before in
     let word = toldAt (levels (test named)) in
+    let by-rule = rw (names named .separator) at (c .by-rule .ensures) in
     ap (answerTold (C (test named)) word) (sym (names named .rule))
-    ∙ sym (rule-of-told (C (test named)) word _ (named .before .tell-word .ensures) _ _ (rw (names named .separator) at (c .by-rule .ensures)))
+    ∙ sym (rule-of-told (C (test named)) word _ (named .before .tell-word .ensures) _ _ by-rule)
 
 returns-4 : tie.Need-returns-4
 returns-4 c =

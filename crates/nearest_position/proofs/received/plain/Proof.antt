@@ -1,5 +1,5 @@
--- `nearest_position::received::plain` meets its contract. The loop keeps that the first `j` bytes are copied and the others are 0, and that all
--- places are marked; past its end the received word has zeros too. The measure is the bytes that are left. Assumes nothing.
+-- `nearest_position::received::plain` meets its contract. The loop keeps that the first `j` bytes are copied and the others are 0, and that
+-- all places are marked; past its end the received word has zeros too. The measure is the bytes that are left. Assumes nothing.
 use Prim.Native.Nat.{_-_, _≤_}
 use mathlib.Core.Path.{_≡_, refl}
 use borrow.Author.Needs.{needs}

@@ -100,8 +100,9 @@ by-rule-requires c κs =
     let none = at-named .before in
     let counted = none .before in
     let held = got counted .plain in
-    let unset = none-spare _ _ (whole counted) _ (spare counted) (none .if2 .left) in (
-      (first counted .pre, laid counted, nothing-spare (C counted) (received counted) (held .result) (held .ensures) (whole counted) unset),
+    let unset = none-spare _ _ (whole counted) _ (spare counted) (none .if2 .left) in
+    let rest = nothing-spare (C counted) (received counted) (held .result) (held .ensures) (whole counted) unset in (
+      (first counted .pre, laid counted, rest),
       omega (arith, c .if3 .left),
       at-named .named-rule .ensures .at-most-three,
     )
