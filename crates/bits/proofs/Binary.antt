@@ -12,7 +12,7 @@ use lib.Bits.{bitAnd, bitOr, bitXor, differ, and-step, or-step, xor-step, and-sh
 use lib.Bits.{xor-self, xor-zero-r, xor-disjoint}
 use lib.Count.{ones, ones-cat}
 use lib.Pow.{pow-pos, pow-mono, mod-pow-add}
-use Rattle.bits.specs.Sums.{sumBelow, unlike, distance}
+use Rattle.bits.specs.Sums.{sumBelow, difference, distance}
 use Rattle.bits.specs.Places.{bit, weight}
 use Rattle.bits.proofs.Numbers.{eq-or-ne}
 use Rattle.bits.proofs.Sums.{sum-ext, sum-zero, sum-split, sum-of-bits, summand-le}
@@ -77,14 +77,14 @@ differ-parity zero b = rw zero-add
 differ-parity (suc a) zero = rw add-zero
 differ-parity (suc a) (suc b) = let ih : differ a b % 2 ≡ (a + b) % 2 = differ-parity a b in omega arith
 
-pub xor-lowest : (a b : ℕ) → bitXor a b % 2 ≡ unlike (a % 2) (b % 2)
+pub xor-lowest : (a b : ℕ) → bitXor a b % 2 ≡ difference (a % 2) (b % 2)
 xor-lowest a b =
     ap (λ (x : ℕ). x % 2) (xor-step a b)
     ∙ mul-add-mod-self-right (bitXor (a / 2) (b / 2)) 2 (differ (a % 2) (b % 2))
     ∙ differ-parity (a % 2) (b % 2)
 
 -- a bit of an exclusive-or is 1 where the two bits differ
-pub bit-xor : (x y p : ℕ) → bit (bitXor x y) p ≡ unlike (bit x p) (bit y p)
+pub bit-xor : (x y p : ℕ) → bit (bitXor x y) p ≡ difference (bit x p) (bit y p)
 bit-xor x y p = ap (λ (z : ℕ). z % 2) (xor-shr x y p) ∙ xor-lowest (x / 2 ^ p) (y / 2 ^ p)
 
 pub xor-assoc : (x y z : ℕ) → bitXor (bitXor x y) z ≡ bitXor x (bitXor y z)
@@ -101,10 +101,10 @@ pub eq-of-xor-zero : (x y : ℕ) → bitXor x y ≡ 0 → x ≡ y
 eq-of-xor-zero x y e =
     bit-ext x y
     (λ p.
-    let z : unlike (bit x p) (bit y p) ≡ 0 = sym (bit-xor x y p) ∙ ap (λ (u : ℕ). bit u p) e ∙ bit-zero p in
+    let z : difference (bit x p) (bit y p) ≡ 0 = sym (bit-xor x y p) ∙ ap (λ (u : ℕ). bit u p) e ∙ bit-zero p in
     alike (bit x p) (bit y p) (bit-bit x p) (bit-bit y p) z)
   where
-    alike : (a b : ℕ) → a < 2 → b < 2 → unlike a b ≡ 0 → a ≡ b
+    alike : (a b : ℕ) → a < 2 → b < 2 → difference a b ≡ 0 → a ≡ b
     alike a b ha hb e = omega arith
 
 -- ---- and, or, and a bit that is set

@@ -9,13 +9,13 @@ use borrow.Author.Count.{below-more}
 use lib.Dec.{eqb}
 use lib.ListN.{length, getD, set, replicate, length-replicate, getD-replicate, List·getD-eq-default}
 use lib.Seq.{getD-set-same, getD-set-other}
-use Rattle.bits.specs.Sums.{distance, distanceHeard, marked}
+use Rattle.bits.specs.Sums.{distance, distanceUnerased, marked}
 use Rattle.bits.specs.Places.{bit, bytesFor, place, pack, differingBits}
 use Rattle.bits.proofs.Numbers.{lt-or-le}
 use Rattle.bits.proofs.Binary.{bit-zero}
 use Rattle.bits.proofs.Shifts.{bit-all-ones}
 use Rattle.bits.proofs.Distance.{distance-ext, distance-split, distance-alike-after}
-use Rattle.bits.proofs.Heard.{heard-ext, heard-split}
+use Rattle.bits.proofs.Erasures.{unerased-ext, unerased-split}
 use Rattle.bits.proofs.Places.{places-of-byte, length-pack, place-packed, place-spare}
 
 -- ---- filled entry by entry
@@ -62,16 +62,16 @@ distance-byte a b j =
     )
 
 -- over the places that a third one marks as heard
-pub heard-byte : (a b h : List ℕ) (j : ℕ)
-    → distanceHeard (marked (place h)) (8 * (j + 1)) (place a) (place b)
-    ≡ distanceHeard (marked (place h)) (8 * j) (place a) (place b)
-    + distanceHeard (marked (bit (getD h j 0))) 8 (bit (getD a j 0)) (bit (getD b j 0))
-heard-byte a b h j =
+pub unerased-byte : (a b h : List ℕ) (j : ℕ)
+    → distanceUnerased (marked (place h)) (8 * (j + 1)) (place a) (place b)
+    ≡ distanceUnerased (marked (place h)) (8 * j) (place a) (place b)
+    + distanceUnerased (marked (bit (getD h j 0))) 8 (bit (getD a j 0)) (bit (getD b j 0))
+unerased-byte a b h j =
     let more : 8 * (j + 1) ≡ 8 * j + 8 = omega arith in
     rw (
       more,
-      heard-split (marked (place h)) (8 * j) 8 (place a) (place b),
-      heard-ext 8 (λ q l. ap (λ (c : ℕ). eqb c 1) (places-of-byte h j q l)) (places-of-byte a j) (places-of-byte b j),
+      unerased-split (marked (place h)) (8 * j) 8 (place a) (place b),
+      unerased-ext 8 (λ q l. ap (λ (c : ℕ). eqb c 1) (places-of-byte h j q l)) (places-of-byte a j) (places-of-byte b j),
     )
 
 -- where their spare bits are alike, in as many as their first d places

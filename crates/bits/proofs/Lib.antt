@@ -1,7 +1,7 @@
 pub mod Numbers
 pub mod Sums
 pub mod Distance
-pub mod Heard
+pub mod Erasures
 pub mod Joins
 pub mod Walk
 pub mod Binary

@@ -7,7 +7,7 @@ use Prim.Native.Nat.{ℕ, zero, suc, _+_, _≤_, _<_, min}
 use native.Mathlib.Omega.{arith}
 use lib.Dec.{eqb, ltb}
 use borrow.Author.Tests.{lt-ltb, le-ltb, eqb-false}
-use Rattle.bits.specs.Sums.{sumBelow, distance, unlike}
+use Rattle.bits.specs.Sums.{sumBelow, distance, difference}
 use Rattle.bits.specs.Walk.{walk}
 use Rattle.bits.specs.Places.{cut}
 use Rattle.bits.proofs.Numbers.{lt-or-le}
@@ -18,7 +18,7 @@ module _ (u v : ℕ → ℕ) where
   -- at a place with m differing places or more before it, the walk is u
   walk-ahead : (m p : ℕ) → m ≤ distance p u v → walk u v m p ≡ u p
   unfolding walk
-  walk-ahead m p h = rw (le-ltb (distance p u v) m h) (either (eqb (unlike (u p) (v p)) 1))
+  walk-ahead m p h = rw (le-ltb (distance p u v) m h) (either (eqb (difference (u p) (v p)) 1))
     where
       either : (t : Bool) → cond (t && false) (v p) (u p) ≡ u p
       either true = refl
@@ -35,11 +35,11 @@ module _ {u v : ℕ → ℕ} (hu : (p : ℕ) → u p < 2) (hv : (p : ℕ) → v 
   -- at a place with fewer than m differing places before it, the walk is v
   walk-passed : (m p : ℕ) → distance p u v < m → walk u v m p ≡ v p
   unfolding walk
-  walk-passed m p h = rw (lt-ltb (distance p u v) m h) (if-differs (eqb (unlike (u p) (v p)) 1) refl)
+  walk-passed m p h = rw (lt-ltb (distance p u v) m h) (if-differs (eqb (difference (u p) (v p)) 1) refl)
     where
-      if-differs : (t : Bool) → eqb (unlike (u p) (v p)) 1 ≡ t → cond (t && true) (v p) (u p) ≡ v p
+      if-differs : (t : Bool) → eqb (difference (u p) (v p)) 1 ≡ t → cond (t && true) (v p) (u p) ≡ v p
       if-differs true e = refl
-      if-differs false e = omega (arith, hu p, hv p, eqb-false (unlike (u p) (v p)) 1 e)
+      if-differs false e = omega (arith, hu p, hv p, eqb-false (difference (u p) (v p)) 1 e)
 
   pub walk-bit : (m p : ℕ) → walk u v m p < 2
   walk-bit m p = ⊎-elim (λ h. rw (walk-passed m p h) (hv p)) (λ h. rw (walk-ahead u v m p h) (hu p)) (lt-or-le (distance p u v) m)
@@ -67,16 +67,16 @@ module _ {u v : ℕ → ℕ} (hu : (p : ℕ) → u p < 2) (hv : (p : ℕ) → v 
   walk-apart (suc d) m m′ h =
       ⊎-elim
       (λ passed.
-      let e : unlike (walk u v m d) (walk u v m′ d) ≡ 0 =
+      let e : difference (walk u v m d) (walk u v m′ d) ≡ 0 =
       rw (walk-passed m d passed, walk-passed m′ d (omega arith)) (omega arith)
       in omega (arith, walk-apart d m m′ h))
       (λ ahead. ⊎-elim
       (λ passed.
-      let e : unlike (walk u v m d) (walk u v m′ d) ≡ unlike (u d) (v d) =
+      let e : difference (walk u v m d) (walk u v m′ d) ≡ difference (u d) (v d) =
       rw (walk-ahead u v m d ahead, walk-passed m′ d passed)
       in omega (arith, walk-apart d m m′ h))
       (λ ahead′.
-      let e : unlike (walk u v m d) (walk u v m′ d) ≡ 0 =
+      let e : difference (walk u v m d) (walk u v m′ d) ≡ 0 =
       rw (walk-ahead u v m d ahead, walk-ahead u v m′ d ahead′) (omega arith)
       in omega (arith, walk-apart d m m′ h))
       (lt-or-le (distance d u v) m′))
@@ -104,7 +104,7 @@ walk-cut d u v m p =
     ))
     (λ (l : d ≤ p).
     rw (cut-above d (walk u v m) p l, cut-above d u p l, cut-above d v p l)
-    (either (eqb (unlike 0 0) 1 && ltb (distance p (cut d u) (cut d v)) m)))
+    (either (eqb (difference 0 0) 1 && ltb (distance p (cut d u) (cut d v)) m)))
     (lt-or-le p d)
   where
     either : (t : Bool) → _≡_ {A = ℕ} (cond t 0 0) 0

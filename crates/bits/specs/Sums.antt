@@ -16,20 +16,20 @@ sumOver [] f = 0
 sumOver (x ∷ l) f = f x + sumOver l f
 
 -- of two bits, each 0 or 1: 1 where they differ, 0 where they are alike
-abbrev pub unlike : (a b : ℕ) → ℕ
-unlike a b = (a + b) % 2
+abbrev pub difference : (a b : ℕ) → ℕ
+difference a b = (a + b) % 2
 
 -- Hamming distance: in how many of the places 0 to d - 1 two bit functions differ
 unfoldable pub distance : (d : ℕ) (u v : ℕ → ℕ) → ℕ
-distance d u v = sumBelow (λ p. unlike (u p) (v p)) d
+distance d u v = sumBelow (λ p. difference (u p) (v p)) d
 
 -- Hamming distance over the places that are heard: in how many of them, of the places 0 to d - 1, two bit functions differ
-unfoldable pub distanceHeard : (heard : ℕ → Bool) (d : ℕ) (u v : ℕ → ℕ) → ℕ
-distanceHeard heard d u v = sumBelow (λ p. cond (heard p) (unlike (u p) (v p)) 0) d
+unfoldable pub distanceUnerased : (unerased : ℕ → Bool) (d : ℕ) (u v : ℕ → ℕ) → ℕ
+distanceUnerased unerased d u v = sumBelow (λ p. cond (unerased p) (difference (u p) (v p)) 0) d
 
 -- how many of the places 0 to d - 1 are lost, so not heard
-unfoldable pub lostBelow : (heard : ℕ → Bool) (d : ℕ) → ℕ
-lostBelow heard d = sumBelow (λ p. cond (heard p) 0 1) d
+unfoldable pub erasedBelow : (unerased : ℕ → Bool) (d : ℕ) → ℕ
+erasedBelow unerased d = sumBelow (λ p. cond (unerased p) 0 1) d
 
 -- the places at which a bit function is 1, and no others
 abbrev pub marked : (m : ℕ → ℕ) (p : ℕ) → Bool

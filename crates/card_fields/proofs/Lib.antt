@@ -1,3 +1,3 @@
-pub mod CardBytes
+pub mod BytesRead
 pub mod CardRows
 pub mod TwosComplement

@@ -34,7 +34,7 @@ pub fn offset_of(card: &[u8]) -> i32
 }
 
 // Is an offset outside -20,000 to 20,000?
-pub fn is_outside(offset: i32) -> bool
+pub fn offset_is_outside(offset: i32) -> bool
     ensures { λ r. ⌜ r ≡ offsetOutside offset ⌝ }
 {
     if offset < -20000 {

@@ -2,5 +2,5 @@ pub mod SplitRows
 pub mod LeastOf
 pub mod LowSums
 pub mod LeastWeightLoop
-pub mod Refusals
-pub mod Decoding
+pub mod CardRefusals
+pub mod CardDecoding

@@ -49,7 +49,7 @@ pub fn decode(card: &[u8]) -> Decoded
         return refused(4);
     }
     let offset = offset::offset_of(card);
-    if offset::is_outside(offset) {
+    if offset::offset_is_outside(offset) {
         return refused(14);
     }
     let distance = least_weight::least_weight(n, k, rows);

@@ -15,15 +15,15 @@ use Rattle.model.specs.Refusals.{firstRefusal, unlessRefused, ifServed}
 use Rattle.model.specs.ReedMuller.{reedMullerCard, orderWithinLimits}
 use Rattle.model.specs.MakeCard.{makeRefusal, makeAnswer}
 use Rattle.model.specs.declared.MadeCard.{MadeCard}
-use Rattle.code_theory.proofs.Refusals.{NoneHolds, numbered, none-holds, served-if-none, refused-if-some}
+use Rattle.code_theory.proofs.RefusalRows.{NoneHolds, numbered, none-holds, served-if-none, refused-if-some}
 use Rattle.reed_muller_theory.specs.MadeCards.{IsReedMullerCard}
 use Rattle.reed_muller_theory.proofs.MadeCards.{is-reed-muller-card}
-use Rattle.depot.proofs.MadeCards.{limits-refused, limits-passed}
-use Rattle.depot.proofs.Statuses.{Told, told}
+use Rattle.depot.proofs.MadeCardContract.{limits-refused, limits-passed}
+use Rattle.depot.proofs.Statuses.{StatusAndValues, status-and-values}
 use Rattle.card_request.specs.Request.{allDigits, numberIn, isNumber, numberText, greatestTrack, greatestNumber, noTrack, noOrder, noVariables}
-use Rattle.card_request.specs.Request.{noCard, requestRefusal, requestCard, requestAnswer, toldStatus, requestStatus, valuesTold, requestValues}
+use Rattle.card_request.specs.Request.{noCard, requestRefusal, requestCard, requestAnswer, outcomeStatus, requestStatus, outcomeValues, requestValues}
 use Rattle.card_request.specs.declared.NumberText.the-variants.{Number, NoNumber}
-use Rattle.card_request.specs.declared.Told.the-variants.{Made, Refused}
+use Rattle.card_request.specs.declared.Outcome.the-variants.{Made, Refused}
 use Rattle.card_request.specs.declared.Answer.{Answer}
 
 different : _≡_ {A = ℕ} 0 1 → ⊥
@@ -68,7 +68,7 @@ passed false clash = absurd (true≢false clash)
 
 module _ (track r m : List ℕ) where
   -- it is the code's, for the numbers that the texts give
-  pub made-card : requestAnswer track r m .told ≡ Made
+  pub made-card : requestAnswer track r m .outcome ≡ Made
       → IsReedMullerCard (numberIn track) (numberIn r) (numberIn m) (requestAnswer track r m .card)
   unfolding requestAnswer requestRefusal NoneHolds numbered
   made-card made =
@@ -90,14 +90,14 @@ module _ (track r m : List ℕ) where
       (a ≡ requestAnswer track r m)
       × ((requestStatus a ≡ requestRefusal track r m)
       × ((requestValues a ≡ ifServed (requestStatus a) (requestCard track r m))
-      × (a .told ≡ Made → IsReedMullerCard (numberIn track) (numberIn r) (numberIn m) (a .card))))
+      × (a .outcome ≡ Made → IsReedMullerCard (numberIn track) (numberIn r) (numberIn m) (a .card))))
 
-  status-and-values : Told requestStatus requestValues (requestRefusal track r m) (requestCard track r m) (requestAnswer track r m)
-  unfolding requestAnswer toldStatus valuesTold
-  status-and-values = told requestStatus requestValues _ (requestCard track r m) noCard _ (λ number. refl) (λ number. refl) refl refl
+  request-answered : StatusAndValues requestStatus requestValues (requestRefusal track r m) (requestCard track r m) (requestAnswer track r m)
+  unfolding requestAnswer outcomeStatus outcomeValues
+  request-answered = status-and-values requestStatus requestValues _ (requestCard track r m) noCard _ (λ number. refl) (λ number. refl) refl refl
 
   meets : {a : Answer} → a ≡ requestAnswer track r m → Meets a
-  meets e = let (status, values) = status-and-values in rw e (refl, (status, (values, made-card)))
+  meets e = let (status, values) = request-answered in rw e (refl, (status, (values, made-card)))
 
   pub no-track : NoNumber ≡ numberText greatestTrack track → {a : Answer} → a ≡ noCard noTrack → Meets a
   unfolding requestAnswer requestRefusal firstRefusal unlessRefused
@@ -142,7 +142,7 @@ module _ (track r m : List ℕ) where
               outside,
             ))
 
-        pub card-made : made ≡ makeAnswer t o v → made .refusal ≡ 0 → Meets record { told = Made; card = made .bytes }
+        pub card-made : made ≡ makeAnswer t o v → made .refusal ≡ 0 → Meets record { outcome = Made; card = made .bytes }
         unfolding requestAnswer requestRefusal firstRefusal unlessRefused
         card-made is none =
             let (first, second, third) = numbers-read in

@@ -9,8 +9,8 @@ use Rattle.model.specs.Refusals.{refuses, firstRefusal, unlessRefused}
 use Rattle.model.specs.ReedMuller.{reedMullerCard, orderWithinLimits}
 use Rattle.card_request.specs.declared.NumberText.{NumberText}
 use Rattle.card_request.specs.declared.NumberText.the-variants.{Number, NoNumber}
-use Rattle.card_request.specs.declared.Told.{Told}
-use Rattle.card_request.specs.declared.Told.the-variants.{Made, Refused}
+use Rattle.card_request.specs.declared.Outcome.{Outcome}
+use Rattle.card_request.specs.declared.Outcome.the-variants.{Made, Refused}
 use Rattle.card_request.specs.declared.Answer.{Answer}
 
 -- ---- a number
@@ -75,25 +75,25 @@ requestCard track r m = reedMullerCard (numberIn track) (numberIn r) (numberIn m
 
 -- no card is made: the refusal is told, and all bytes are zero
 abbrev pub noCard : (refusal : ℕ) → Answer
-noCard refusal = record { told = Refused refusal; card = replicate 512 0 }
+noCard refusal = record { outcome = Refused refusal; card = replicate 512 0 }
 
 unfoldable pub requestAnswer : (track r m : List ℕ) → Answer
-requestAnswer track r m = unlessRefused (requestRefusal track r m) noCard (record { told = Made; card = requestCard track r m })
+requestAnswer track r m = unlessRefused (requestRefusal track r m) noCard (record { outcome = Made; card = requestCard track r m })
 
 -- ---- what an answer stands for, for every case of what is told
 
 -- its status: 0 where the card is made, and the refusal's number otherwise
-unfoldable pub toldStatus : Told → ℕ
-toldStatus Made = 0
-toldStatus (Refused refusal) = refusal
+unfoldable pub outcomeStatus : Outcome → ℕ
+outcomeStatus Made = 0
+outcomeStatus (Refused refusal) = refusal
 
 abbrev pub requestStatus : Answer → ℕ
-requestStatus a = toldStatus (a .told)
+requestStatus a = outcomeStatus (a .outcome)
 
 -- its values: the card's bytes, and none of a refusal
-unfoldable pub valuesTold : Told → (card : List ℕ) → List ℕ
-valuesTold Made card = card
-valuesTold (Refused refusal) card = []
+unfoldable pub outcomeValues : Outcome → (card : List ℕ) → List ℕ
+outcomeValues Made card = card
+outcomeValues (Refused refusal) card = []
 
 abbrev pub requestValues : Answer → List ℕ
-requestValues a = valuesTold (a .told) (a .card)
+requestValues a = outcomeValues (a .outcome) (a .card)

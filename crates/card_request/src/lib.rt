@@ -5,7 +5,7 @@ ghost use Rattle.model.specs.Refusals.{ifServed};
 ghost use Rattle.reed_muller_theory.specs.MadeCards.{IsReedMullerCard};
 ghost use Rattle.card_request.specs.Request.{numberIn, numberText, noCard, requestRefusal, requestCard, requestAnswer};
 ghost use Rattle.card_request.specs.Request.{requestStatus, requestValues};
-ghost use Rattle.card_request.specs.declared.Told.the-variants.{Made};
+ghost use Rattle.card_request.specs.declared.Outcome.the-variants.{Made};
 
 // The greatest track number, and the greatest r and m that a call of the library can be given.
 const GREATEST_TRACK: u32 = 65535;
@@ -26,14 +26,14 @@ pub enum NumberText {
 }
 
 // What is told of a request: that the card is made, or the number of the refusal, 13 for a code outside the limits, or that of a text.
-pub enum Told {
+pub enum Outcome {
     Made,
     Refused(u32),
 }
 
 // The answer to a request: what is told of it, and the card's bytes, all zero where none is made.
 pub struct Answer {
-    pub told: Told,
+    pub outcome: Outcome,
     pub card: [u8; 512],
 }
 
@@ -68,7 +68,7 @@ fn no_card(refusal: u32) -> Answer
     ensures { λ a. ⌜ a ≡ noCard refusal ⌝ }
 {
     Answer {
-        told: Told::Refused(refusal),
+        outcome: Outcome::Refused(refusal),
         card: [0u8; 512],
     }
 }
@@ -80,7 +80,7 @@ pub fn card_for(track: &[u8], r: &[u8], m: &[u8]) -> Answer
     ensures status { λ a. ⌜ requestStatus a ≡ requestRefusal (now (track .entry)) (now (r .entry)) (now (m .entry)) ⌝ }
     ensures values { λ a. ⌜ requestValues a
         ≡ ifServed (requestStatus a) (requestCard (now (track .entry)) (now (r .entry)) (now (m .entry))) ⌝ }
-    ensures made { λ a. ⌜ (a .told ≡ Made
+    ensures made { λ a. ⌜ (a .outcome ≡ Made
         → IsReedMullerCard (numberIn (now (track .entry))) (numberIn (now (r .entry))) (numberIn (now (m .entry))) (a .card)) ⌝ }
 {
     let track_number = number_in(track, GREATEST_TRACK);
@@ -101,7 +101,7 @@ pub fn card_for(track: &[u8], r: &[u8], m: &[u8]) -> Answer
     }
     let card = made.bytes;
     Answer {
-        told: Told::Made,
+        outcome: Outcome::Made,
         card,
     }
 }

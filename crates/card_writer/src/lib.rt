@@ -8,7 +8,7 @@ use card_fields::checksum;
 
 // A number into the `m` bytes from place `at` on, high byte first. The last of them is filled first: it takes the number's lowest
 // byte, and what is left of the number goes into those before it.
-fn put_number(bytes: &mut [u8], at: usize, m: usize, number: u64)
+fn put_high_first(bytes: &mut [u8], at: usize, m: usize, number: u64)
     requires { ⌜ at + m ≤ length (now bytes) ⌝ }
     ensures { λ r. ⌜ now (bytes .exit) ≡ withNumber (now (bytes .entry)) at m number ⌝ }
 {
@@ -30,13 +30,13 @@ pub fn write_card(n: u32, k: u32, track: u16, rows: [u64; 12]) -> [u8; 512]
     let mut bytes = [0u8; 512];
     bytes[0] = n as u8;
     bytes[1] = k as u8;
-    put_number(&mut bytes, 2, 2, track as u64);
+    put_high_first(&mut bytes, 2, 2, track as u64);
     let mut z: usize = 0;
     while z < 12 {
-        put_number(&mut bytes, 4 + 8 * z, 8, rows[z]);
+        put_high_first(&mut bytes, 4 + 8 * z, 8, rows[z]);
         z += 1;
     }
     let check = checksum::computed_check(&bytes, false);
-    put_number(&mut bytes, 510, 2, check as u64);
+    put_high_first(&mut bytes, 510, 2, check as u64);
     bytes
 }

@@ -12,13 +12,13 @@ use Rattle.bits.specs.Sums.{everywhere}
 use Rattle.bits.specs.Places.{bit}
 use Rattle.bits.specs.Searches.{first}
 use Rattle.bits.proofs.Numbers.{lt-or-le}
-use Rattle.bits.proofs.Heard.{all-heard, none-lost, heard-ext, lost-ext}
+use Rattle.bits.proofs.Erasures.{all-unerased, none-erased, unerased-ext, erased-ext}
 use Rattle.bits.proofs.Searches.{first-is, first-holds, first-none}
 use Rattle.model.specs.Refusals.{firstRefusal, ifServed}
 use Rattle.model.specs.Card.{Code, radius}
-use Rattle.model.specs.Reading.{chunkDistance, withinRadius, readFirst, chunkReading, chunkRefusal, chunkFigures, chunkStatus, chunkValues}
+use Rattle.model.specs.Reading.{chunkDistance, withinRadius, readFirst, chunkReading, chunkRefusal, chunkExpected, chunkStatus, chunkValues}
 use Rattle.model.specs.Order.{codeword}
-use Rattle.model.specs.Levels.{chunkWrong, withinLosses, heardReading}
+use Rattle.model.specs.Levels.{chunkWrong, withinErasures, erasureReading}
 use Rattle.model.specs.declared.Chunk.{Chunk}
 use Rattle.model.specs.declared.Chunk.the-variants.{Codeword, Unreadable}
 
@@ -61,43 +61,43 @@ module _ (near : ℕ → Bool) (count : ℕ → ℕ) (many : ℕ) where
       (lt-or-le found many)
 
 -- chunks of which the same places are heard and agree below n read alike
-pub heard-reading-ext : (C : Code) {heard heard′ : ℕ → Bool} {x y : ℕ → ℕ} → ((p : ℕ) → p < C .n → heard p ≡ heard′ p)
-    → ((p : ℕ) → p < C .n → x p ≡ y p) → heardReading C heard x ≡ heardReading C heard′ y
-unfolding heardReading withinLosses chunkWrong
-heard-reading-ext C {heard} same-heard same =
-    ap₂ (λ (wrong : ℕ → ℕ) (lost : ℕ). readFirst (λ i. ltb (2 * wrong i + lost) (C .D)) wrong (2 ^ C .k))
-    (fun-ext (λ i. heard-ext (C .n) same-heard (λ p b. refl) same)) (lost-ext (C .n) same-heard)
+pub erasure-reading-ext : (C : Code) {unerased unerased′ : ℕ → Bool} {x y : ℕ → ℕ} → ((p : ℕ) → p < C .n → unerased p ≡ unerased′ p)
+    → ((p : ℕ) → p < C .n → x p ≡ y p) → erasureReading C unerased x ≡ erasureReading C unerased′ y
+unfolding erasureReading withinErasures chunkWrong
+erasure-reading-ext C {unerased} same-unerased same =
+    ap₂ (λ (wrong : ℕ → ℕ) (erased : ℕ). readFirst (λ i. ltb (2 * wrong i + erased) (C .D)) wrong (2 ^ C .k))
+    (fun-ext (λ i. unerased-ext (C .n) same-unerased (λ p b. refl) same)) (erased-ext (C .n) same-unerased)
 
 -- where nothing is lost, 2 × wrong + lost is below D within the radius, and only there
 module _ (C : Code) where
   pub plain-count : (x : ℕ → ℕ) → chunkDistance C x ≡ chunkWrong C everywhere x
   unfolding chunkDistance chunkWrong
-  plain-count x = fun-ext (λ p. sym (all-heard (C .n) (bit (codeword C p)) x))
+  plain-count x = fun-ext (λ p. sym (all-unerased (C .n) (bit (codeword C p)) x))
 
-  half : (D wrong lost : ℕ) → 1 ≤ D → lost ≡ 0 → leb wrong ((D - 1) / 2) ≡ ltb (2 * wrong + lost) D
-  half D wrong lost pos none =
-      ⊎-elim (λ (l : 2 * wrong < D). le-leb wrong ((D - 1) / 2) (omega arith) ∙ sym (lt-ltb (2 * wrong + lost) D (omega arith)))
-      (λ (l : D ≤ 2 * wrong). lt-leb wrong ((D - 1) / 2) (omega arith) ∙ sym (le-ltb (2 * wrong + lost) D (omega arith)))
+  half : (D wrong erased : ℕ) → 1 ≤ D → erased ≡ 0 → leb wrong ((D - 1) / 2) ≡ ltb (2 * wrong + erased) D
+  half D wrong erased pos none =
+      ⊎-elim (λ (l : 2 * wrong < D). le-leb wrong ((D - 1) / 2) (omega arith) ∙ sym (lt-ltb (2 * wrong + erased) D (omega arith)))
+      (λ (l : D ≤ 2 * wrong). lt-leb wrong ((D - 1) / 2) (omega arith) ∙ sym (le-ltb (2 * wrong + erased) D (omega arith)))
       (lt-or-le (2 * wrong) D)
 
-  pub plain-near : 1 ≤ C .D → (x : ℕ → ℕ) → withinRadius C x ≡ withinLosses C everywhere x
-  unfolding withinRadius withinLosses
+  pub plain-near : 1 ≤ C .D → (x : ℕ → ℕ) → withinRadius C x ≡ withinErasures C everywhere x
+  unfolding withinRadius withinErasures
   plain-near D-pos x =
       fun-ext (λ p.
       ap (λ (count : ℕ → ℕ). leb (count p) (radius C)) (plain-count x)
-      ∙ half (C .D) (chunkWrong C everywhere x p) _ D-pos (none-lost everywhere (C .n) (λ q b. refl)))
+      ∙ half (C .D) (chunkWrong C everywhere x p) _ D-pos (none-erased everywhere (C .n) (λ q b. refl)))
 
 -- the status and the values of a chunk's reading
-abbrev pub ChunkTold : (refusal : ℕ) → Code → (x : ℕ → ℕ) → Chunk → Type 0
-ChunkTold refusal C x read = (chunkStatus read ≡ refusal) × (chunkValues read ≡ ifServed (chunkStatus read) (chunkFigures C x))
+abbrev pub ChunkAnswered : (refusal : ℕ) → Code → (x : ℕ → ℕ) → Chunk → Type 0
+ChunkAnswered refusal C x read = (chunkStatus read ≡ refusal) × (chunkValues read ≡ ifServed (chunkStatus read) (chunkExpected C x))
 
-pub chunk-told : (C : Code) (x : ℕ → ℕ) → ChunkTold (chunkRefusal C x) C x (chunkReading C x)
-unfolding chunkReading readFirst chunkRefusal firstRefusal chunkFigures chunkStatus chunkValues ifServed
-chunk-told C x = by-found (ltb p (2 ^ C .k))
+pub chunk-answered : (C : Code) (x : ℕ → ℕ) → ChunkAnswered (chunkRefusal C x) C x (chunkReading C x)
+unfolding chunkReading readFirst chunkRefusal firstRefusal chunkExpected chunkStatus chunkValues ifServed
+chunk-answered C x = by-found (ltb p (2 ^ C .k))
   where
     p : ℕ
     p = first (withinRadius C x) (2 ^ C .k)
 
-    by-found : (t : Bool) → ChunkTold (cond (not t) 10 0) C x (cond t (Codeword p (chunkDistance C x p)) Unreadable)
+    by-found : (t : Bool) → ChunkAnswered (cond (not t) 10 0) C x (cond t (Codeword p (chunkDistance C x p)) Unreadable)
     by-found true = (refl, refl)
     by-found false = (refl, refl)

@@ -11,7 +11,7 @@ use lib.Count.{trailingZeros}
 use lib.Dec.{eqb}
 use lib.Pow.{pow-pos}
 use borrow.Author.Tests.{eq-eqb}
-use Rattle.bits.specs.Sums.{unlike}
+use Rattle.bits.specs.Sums.{difference}
 use Rattle.bits.specs.Places.{bit, weight}
 use Rattle.bits.proofs.Numbers.{eq-or-ne}
 use Rattle.bits.proofs.Binary.{bit-bit, bit-zero, bit-xor, bit-pow-same, bit-pow-other, xor-exchange, xor-undone, weight-xor}
@@ -22,8 +22,8 @@ use Rattle.code_theory.specs.LeastDistance.{codewordDistance}
 use Rattle.code_theory.proofs.Gray.{gray-zero, gray-changed, gray-kept, gray-next, changed-below}
 
 -- a row is taken where two bits differ: once for either bit, modulo 2
-xor-multiples : (a b r : ℕ) → a < 2 → b < 2 → unlike a b * r ≡ bitXor (a * r) (b * r)
-xor-multiples zero b r ha hb = let same : unlike 0 b ≡ b = omega arith in rw (zero-mul, same)
+xor-multiples : (a b r : ℕ) → a < 2 → b < 2 → difference a b * r ≡ bitXor (a * r) (b * r)
+xor-multiples zero b r ha hb = let same : difference 0 b ≡ b = omega arith in rw (zero-mul, same)
 xor-multiples (suc zero) zero r ha hb = rw (zero-mul, one-mul) (sym (xor-zero-r r))
 xor-multiples (suc zero) (suc zero) r ha hb = rw (zero-mul, one-mul) (sym (xor-self r))
 xor-multiples (suc zero) (suc (suc b)) r ha hb = omega arith
@@ -99,11 +99,11 @@ module _ (C : Code) (i : ℕ) (within : i < lastCodeword C) where
   unfolding changedRow
   changed-row w fits =
       let z : ℕ = trailingZeros w (i + 1) in
-      first-is (λ z. eqb (unlike (bit (gray i) z) (bit (gray (i + 1)) z)) 1) (C .k) z
+      first-is (λ z. eqb (difference (bit (gray i) z) (bit (gray (i + 1)) z)) 1) (C .k) z
       (changed-below (C .k) w i next-below fits)
       (eq-eqb _ 1 (gray-changed w i fits))
       (λ j l.
-      let kept : unlike (bit (gray i) j) (bit (gray (i + 1)) j) ≡ 0 = gray-kept w i j fits (omega arith) in
+      let kept : difference (bit (gray i) j) (bit (gray (i + 1)) j) ≡ 0 = gray-kept w i j fits (omega arith) in
       rw kept)
 
   -- it is one of the code's rows

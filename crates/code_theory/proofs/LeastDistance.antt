@@ -10,11 +10,11 @@ use native.Mathlib.Nat.{eq-zero-or-pos}
 use native.Mathlib.Omega.{arith}
 use lib.Bits.{bitXor, xor-lt}
 use lib.Pow.{pow-mono, lt-of-le-ones, le-ones}
-use Rattle.bits.specs.Sums.{distance, lostBelow, everywhere}
+use Rattle.bits.specs.Sums.{distance, erasedBelow, everywhere}
 use Rattle.bits.specs.Places.{bit, weight}
 use Rattle.bits.proofs.Numbers.{eq-or-ne}
 use Rattle.bits.proofs.Distance.{distance-self}
-use Rattle.bits.proofs.Heard.{all-heard, none-lost, heard-triangle}
+use Rattle.bits.proofs.Erasures.{all-unerased, none-erased, unerased-triangle}
 use Rattle.bits.proofs.Binary.{weight-le, weight-xor, eq-of-xor-zero}
 use Rattle.model.specs.Card.{Code, sumOfRows, leastWeight, radius}
 use Rattle.model.specs.Order.{gray, codeword, lastCodeword}
@@ -129,18 +129,18 @@ module _ (C : Code) (S : Sound C) where
       )
 
   -- two codewords never both have 2 × wrong + lost below D of a chunk
-  pub one-within-losses : (heard : ℕ → Bool) (x : ℕ → ℕ) (i j : ℕ) → i ≤ lastCodeword C → j ≤ lastCodeword C
-      → 2 * chunkWrong C heard x i + lostBelow heard (C .n) < C .D → 2 * chunkWrong C heard x j + lostBelow heard (C .n) < C .D → i ≡ j
+  pub one-within-erasures : (unerased : ℕ → Bool) (x : ℕ → ℕ) (i j : ℕ) → i ≤ lastCodeword C → j ≤ lastCodeword C
+      → 2 * chunkWrong C unerased x i + erasedBelow unerased (C .n) < C .D → 2 * chunkWrong C unerased x j + erasedBelow unerased (C .n) < C .D → i ≡ j
   unfolding chunkWrong
-  one-within-losses heard x i j li lj hi hj =
-      same-if-nearer i j li lj (omega (arith, heard-triangle heard (C .n) (bit (codeword C i)) (bit (codeword C j)) x))
+  one-within-erasures unerased x i j li lj hi hj =
+      same-if-nearer i j li lj (omega (arith, unerased-triangle unerased (C .n) (bit (codeword C i)) (bit (codeword C j)) x))
 
   -- so, where nothing is lost, they never both lie within the radius
   pub one-within-radius : (x : ℕ → ℕ) (i j : ℕ) → i ≤ lastCodeword C → j ≤ lastCodeword C
       → chunkDistance C x i ≤ radius C → chunkDistance C x j ≤ radius C → i ≡ j
   unfolding chunkDistance chunkWrong
   one-within-radius x i j li lj hi hj =
-      let none = none-lost everywhere (C .n) (λ p b. refl) in
-      one-within-losses everywhere x i j li lj
-      (omega (arith, D-low, none, all-heard (C .n) (bit (codeword C i)) x))
-      (omega (arith, D-low, none, all-heard (C .n) (bit (codeword C j)) x))
+      let none = none-erased everywhere (C .n) (λ p b. refl) in
+      one-within-erasures everywhere x i j li lj
+      (omega (arith, D-low, none, all-unerased (C .n) (bit (codeword C i)) x))
+      (omega (arith, D-low, none, all-unerased (C .n) (bit (codeword C j)) x))

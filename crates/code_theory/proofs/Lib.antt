@@ -2,7 +2,7 @@ pub mod TrailingZeros
 pub mod Gray
 pub mod Codewords
 pub mod GrayStep
-pub mod Refusals
+pub mod RefusalRows
 pub mod SoundCard
 pub mod Offsets
 pub mod CardFields
@@ -12,4 +12,4 @@ pub mod LeastDistance
 pub mod Starts
 pub mod ChunkReading
 pub mod Promise
-pub mod Witnesses
+pub mod CodeWitnesses

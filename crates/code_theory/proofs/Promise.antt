@@ -12,12 +12,12 @@ use Rattle.bits.proofs.Numbers.{not-true}
 use Rattle.model.specs.Card.{Code}
 use Rattle.model.specs.Order.{lastCodeword}
 use Rattle.model.specs.Reading.{withinRadius, readFirst, chunkReading}
-use Rattle.model.specs.Levels.{withinLosses, heardReading}
+use Rattle.model.specs.Levels.{withinErasures, erasureReading}
 use Rattle.model.specs.declared.Chunk.{Chunk}
 use Rattle.model.specs.declared.Chunk.the-variants.{Codeword, Unreadable}
-use Rattle.code_theory.specs.Promise.{Sound, ReadsNear, ReadsHeard, ReadsChunks, ChunkPromise}
+use Rattle.code_theory.specs.Promise.{Sound, ReadsNear, ReadsWithErasures, ReadsChunks, ChunkPromise}
 use Rattle.code_theory.proofs.Codewords.{step-distance}
-use Rattle.code_theory.proofs.LeastDistance.{D-low, one-within-losses, one-within-radius}
+use Rattle.code_theory.proofs.LeastDistance.{D-low, one-within-erasures, one-within-radius}
 use Rattle.code_theory.proofs.Starts.{start-zero, start-next}
 use Rattle.code_theory.proofs.ChunkReading.{reading-first, reading-near, plain-count, plain-near}
 
@@ -35,10 +35,10 @@ first-reads {near = near} {count = count} one many all =
     }
 
 -- no chunk has two codewords for which 2 × wrong + lost is below D
-pub one-near : (C : Code) → Sound C → (heard : ℕ → Bool) (x : ℕ → ℕ) (i j : ℕ) → i ≤ lastCodeword C → j ≤ lastCodeword C
-    → withinLosses C heard x i ≡ true → withinLosses C heard x j ≡ true → i ≡ j
-unfolding withinLosses
-one-near C S heard x i j li lj hi hj = one-within-losses C S heard x i j li lj (ltb-true _ _ hi) (ltb-true _ _ hj)
+pub one-near : (C : Code) → Sound C → (unerased : ℕ → Bool) (x : ℕ → ℕ) (i j : ℕ) → i ≤ lastCodeword C → j ≤ lastCodeword C
+    → withinErasures C unerased x i ≡ true → withinErasures C unerased x j ≡ true → i ≡ j
+unfolding withinErasures
+one-near C S unerased x i j li lj hi hj = one-within-erasures C S unerased x i j li lj (ltb-true _ _ hi) (ltb-true _ _ hj)
 
 -- so either search keeps its half of the promise
 plain-search-keeps : (C : Code) → Sound C → ReadsChunks C (chunkReading C)
@@ -47,9 +47,9 @@ plain-search-keeps C S =
     first-reads (λ x i j li lj hi hj. one-within-radius C S x i j li lj (leb-true _ _ hi) (leb-true _ _ hj))
     (2 ^ C .k) (omega (arith, pow-pos (C .k)))
 
-search-keeps : (C : Code) → Sound C → (heard : ℕ → Bool) → ReadsHeard C heard (heardReading C heard)
-unfolding heardReading lastCodeword
-search-keeps C S heard = first-reads (one-near C S heard) (2 ^ C .k) (omega (arith, pow-pos (C .k)))
+search-keeps : (C : Code) → Sound C → (unerased : ℕ → Bool) → ReadsWithErasures C unerased (erasureReading C unerased)
+unfolding erasureReading lastCodeword
+search-keeps C S unerased = first-reads (one-near C S unerased) (2 ^ C .k) (omega (arith, pow-pos (C .k)))
 
 -- a code of one row or more has two codewords or more
 two-codewords : (C : Code) → Sound C → 1 ≤ lastCodeword C
@@ -81,10 +81,10 @@ readers-agree f g F G x = by-answer (f x) refl (g x) refl
     by-answer Unreadable h Unreadable k = h ∙ sym k
 
 -- where every place is heard, a reader that promises to read plain chunks promises just what one over the places heard does
-pub plain-as-heard : (C : Code) → 1 ≤ C .D → {read : (ℕ → ℕ) → Chunk} → ReadsChunks C read → ReadsHeard C everywhere read
-plain-as-heard C D-pos keeps = rw (fun-ext (plain-near C D-pos), fun-ext (plain-count C)) at keeps
+pub plain-as-unerased : (C : Code) → 1 ≤ C .D → {read : (ℕ → ℕ) → Chunk} → ReadsChunks C read → ReadsWithErasures C everywhere read
+plain-as-unerased C D-pos keeps = rw (fun-ext (plain-near C D-pos), fun-ext (plain-count C)) at keeps
 
 -- so a plain chunk reads by the promise of plain chunks as it does where nothing is lost
-pub plain-reading : (C : Code) → ChunkPromise C → (x : ℕ → ℕ) → chunkReading C x ≡ heardReading C everywhere x
+pub plain-reading : (C : Code) → ChunkPromise C → (x : ℕ → ℕ) → chunkReading C x ≡ erasureReading C everywhere x
 plain-reading C P =
-    readers-agree (chunkReading C) (heardReading C everywhere) (plain-as-heard C (P .D-pos) (P .plain)) (P .chunks everywhere)
+    readers-agree (chunkReading C) (erasureReading C everywhere) (plain-as-unerased C (P .D-pos) (P .plain)) (P .chunks everywhere)

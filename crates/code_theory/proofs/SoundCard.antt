@@ -17,7 +17,7 @@ use Rattle.model.specs.Card.{lengthOf, rowCountOf, rowOf, offsetOf, storedCheck
 use Rattle.model.specs.Card.{withinLimits, rowTooWide, unusedRowSet, unusedByteSet, misplaced, offsetOutside, dependent, cardRefusal}
 use Rattle.model.specs.Card.{SoundCard}
 use Rattle.code_theory.specs.Promise.{Sound}
-use Rattle.code_theory.proofs.Refusals.{NoneHolds, numbered, none-holds, none-refuses}
+use Rattle.code_theory.proofs.RefusalRows.{NoneHolds, numbered, none-holds, none-refuses}
 
 -- ---- tests taken apart
 

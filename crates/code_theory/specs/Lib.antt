@@ -2,4 +2,4 @@ pub mod LeastDistance
 pub mod LeastOfSets
 pub mod Offsets
 pub mod Promise
-pub mod Witnesses
+pub mod CodeWitnesses

@@ -6,7 +6,7 @@ use Prim.Native.Nat.{ℕ, _+_, _^_, _≤_, _<_}
 use Rattle.model.specs.Card.{Code, sumOfRows, leastWeight}
 use Rattle.model.specs.Order.{lastCodeword, changedWeight, blockLength, start}
 use Rattle.model.specs.Reading.{chunkDistance, withinRadius, chunkReading}
-use Rattle.model.specs.Levels.{chunkWrong, withinLosses, heardReading}
+use Rattle.model.specs.Levels.{chunkWrong, withinErasures, erasureReading}
 use Rattle.model.specs.declared.Chunk.{Chunk}
 use Rattle.model.specs.declared.Chunk.the-variants.{Codeword}
 use Rattle.code_theory.specs.LeastDistance.{codewordDistance}
@@ -34,8 +34,8 @@ pub record ReadsNear (X : Type 0) (last : ℕ) (near : X → ℕ → Bool) (coun
 
 -- what a reader of code chunks promises where only these places are heard: the codeword for which 2 × wrong + lost is below D, and how
 -- many places are wrong
-abbrev pub ReadsHeard : Code → (heard : ℕ → Bool) → ((ℕ → ℕ) → Chunk) → Type 0
-ReadsHeard C heard read = ReadsNear (ℕ → ℕ) (lastCodeword C) (withinLosses C heard) (chunkWrong C heard) read
+abbrev pub ReadsWithErasures : Code → (unerased : ℕ → Bool) → ((ℕ → ℕ) → Chunk) → Type 0
+ReadsWithErasures C unerased read = ReadsNear (ℕ → ℕ) (lastCodeword C) (withinErasures C unerased) (chunkWrong C unerased) read
 
 -- where nothing is lost: the codeword within the radius, and in how many places the two differ
 abbrev pub ReadsChunks : Code → ((ℕ → ℕ) → Chunk) → Type 0
@@ -49,7 +49,7 @@ pub record ChunkPromise (C : Code) : Type 0 where
   -- there are two codewords at least, so every position lies on the way from one to the next
   pub two-codewords : 1 ≤ lastCodeword C
   pub plain : ReadsChunks C (chunkReading C)
-  pub chunks : (heard : ℕ → Bool) → ReadsHeard C heard (heardReading C heard)
+  pub chunks : (unerased : ℕ → Bool) → ReadsWithErasures C unerased (erasureReading C unerased)
   -- the first block starts at 0, and each one where the one before it ends
   pub start-zero : start C 0 ≡ 0
   pub start-next : (i : ℕ) → i < lastCodeword C → start C (i + 1) ≡ start C i + blockLength C i

@@ -14,9 +14,9 @@ use Rattle.model.specs.Words.{millimetresOf, chunkSize, placesBefore, fiveChunk
 use Rattle.model.specs.ReedMuller.{orderWithinLimits}
 use Rattle.model.specs.MakeCard.{makeRefusal, makeAnswer}
 use Rattle.model.specs.CardsToTry.{cardA, cardB}
-use Rattle.computed_cases.specs.InnerCases.{Figures, innerCases, cardOfUnlikeBlocks, whereDivided, Divisions, dividedCases}
+use Rattle.computed_cases.specs.InnerCases.{Value, innerCases, cardOfUnequalBlocks, whereDivided, Divisions, dividedCases}
 
-pub inner-cases : map (λ (f : Figures). f .given) innerCases ≡ map (λ (f : Figures). f .expected) innerCases
+pub inner-cases : map (λ (f : Value). f .given) innerCases ≡ map (λ (f : Value). f .expected) innerCases
 unfolding sumBelow
     weight listOf
     firstRefusal unlessRefused
@@ -32,5 +32,5 @@ unfolding sumBelow distance joinAt walk weight anyBelow greatest
     highFirst rowOf sumOfRows leastWeight codeOf bytesOf rowBytes sealed cardOf
     gray lastCodeword codeword changedRow changedWeight start lastPosition
     chunkSize placesBefore fiveChunks word blockOf wordAt divided those
-    cardA cardB cardOfUnlikeBlocks whereDivided dividedCases
+    cardA cardB cardOfUnequalBlocks whereDivided dividedCases
 divided-cases = refl

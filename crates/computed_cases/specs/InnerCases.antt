@@ -36,39 +36,39 @@ abbrev rowSums : (card : List ℕ) (block : ℕ) → List ℤ
 rowSums card i = map pos (sumBeforeRow (codeOf card) i 0 ∷ listOf (codeOf card .k) (sumAfterRow (codeOf card) i))
 
 -- figures of the definitions, and what the document says
-pub record Figures : Type 0 where
+pub record Value : Type 0 where
   pub given : List ℤ
   pub expected : List ℤ
 
-abbrev signed : List ℤ → List ℤ → Figures
+abbrev signed : List ℤ → List ℤ → Value
 signed given expected = record { given = given; expected = expected }
 
-abbrev figures : List ℤ → List ℕ → Figures
-figures given expected = signed given (map pos expected)
+abbrev value : List ℤ → List ℕ → Value
+value given expected = signed given (map pos expected)
 
-unfoldable pub innerCases : List Figures
+unfoldable pub innerCases : List Value
 innerCases =
     -- P1: m 0 is 13, and all 512 bytes are zero; `makeAnswer` has one clause for every refusal, so they are the same whatever r and m are
-    figures (made (makeAnswer 14 0 0)) (13 ∷ replicate 512 0)
+    value (made (makeAnswer 14 0 0)) (13 ∷ replicate 512 0)
     -- P2: -2^31 and 2^31 - 1
     ∷ signed (offsetIn (0x80 ∷ 0x00 ∷ 0x00 ∷ 0x00 ∷ [])) (negℤ (pos 2147483648) ∷ [])
-    ∷ figures (offsetIn (0x7f ∷ 0xff ∷ 0xff ∷ 0xff ∷ [])) (2147483647 ∷ [])
+    ∷ value (offsetIn (0x7f ∷ 0xff ∷ 0xff ∷ 0xff ∷ [])) (2147483647 ∷ [])
     -- both ends of the range; no sound card has a position above 1,310,400
-    ∷ figures (millimetresOf (negℤ (pos 20000)) 1310400 ∷ []) (65500000 ∷ [])
-    ∷ figures (millimetresOf (pos 20000) 1310400 ∷ []) (65540000 ∷ [])
+    ∷ value (millimetresOf (negℤ (pos 20000)) 1310400 ∷ []) (65500000 ∷ [])
+    ∷ value (millimetresOf (pos 20000) 1310400 ∷ []) (65540000 ∷ [])
     -- P4, with 3D × i first: card B's one row, of weight 3, is added at codeword 1
-    ∷ figures (rowSums cardB 0) (0 ∷ 0 ∷ [])
-    ∷ figures (rowSums cardB 1) (9 ∷ 15 ∷ [])
+    ∷ value (rowSums cardB 0) (0 ∷ 0 ∷ [])
+    ∷ value (rowSums cardB 1) (9 ∷ 15 ∷ [])
     -- card A's two rows, of weight 2, are first added at codewords 1 and 2, and row 0 again at 3
-    ∷ figures (rowSums cardA 0) (0 ∷ 0 ∷ 0 ∷ [])
-    ∷ figures (rowSums cardA 1) (6 ∷ 10 ∷ 10 ∷ [])
-    ∷ figures (rowSums cardA 2) (12 ∷ 16 ∷ 20 ∷ [])
-    ∷ figures (rowSums cardA 3) (18 ∷ 26 ∷ 30 ∷ [])
+    ∷ value (rowSums cardA 0) (0 ∷ 0 ∷ 0 ∷ [])
+    ∷ value (rowSums cardA 1) (6 ∷ 10 ∷ 10 ∷ [])
+    ∷ value (rowSums cardA 2) (12 ∷ 16 ∷ 20 ∷ [])
+    ∷ value (rowSums cardA 3) (18 ∷ 26 ∷ 30 ∷ [])
     -- of four rows, just before row 3 is added, where it is, and at the last codeword
-    ∷ figures (rowShares fourRowCard 7) (32 ∷ 12 ∷ 4 ∷ 0 ∷ [])
-    ∷ figures (rowShares fourRowCard 8) (32 ∷ 12 ∷ 4 ∷ 2 ∷ [])
-    ∷ figures (rowShares fourRowCard 15) (64 ∷ 24 ∷ 8 ∷ 2 ∷ [])
-    ∷ figures (rowSums fourRowCard 15) (45 ∷ 109 ∷ 133 ∷ 141 ∷ 143 ∷ [])
+    ∷ value (rowShares fourRowCard 7) (32 ∷ 12 ∷ 4 ∷ 0 ∷ [])
+    ∷ value (rowShares fourRowCard 8) (32 ∷ 12 ∷ 4 ∷ 2 ∷ [])
+    ∷ value (rowShares fourRowCard 15) (64 ∷ 24 ∷ 8 ∷ 2 ∷ [])
+    ∷ value (rowSums fourRowCard 15) (45 ∷ 109 ∷ 133 ∷ 141 ∷ 143 ∷ [])
     ∷ []
 
 -- the positions, up to the last, at which a chunk, 0 to 4, of the position's word is divided
@@ -86,8 +86,8 @@ abbrev divides : List ℕ → ℕ → List ℕ → Divisions
 divides card chunk positions = record { card = card; chunk = chunk; positions = positions }
 
 -- two rows, of weights 2 and 1, and D 1: A is 2 in blocks 0 and 2, and 1 in block 1
-unfoldable pub cardOfUnlikeBlocks : List ℕ
-cardOfUnlikeBlocks = cardWith 2 2 0 (0b11 ∷ 0b01 ∷ [])
+unfoldable pub cardOfUnequalBlocks : List ℕ
+cardOfUnequalBlocks = cardWith 2 2 0 (0b11 ∷ 0b01 ∷ [])
 
 unfoldable pub dividedCases : List Divisions
 dividedCases =
@@ -104,9 +104,9 @@ dividedCases =
     ∷ divides cardA 3 (7 ∷ 17 ∷ 27 ∷ [])
     ∷ divides cardA 4 (9 ∷ 19 ∷ 29 ∷ [])
     -- with D 1 a separator is never divided, and with A 1, in block 1, neither is a code chunk
-    ∷ divides cardOfUnlikeBlocks 0 []
-    ∷ divides cardOfUnlikeBlocks 1 (2 ∷ 14 ∷ [])
-    ∷ divides cardOfUnlikeBlocks 2 []
-    ∷ divides cardOfUnlikeBlocks 3 (5 ∷ 17 ∷ [])
-    ∷ divides cardOfUnlikeBlocks 4 []
+    ∷ divides cardOfUnequalBlocks 0 []
+    ∷ divides cardOfUnequalBlocks 1 (2 ∷ 14 ∷ [])
+    ∷ divides cardOfUnequalBlocks 2 []
+    ∷ divides cardOfUnequalBlocks 3 (5 ∷ 17 ∷ [])
+    ∷ divides cardOfUnequalBlocks 4 []
     ∷ []

@@ -24,7 +24,7 @@ pub data Question : Type 0 where
   -- the answer to a read
   read : (card received : List ℕ) → Question
   -- in how many bits the position's word and the received word differ
-  bitsUnlike : (card : List ℕ) (position : ℕ) (received : List ℕ) → Question
+  bitsDiffering : (card : List ℕ) (position : ℕ) (received : List ℕ) → Question
   -- how many bits of each separator are 1
   onesOfSeparators : (card received : List ℕ) → Question
 
@@ -44,7 +44,7 @@ answerTo (starts card m) = listOf m (start (codeOf card)) ++ (lastPosition (code
 answerTo (write card position lent) =
     numbersOf writeStatus writeValues (writeAnswer card position lent) ++ lentAfterWrite card position lent
 answerTo (read card received) = numbersOf readStatus readValues (readAnswer card received)
-answerTo (bitsUnlike card position received) = differingBits (wordBytes (codeOf card) position) received ∷ []
+answerTo (bitsDiffering card position received) = differingBits (wordBytes (codeOf card) position) received ∷ []
 answerTo (onesOfSeparators card received) =
     let C : Code = codeOf card in
     let x : ℕ → ℕ = place received in
@@ -70,7 +70,7 @@ starredCases =
     ∷ case (write cardB 16 (0xaa ∷ 0xaa ∷ [])) (7 ∷ 0xaa ∷ 0xaa ∷ [])
     -- `5F 00` reads 5; it is 7 with one bit turned, off by two (the residual is 1, by rule 2, which names chunk 2)
     ∷ case (read cardB (0x5f ∷ 0x00 ∷ [])) (0 ∷ 5 ∷ 1 ∷ 2 ∷ notRead ∷ 0 ∷ [])
-    ∷ case (bitsUnlike cardB 7 (0x5f ∷ 0x00 ∷ [])) (1 ∷ [])
+    ∷ case (bitsDiffering cardB 7 (0x5f ∷ 0x00 ∷ [])) (1 ∷ [])
     -- `00 70`: 12
     ∷ case (read cardB (0x00 ∷ 0x70 ∷ [])) (12 ∷ [])
     -- `00 0E` (chunk 2 all ones): 11

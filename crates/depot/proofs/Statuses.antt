@@ -13,15 +13,15 @@ use Rattle.model.specs.Refusals.{unlessRefused, ifServed}
 use Rattle.model.specs.Card.{cardRefusal, codeOf, offsetOf}
 use Rattle.model.specs.Order.{start}
 use Rattle.model.specs.Words.{wordBits, millimetresOf}
-use Rattle.model.specs.CheckCard.{summaryOf, cardAnswer, cardFigures, cardStatus, cardValues}
+use Rattle.model.specs.CheckCard.{summaryOf, cardAnswer, cardExpected, cardStatus, cardValues}
 use Rattle.model.specs.WriteWord.{writeRefusal, writeAnswer, writeStatus, writeValues}
-use Rattle.model.specs.ReadWord.{readingOf, readRefusal, readAnswer, readFigures, readStatus, readValues}
-use Rattle.model.specs.ReadLevels.{readingTold, levelsAnswered, levelsAnswer, levelsRefusal, levelsFigures, strengthFigures, positionAnswer}
+use Rattle.model.specs.ReadWord.{readingOf, readRefusal, readAnswer, readExpected, readStatus, readValues}
+use Rattle.model.specs.ReadLevels.{readingInLevels, levelsAnswered, levelsAnswer, levelsRefusal, levelsExpected, strengthExpected, positionAnswer}
 use Rattle.model.specs.ReadLevels.{levelsStatus, levelsValues, strengthValues}
 use Rattle.model.specs.BlockStart.{startRefusal, startAnswer, numberStatus, numberValues}
 use Rattle.model.specs.Millimetres.{millimetresRefusal, millimetresAnswer, millimetresStatus, millimetresValues}
-use Rattle.model.specs.VoteChunk.{voteRefusal, voteAnswer, voteFigures, voteStatus, voteValues}
-use Rattle.model.specs.Levels.{toldAt, strengthOf}
+use Rattle.model.specs.VoteChunk.{voteRefusal, voteAnswer, voteExpected, voteStatus, voteValues}
+use Rattle.model.specs.Levels.{receivedAt, strengthOf}
 use Rattle.model.specs.ReedMuller.{votedNumber, votedDistance}
 use Rattle.model.specs.declared.CardAnswer.the-variants.{Sound, Refused as CardRefused}
 use Rattle.model.specs.declared.WriteAnswer.{WriteAnswer}
@@ -32,81 +32,81 @@ use Rattle.model.specs.declared.LevelsAnswer.the-variants.{At as LevelsAt, Refu
 use Rattle.model.specs.declared.NumberAnswer.the-variants.{Number, Refused as NumberRefused}
 use Rattle.model.specs.declared.MillimetresAnswer.the-variants.{Millimetres, Refused as MillimetresRefused}
 use Rattle.model.specs.declared.VoteAnswer.the-variants.{Voted, Refused as VoteRefused}
-use Rattle.code_theory.proofs.Refusals.{served-if-none, refused-if-some}
+use Rattle.code_theory.proofs.RefusalRows.{served-if-none, refused-if-some}
 
 -- what a contract says of an answer's status and values
-abbrev pub Told : {A B : Type 0} (status : A → ℕ) (values : A → List B) (refusal : ℕ) (figures : List B) (answer : A) → Type 0
-Told status values refusal figures answer = (status answer ≡ refusal) × (values answer ≡ ifServed (status answer) figures)
+abbrev pub StatusAndValues : {A B : Type 0} (status : A → ℕ) (values : A → List B) (refusal : ℕ) (expected : List B) (answer : A) → Type 0
+StatusAndValues status values refusal expected answer = (status answer ≡ refusal) × (values answer ≡ ifServed (status answer) expected)
 
 -- an answer that is served where the refusal's number is 0, and is the refusal otherwise
-pub told : {A B : Type 0} (status : A → ℕ) (values : A → List B) (refusal : ℕ) (figures : List B) (refused : ℕ → A) (served : A)
+pub status-and-values : {A B : Type 0} (status : A → ℕ) (values : A → List B) (refusal : ℕ) (expected : List B) (refused : ℕ → A) (served : A)
     → ((number : ℕ) → status (refused number) ≡ number) → ((number : ℕ) → values (refused number) ≡ [])
-    → status served ≡ 0 → values served ≡ figures
-    → Told status values refusal figures (unlessRefused refusal refused served)
+    → status served ≡ 0 → values served ≡ expected
+    → StatusAndValues status values refusal expected (unlessRefused refusal refused served)
 unfolding ifServed
-told status values refusal figures refused served number none zero values-are =
+status-and-values status values refusal expected refused served number none zero values-are =
     ⊎-elim
     (λ (e : refusal ≡ 0). rw (served-if-none refusal refused served e) (zero ∙ sym e, values-are ∙ rw zero))
     (λ (ne : refusal ≡ 0 → ⊥).
     rw (refused-if-some refusal refused served ne) (number refusal, none refusal ∙ rw (number refusal, ne-eqb refusal 0 ne)))
     (eq-or-ne refusal 0)
 
-pub card-told : (card : List ℕ) → Told cardStatus cardValues (cardRefusal card) (cardFigures card) (cardAnswer card)
-unfolding cardAnswer cardStatus cardValues cardFigures summaryOf
-card-told card =
-    told cardStatus cardValues (cardRefusal card) (cardFigures card) CardRefused (Sound (summaryOf card)) (λ number. refl) (λ number. refl) refl refl
+pub card-answered : (card : List ℕ) → StatusAndValues cardStatus cardValues (cardRefusal card) (cardExpected card) (cardAnswer card)
+unfolding cardAnswer cardStatus cardValues cardExpected summaryOf
+card-answered card =
+    status-and-values cardStatus cardValues (cardRefusal card) (cardExpected card) CardRefused (Sound (summaryOf card)) (λ number. refl) (λ number. refl) refl refl
 
-pub write-told : (card : List ℕ) (position : ℕ) (lent : List ℕ)
-    → Told writeStatus writeValues (writeRefusal card position lent) [] (writeAnswer card position lent)
+pub write-answered : (card : List ℕ) (position : ℕ) (lent : List ℕ)
+    → StatusAndValues writeStatus writeValues (writeRefusal card position lent) [] (writeAnswer card position lent)
 unfolding writeAnswer writeStatus writeValues
-write-told card position lent =
-    told writeStatus writeValues (writeRefusal card position lent) [] WriteRefused Written (λ number. refl) (λ number. refl) refl refl
+write-answered card position lent =
+    status-and-values writeStatus writeValues (writeRefusal card position lent) [] WriteRefused Written (λ number. refl) (λ number. refl) refl refl
 
-pub read-told : (card received : List ℕ)
-    → Told readStatus readValues (readRefusal card received) (readFigures card received) (readAnswer card received)
-unfolding readAnswer readStatus readValues readFigures
-read-told card received =
-    told readStatus readValues (readRefusal card received) (readFigures card received) ReadRefused (At (readingOf (codeOf card) received))
+pub read-answered : (card received : List ℕ)
+    → StatusAndValues readStatus readValues (readRefusal card received) (readExpected card received) (readAnswer card received)
+unfolding readAnswer readStatus readValues readExpected
+read-answered card received =
+    status-and-values readStatus readValues (readRefusal card received) (readExpected card received) ReadRefused (At (readingOf (codeOf card) received))
     (λ number. refl) (λ number. refl) refl refl
 
 -- a word of levels that is read: the reading, with the strength of all levels
 abbrev levelsServed : (card : List ℕ) (levels : List Float) → LevelsAnswer
-levelsServed card levels = LevelsAt (readingTold (codeOf card) (toldAt levels)) (strengthOf (toldAt levels) (wordBits (codeOf card)))
+levelsServed card levels = LevelsAt (readingInLevels (codeOf card) (receivedAt levels)) (strengthOf (receivedAt levels) (wordBits (codeOf card)))
 
-pub levels-told : (card : List ℕ) (levels : List Float)
-    → Told levelsStatus levelsValues (levelsRefusal card levels) (levelsFigures card levels) (levelsAnswer card levels)
-unfolding levelsAnswer levelsAnswered positionAnswer readStatus readValues levelsFigures
-levels-told card levels =
-    told levelsStatus levelsValues (levelsRefusal card levels) (levelsFigures card levels) LevelsRefused (levelsServed card levels)
+pub levels-answered : (card : List ℕ) (levels : List Float)
+    → StatusAndValues levelsStatus levelsValues (levelsRefusal card levels) (levelsExpected card levels) (levelsAnswer card levels)
+unfolding levelsAnswer levelsAnswered positionAnswer readStatus readValues levelsExpected
+levels-answered card levels =
+    status-and-values levelsStatus levelsValues (levelsRefusal card levels) (levelsExpected card levels) LevelsRefused (levelsServed card levels)
     (λ number. refl) (λ number. refl) refl refl
 
 -- and the strength of a word that is read
-pub strength-told : (card : List ℕ) (levels : List Float)
-    → Told levelsStatus strengthValues (levelsRefusal card levels) (strengthFigures card levels) (levelsAnswer card levels)
-unfolding levelsAnswer levelsAnswered positionAnswer readStatus strengthValues strengthFigures
-strength-told card levels =
-    told levelsStatus strengthValues (levelsRefusal card levels) (strengthFigures card levels) LevelsRefused (levelsServed card levels)
+pub strength-answered : (card : List ℕ) (levels : List Float)
+    → StatusAndValues levelsStatus strengthValues (levelsRefusal card levels) (strengthExpected card levels) (levelsAnswer card levels)
+unfolding levelsAnswer levelsAnswered positionAnswer readStatus strengthValues strengthExpected
+strength-answered card levels =
+    status-and-values levelsStatus strengthValues (levelsRefusal card levels) (strengthExpected card levels) LevelsRefused (levelsServed card levels)
     (λ number. refl) (λ number. refl) refl refl
 
-pub start-told : (card : List ℕ) (block : ℕ)
-    → Told numberStatus numberValues (startRefusal card block) (start (codeOf card) block ∷ []) (startAnswer card block)
+pub start-answered : (card : List ℕ) (block : ℕ)
+    → StatusAndValues numberStatus numberValues (startRefusal card block) (start (codeOf card) block ∷ []) (startAnswer card block)
 unfolding startAnswer numberStatus numberValues
-start-told card block =
-    told numberStatus numberValues (startRefusal card block) _ NumberRefused (Number (start (codeOf card) block))
+start-answered card block =
+    status-and-values numberStatus numberValues (startRefusal card block) _ NumberRefused (Number (start (codeOf card) block))
     (λ number. refl) (λ number. refl) refl refl
 
-pub millimetres-told : (card : List ℕ) (position : ℕ)
-    → Told millimetresStatus millimetresValues (millimetresRefusal card position) (millimetresOf (offsetOf card) position ∷ [])
+pub millimetres-answered : (card : List ℕ) (position : ℕ)
+    → StatusAndValues millimetresStatus millimetresValues (millimetresRefusal card position) (millimetresOf (offsetOf card) position ∷ [])
     (millimetresAnswer card position)
 unfolding millimetresAnswer millimetresStatus millimetresValues
-millimetres-told card position =
-    told millimetresStatus millimetresValues (millimetresRefusal card position) _ MillimetresRefused
+millimetres-answered card position =
+    status-and-values millimetresStatus millimetresValues (millimetresRefusal card position) _ MillimetresRefused
     (Millimetres (millimetresOf (offsetOf card) position)) (λ number. refl) (λ number. refl) refl refl
 
-pub vote-told : (r m chunk : ℕ) → Told voteStatus voteValues (voteRefusal r m chunk) (voteFigures r m chunk) (voteAnswer r m chunk)
-unfolding voteAnswer voteStatus voteValues voteFigures
-vote-told r m chunk =
-    told voteStatus voteValues (voteRefusal r m chunk) (voteFigures r m chunk) VoteRefused
+pub vote-answered : (r m chunk : ℕ) → StatusAndValues voteStatus voteValues (voteRefusal r m chunk) (voteExpected r m chunk) (voteAnswer r m chunk)
+unfolding voteAnswer voteStatus voteValues voteExpected
+vote-answered r m chunk =
+    status-and-values voteStatus voteValues (voteRefusal r m chunk) (voteExpected r m chunk) VoteRefused
     (Voted (votedNumber r m (bit chunk)) (votedDistance r m (bit chunk)))
     (λ number. refl) (λ number. refl) refl refl
 

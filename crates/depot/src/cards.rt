@@ -4,7 +4,7 @@ ghost use mathlib.Core.List.{List};
 ghost use Prim.Native.Nat.{ℕ};
 ghost use Rattle.model.specs.Refusals.{ifServed};
 ghost use Rattle.model.specs.Card.{cardRefusal};
-ghost use Rattle.model.specs.CheckCard.{cardAnswer, cardFigures, cardStatus, cardValues};
+ghost use Rattle.model.specs.CheckCard.{cardAnswer, cardExpected, cardStatus, cardValues};
 ghost use Rattle.model.specs.Decoded.{meaning};
 ghost use Rattle.code_theory.specs.Offsets.{CheckPromises};
 ghost use Rattle.code_theory.specs.Promise.{Sound};
@@ -43,7 +43,7 @@ pub fn card_answer(decoded: Decoded) -> CardAnswer
 pub fn check_card(card: &[u8]) -> CardAnswer
     ensures answer { λ r. ⌜ r ≡ cardAnswer (now (card .entry)) ⌝ }
     ensures status { λ r. ⌜ cardStatus r ≡ cardRefusal (now (card .entry)) ⌝ }
-    ensures values { λ r. ⌜ cardValues r ≡ ifServed (cardStatus r) (cardFigures (now (card .entry))) ⌝ }
+    ensures values { λ r. ⌜ cardValues r ≡ ifServed (cardStatus r) (cardExpected (now (card .entry))) ⌝ }
     ensures promises { λ r. ⌜ CheckPromises (now (card .entry)) r ⌝ }
 {
     card_answer(decode::decode(card))

@@ -5,7 +5,7 @@ ghost use mathlib.Core.Bool.{true};
 ghost use Rattle.model.specs.Refusals.{ifServed};
 ghost use Rattle.model.specs.ReedMuller.{orderWithinLimits};
 ghost use Rattle.model.specs.MakeCard.{makeRefusal, makeAnswer};
-ghost use Rattle.model.specs.VoteChunk.{voteRefusal, voteAnswer, voteFigures, voteStatus, voteValues};
+ghost use Rattle.model.specs.VoteChunk.{voteRefusal, voteAnswer, voteExpected, voteStatus, voteValues};
 ghost use Rattle.reed_muller_theory.specs.MadeCards.{IsReedMullerCard};
 ghost use Rattle.reed_muller_theory.specs.Votes.{VotePromises};
 use model::Chunk;
@@ -24,7 +24,7 @@ pub fn make_card(track: u16, r: u32, m: u32) -> MadeCard
     ensures status { λ a. ⌜ a .refusal ≡ makeRefusal r m ⌝ }
     ensures made { λ a. ⌜ (orderWithinLimits r m ≡ true → (a .refusal ≡ 0) × IsReedMullerCard track r m (a .bytes)) ⌝ }
 {
-    if !limits::within_limits(r, m) {
+    if !limits::order_within_limits(r, m) {
         return MadeCard {
             refusal: 13,
             bytes: [0u8; 512],
@@ -41,10 +41,10 @@ pub fn make_card(track: u16, r: u32, m: u32) -> MadeCard
 pub fn vote_chunk(r: u32, m: u32, chunk: u64) -> VoteAnswer
     ensures answer { λ a. ⌜ a ≡ voteAnswer r m chunk ⌝ }
     ensures status { λ a. ⌜ voteStatus a ≡ voteRefusal r m chunk ⌝ }
-    ensures values { λ a. ⌜ voteValues a ≡ ifServed (voteStatus a) (voteFigures r m chunk) ⌝ }
+    ensures values { λ a. ⌜ voteValues a ≡ ifServed (voteStatus a) (voteExpected r m chunk) ⌝ }
     ensures promises { λ a. ⌜ VotePromises r m chunk a ⌝ }
 {
-    if !limits::within_limits(r, m) {
+    if !limits::order_within_limits(r, m) {
         return VoteAnswer::Refused(13);
     }
     if rows::all_positions(m) < chunk {
@@ -53,6 +53,6 @@ pub fn vote_chunk(r: u32, m: u32, chunk: u64) -> VoteAnswer
     let read = voting::vote(r, m, chunk);
     match read {
         Chunk::Unreadable => VoteAnswer::Refused(10),
-        Chunk::Codeword { number, unlike } => VoteAnswer::Voted { number, unlike },
+        Chunk::Codeword { number, differing } => VoteAnswer::Voted { number, differing },
     }
 }

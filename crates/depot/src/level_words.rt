@@ -1,9 +1,9 @@
 // The call on a word from a receiver that gives levels.
 ghost use mathlib.Core.Path.{_≡_};
 ghost use Rattle.model.specs.Refusals.{ifServed};
-ghost use Rattle.model.specs.ReadLevels.{levelsAnswer, levelsRefusal, levelsFigures, strengthFigures, positionAnswer, levelsStatus};
+ghost use Rattle.model.specs.ReadLevels.{levelsAnswer, levelsRefusal, levelsExpected, strengthExpected, positionAnswer, levelsStatus};
 ghost use Rattle.model.specs.ReadLevels.{levelsValues, strengthValues};
-ghost use Rattle.level_theory.specs.LevelPromises.{OffByAtMostTwiceWrongAndLost, LevelPromises};
+ghost use Rattle.level_theory.specs.LevelPromises.{OffByAtMostTwiceWrongAndErased, LevelPromises};
 use card_reader::decode;
 use model::LevelsAnswer;
 
@@ -20,14 +20,14 @@ use model::LevelsAnswer;
 pub fn read_levels(card: &[u8], levels: &[f32]) -> LevelsAnswer
     ensures answer { λ r. ⌜ r ≡ levelsAnswer (now (card .entry)) (now (levels .entry)) ⌝ }
     ensures status { λ r. ⌜ levelsStatus r ≡ levelsRefusal (now (card .entry)) (now (levels .entry)) ⌝ }
-    ensures values { λ r. ⌜ levelsValues r ≡ ifServed (levelsStatus r) (levelsFigures (now (card .entry)) (now (levels .entry))) ⌝ }
-    ensures strength { λ r. ⌜ strengthValues r ≡ ifServed (levelsStatus r) (strengthFigures (now (card .entry)) (now (levels .entry))) ⌝ }
-    ensures bounded { λ r. ⌜ OffByAtMostTwiceWrongAndLost (now (card .entry)) (now (levels .entry)) (positionAnswer r) ⌝ }
+    ensures values { λ r. ⌜ levelsValues r ≡ ifServed (levelsStatus r) (levelsExpected (now (card .entry)) (now (levels .entry))) ⌝ }
+    ensures strength { λ r. ⌜ strengthValues r ≡ ifServed (levelsStatus r) (strengthExpected (now (card .entry)) (now (levels .entry))) ⌝ }
+    ensures bounded { λ r. ⌜ OffByAtMostTwiceWrongAndErased (now (card .entry)) (now (levels .entry)) (positionAnswer r) ⌝ }
     ensures promises { λ r. ⌜ LevelPromises (now (card .entry)) (now (levels .entry)) (positionAnswer r) ⌝ }
 {
     let decoded = decode::decode(card);
     if decoded.refusal != 0 {
         return LevelsAnswer::Refused(decoded.refusal);
     }
-    level_reader::read(decoded.code, levels)
+    level_reader::read_level_word(decoded.code, levels)
 }

@@ -9,13 +9,13 @@ ghost use Rattle.model.specs.Card.{codeOf, offsetOf, offsetOutside};
 ghost use Rattle.model.specs.Order.{start};
 ghost use Rattle.model.specs.Words.{millimetresOf};
 ghost use Rattle.model.specs.WriteWord.{writeAnswer, lentAfterWrite, writeRefusal, writeStatus, writeValues};
-ghost use Rattle.model.specs.ReadWord.{readAnswer, readRefusal, readFigures, readStatus, readValues};
+ghost use Rattle.model.specs.ReadWord.{readAnswer, readRefusal, readExpected, readStatus, readValues};
 ghost use Rattle.model.specs.BlockStart.{startAnswer, startRefusal, numberStatus, numberValues};
 ghost use Rattle.model.specs.Millimetres.{millimetresAnswer, millimetresRefusal, millimetresStatus, millimetresValues};
 ghost use Rattle.model.specs.declared.WriteAnswer.the-variants.{Written};
 ghost use Rattle.code_theory.specs.Offsets.{MillimetresPromises};
 ghost use Rattle.position_theory.specs.WritePromises.{NeighboursDifferInOneBit, NoOtherPositionsWord, WritePromises};
-ghost use Rattle.position_theory.specs.ReadPromises.{OffByAtMostTwiceTurned, OffByAtMostTurnedAndResidual, ReadPromises};
+ghost use Rattle.position_theory.specs.ReadPromises.{OffByAtMostTwiceDamaged, OffByAtMostDamagedAndResidual, ReadPromises};
 use card_reader::decode;
 use model::MillimetresAnswer;
 use model::NumberAnswer;
@@ -70,9 +70,9 @@ pub fn write_word(card: &[u8], position: u32, word: &mut [u8]) -> WriteAnswer
 pub fn read_word(card: &[u8], word: &[u8]) -> ReadAnswer
     ensures answer { λ r. ⌜ r ≡ readAnswer (now (card .entry)) (now (word .entry)) ⌝ }
     ensures status { λ r. ⌜ readStatus r ≡ readRefusal (now (card .entry)) (now (word .entry)) ⌝ }
-    ensures values { λ r. ⌜ readValues r ≡ ifServed (readStatus r) (readFigures (now (card .entry)) (now (word .entry))) ⌝ }
-    ensures bounded { λ r. ⌜ OffByAtMostTwiceTurned (now (card .entry)) (now (word .entry)) r ⌝ }
-    ensures sharper { λ r. ⌜ OffByAtMostTurnedAndResidual (now (card .entry)) (now (word .entry)) r ⌝ }
+    ensures values { λ r. ⌜ readValues r ≡ ifServed (readStatus r) (readExpected (now (card .entry)) (now (word .entry))) ⌝ }
+    ensures bounded { λ r. ⌜ OffByAtMostTwiceDamaged (now (card .entry)) (now (word .entry)) r ⌝ }
+    ensures sharper { λ r. ⌜ OffByAtMostDamagedAndResidual (now (card .entry)) (now (word .entry)) r ⌝ }
     ensures promises { λ r. ⌜ ReadPromises (now (card .entry)) (now (word .entry)) r ⌝ }
 {
     let decoded = decode::decode(card);
@@ -96,7 +96,7 @@ pub fn block_start(card: &[u8], block: u32) -> NumberAnswer
     if blocks::last_codeword(code) < block {
         return NumberAnswer::Refused(7);
     }
-    NumberAnswer::Number(blocks::block_start(code, block))
+    NumberAnswer::Number(blocks::start_of_block(code, block))
 }
 
 // The distance of a position from the buffer face: the offset, and 50 mm for each step. Document 01 names the form: a signed sum.

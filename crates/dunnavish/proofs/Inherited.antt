@@ -10,29 +10,29 @@ use lib.Dec.{eqb}
 use lib.ListN.{length}
 use lib.Seq.{sets}
 use Rattle.model.specs.Refusals.{unlessRefused, ifServed}
-use Rattle.code_theory.proofs.Refusals.{served-if-none, refused-if-some}
+use Rattle.code_theory.proofs.RefusalRows.{served-if-none, refused-if-some}
 use Rattle.dunnavish.specs.Crossing.{wrongCount, statusFor, leftBy, UnchangedUnlessZero}
 use Rattle.dunnavish.proofs.Lent.{Crosses, wrong-count-crosses, refusal-crosses, values-cross, unchanged-by, all-stored}
 
 module _ {A B : Type 0} (status : A → ℕ) (values : A → List B) where
   -- what the library's contract says of the values of what it answers: where it serves they are these figures, and there are some
-  abbrev pub Serves : (figures : List B) (answered : A) → Type 0
-  Serves figures answered = (values answered ≡ ifServed (status answered) figures) × (eqb (length figures) 0 ≡ false)
+  abbrev pub Serves : (expected : List B) (answered : A) → Type 0
+  Serves expected answered = (values answered ≡ ifServed (status answered) expected) × (eqb (length expected) 0 ≡ false)
 
   -- a refusal has no values, so it has not the number 0
-  pub refused-nonzero : {answered refusal : A} (figures : List B) → Serves figures answered → answered ≡ refusal → values refusal ≡ []
+  pub refused-nonzero : {answered refusal : A} (expected : List B) → Serves expected answered → answered ≡ refusal → values refusal ≡ []
       → status refusal ≡ 0 → ⊥
   unfolding ifServed
-  refused-nonzero {answered} figures (serves, some) is none served-0 =
-      let no-figures : figures ≡ [] = sym (serves ∙ rw (eq-eqb (status answered) 0 (ap status is ∙ served-0))) ∙ ap values is ∙ none in
-      false≢true (sym some ∙ rw no-figures)
+  refused-nonzero {answered} expected (serves, some) is none served-0 =
+      let no-values : expected ≡ [] = sym (serves ∙ rw (eq-eqb (status answered) 0 (ap status is ∙ served-0))) ∙ ap values is ∙ none in
+      false≢true (sym some ∙ rw no-values)
 
   -- what crosses of a refusal, and of what is served, where the right count is lent
   module _ {count : ℕ} (lent : List B) {answer answered : A} (alike : length lent ≡ count) (is : answered ≡ answer) where
-    pub refused-crosses : (figures : List B) → Serves figures answered → {refusal : A} {n : ℕ} → answered ≡ refusal
+    pub refused-crosses : (expected : List B) → Serves expected answered → {refusal : A} {n : ℕ} → answered ≡ refusal
         → status refusal ≡ n → values refusal ≡ [] → Crosses count lent (status answer) (values answer) n lent
-    refused-crosses figures serves {refusal} {n} refused number none =
-        let nonzero : n ≡ 0 → ⊥ = λ zero. refused-nonzero figures serves refused none (number ∙ zero) in
+    refused-crosses expected serves {refusal} {n} refused number none =
+        let nonzero : n ≡ 0 → ⊥ = λ zero. refused-nonzero expected serves refused none (number ∙ zero) in
         rw (ap status (sym is ∙ refused) ∙ number) (refusal-crosses count lent alike n nonzero (values answer))
 
     served-crosses : {served : A} {left : List B} → answered ≡ served → status served ≡ 0 → left ≡ values served
@@ -48,9 +48,9 @@ module _ {A B : Type 0} (status : A → ℕ) (values : A → List B) where
 
 module _ {A B : Type 0} (status : A → ℕ) (values : A → List B) (refusal : ℕ → A) (decoded : ℕ → List B → A) (Promise : A → Type 0) where
   -- what the library's contract says of its answer: it is the definition's, its status and its values, and what is promised of it
-  abbrev Ensured : (answer : A) (number : ℕ) (figures : List B) (answered : A) → Type 0
-  Ensured answer number figures answered =
-      (answered ≡ answer) × ((status answered ≡ number) × ((values answered ≡ ifServed (status answered) figures) × Promise answered))
+  abbrev Ensured : (answer : A) (number : ℕ) (expected : List B) (answered : A) → Type 0
+  Ensured answer number expected answered =
+      (answered ≡ answer) × ((status answered ≡ number) × ((values answered ≡ ifServed (status answered) expected) × Promise answered))
 
   -- the contract of a call: its status, what is left, that nothing has changed unless the status is 0, and the promise of what is decoded
   abbrev pub Contract : (count : ℕ) (lent : List B) (answer : A) (s : ℕ) (left : List B) → Type 0
@@ -65,18 +65,18 @@ module _ {A B : Type 0} (status : A → ℕ) (values : A → List B) (refusal : 
         (is-status, (is-left, (unchanged-by s (values answer) lent left is-left, promised)))
 
     pub wrong-count : (length lent ≡ count → ⊥) → Contract count lent answer wrongCount lent
-    wrong-count unlike =
-        inherits wrongCount lent (wrong-count-crosses count lent unlike (status answer) (values answer)) (λ alike. absurd (unlike alike))
+    wrong-count other-length =
+        inherits wrongCount lent (wrong-count-crosses count lent other-length (status answer) (values answer)) (λ alike. absurd (other-length alike))
 
-    module _ (alike : length lent ≡ count) {number : ℕ} (figures : List B) {answered : A}
-        (ensured : Ensured answer number figures answered) where
-      pub refused : eqb (length figures) 0 ≡ false → (n : ℕ) → answered ≡ refusal n → status (refusal n) ≡ n → values (refusal n) ≡ []
+    module _ (alike : length lent ≡ count) {number : ℕ} (expected : List B) {answered : A}
+        (ensured : Ensured answer number expected answered) where
+      pub refused : eqb (length expected) 0 ≡ false → (n : ℕ) → answered ≡ refusal n → status (refusal n) ≡ n → values (refusal n) ≡ []
           → (other : A) → decoded n lent ≡ unlessRefused n refusal other → Contract count lent answer n lent
-      refused some n given told none other decodes =
+      refused some n given number-is none other decodes =
           let (is, (_, (serves, promised))) = ensured in
-          let nonzero : n ≡ 0 → ⊥ = λ zero. refused-nonzero status values figures (serves, some) given none (told ∙ zero) in
+          let nonzero : n ≡ 0 → ⊥ = λ zero. refused-nonzero status values expected (serves, some) given none (number-is ∙ zero) in
           let back : decoded n lent ≡ answered = decodes ∙ refused-if-some n refusal other nonzero ∙ sym given in
-          inherits n lent (refused-crosses status values lent alike is figures (serves, some) given told none)
+          inherits n lent (refused-crosses status values lent alike is expected (serves, some) given number-is none)
           (λ _. subst Promise (sym back) promised)
 
       pub served : (answers : A) (left : List B) → answered ≡ answers → status answers ≡ 0 → left ≡ values answers

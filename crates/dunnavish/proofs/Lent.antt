@@ -16,7 +16,7 @@ module _ {A : Type 0} (count : ℕ) (lent : List A) where
 
   pub wrong-count-crosses : (length lent ≡ count → ⊥) → (answered : ℕ) (values : List A) → Crosses answered values wrongCount lent
   unfolding statusFor leftBy
-  wrong-count-crosses unlike answered values = rw (ne-eqb (length lent) count unlike) (refl, refl)
+  wrong-count-crosses other-length answered values = rw (ne-eqb (length lent) count other-length) (refl, refl)
 
   module _ (alike : length lent ≡ count) where
     pub refusal-crosses : (refusal : ℕ) → (refusal ≡ 0 → ⊥) → (values : List A) → Crosses refusal values refusal lent

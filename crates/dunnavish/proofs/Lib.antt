@@ -1,9 +1,9 @@
 pub mod Lent
 pub mod Inherited
 pub mod ReadsDecode
-pub mod Distances
+pub mod NearAnswers
 pub mod ReadsCross
 pub mod Writes
-pub mod MadeCards
-pub mod NothingLost
-pub mod Witnesses
+pub mod MadeCardCrossing
+pub mod LosslessDecoding
+pub mod CallWitnesses

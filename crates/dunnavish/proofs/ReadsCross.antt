@@ -10,30 +10,30 @@ use Rattle.model.specs.ReadLevels.{levelsAnswer, positionAnswer, levelsStatus, 
 use Rattle.model.specs.declared.ReadAnswer.{ReadAnswer}
 use Rattle.model.specs.declared.ReadAnswer.the-variants.{Refused}
 use Rattle.model.specs.declared.LevelsAnswer.{LevelsAnswer}
-use Rattle.position_theory.specs.ReadPromises.{OffByAtMostTwiceTurned, OffByAtMostTurnedAndResidual, ReadPromises}
-use Rattle.level_theory.specs.LevelPromises.{OffByAtMostTwiceWrongAndLost, LevelPromises}
+use Rattle.position_theory.specs.ReadPromises.{OffByAtMostTwiceDamaged, OffByAtMostDamagedAndResidual, ReadPromises}
+use Rattle.level_theory.specs.LevelPromises.{OffByAtMostTwiceWrongAndErased, LevelPromises}
 use Rattle.dunnavish.specs.Crossing.{wrongCount, readCount, strengthCount, statusFor, leftBy, UnchangedUnlessZero}
 use Rattle.dunnavish.specs.Decoding.{readLeft}
-use Rattle.dunnavish.specs.Demands.{ServedWithinTwiceTurned, ServedWithinTurnedAndResidual, ServedWithinTwiceWrongAndLost}
+use Rattle.dunnavish.specs.Demands.{ServedWithinTwiceDamaged, ServedWithinDamagedAndResidual, ServedWithinTwiceWrongAndErased}
 use Rattle.dunnavish.proofs.Lent.{status-lent, unchanged-by}
 use Rattle.dunnavish.proofs.Inherited.{Contract}
-use Rattle.dunnavish.proofs.Distances.{bounded-left, sharper-left, levels-bounded-left}
+use Rattle.dunnavish.proofs.NearAnswers.{bounded-left, sharper-left, levels-bounded-left}
 
 -- what the library's contracts promise of a reading
 abbrev pub PromisedOfRead : (card received : List ℕ) → ReadAnswer → Type 0
 PromisedOfRead card received answer =
-    OffByAtMostTwiceTurned card received answer × (OffByAtMostTurnedAndResidual card received answer × ReadPromises card received answer)
+    OffByAtMostTwiceDamaged card received answer × (OffByAtMostDamagedAndResidual card received answer × ReadPromises card received answer)
 
 abbrev pub PromisedOfLevels : (card : List ℕ) (levels : List Float) → ReadAnswer → Type 0
-PromisedOfLevels card levels answer = OffByAtMostTwiceWrongAndLost card levels answer × LevelPromises card levels answer
+PromisedOfLevels card levels answer = OffByAtMostTwiceWrongAndErased card levels answer × LevelPromises card levels answer
 
 pub read-crosses : (card received lent : List ℕ) (status : ℕ) (left : List ℕ)
     → Contract readStatus readValues Refused readLeft (PromisedOfRead card received) readCount lent (readAnswer card received) status left
     → (status ≡ statusFor readCount lent (readStatus (readAnswer card received)))
     × ((left ≡ leftBy status (readValues (readAnswer card received)) lent)
     × (UnchangedUnlessZero lent status left
-    × (ServedWithinTwiceTurned card received lent status left
-    × (ServedWithinTurnedAndResidual card received lent status left
+    × (ServedWithinTwiceDamaged card received lent status left
+    × (ServedWithinDamagedAndResidual card received lent status left
     × (length lent ≡ readCount → ReadPromises card received (readLeft status left))))))
 read-crosses card received lent status left (is-status, (is-left, (unchanged, promised))) =
     let bounded = bounded-left card received lent status left (λ alike. promised alike .0) in
@@ -51,7 +51,7 @@ module _ (card : List ℕ) (levels : List Float) (lent : List ℕ) (lentStrength
       × ((strengthLeft ≡ leftBy status (strengthValues answered) lentStrength)
       × (UnchangedUnlessZero lent status left
       × (UnchangedUnlessZero lentStrength status strengthLeft
-      × (ServedWithinTwiceWrongAndLost card levels lent lentStrength status left
+      × (ServedWithinTwiceWrongAndErased card levels lent lentStrength status left
       × (length lent ≡ readCount → length lentStrength ≡ strengthCount → LevelPromises card levels (readLeft status left)))))))
 
   levels-inherit : (status : ℕ) (left : List ℕ) (strengthLeft : List Float)
@@ -69,7 +69,7 @@ module _ (card : List ℕ) (levels : List Float) (lent : List ℕ) (lentStrength
   pub levels-miscounted : wrongCount ≡ statusFor readCount lent (statusFor strengthCount lentStrength (levelsStatus answered))
       → (length lent ≡ readCount → length lentStrength ≡ strengthCount → ⊥) → LevelsContract wrongCount lent lentStrength
   unfolding leftBy
-  levels-miscounted is unlike = levels-inherit wrongCount lent lentStrength is refl refl (λ five two. absurd (unlike five two))
+  levels-miscounted is other-length = levels-inherit wrongCount lent lentStrength is refl refl (λ five two. absurd (other-length five two))
 
   -- two floats are lent
   pub levels-cross : (status : ℕ) (left : List ℕ) (strengthLeft : List Float) → length lentStrength ≡ strengthCount

@@ -19,10 +19,10 @@ use Rattle.model.specs.declared.ReadAnswer.{ReadAnswer}
 use Rattle.model.specs.declared.ReadAnswer.the-variants.{At, Refused}
 use Rattle.code_theory.proofs.SoundCard.{sound-card}
 use Rattle.code_theory.proofs.LeastDistance.{D-high}
-use Rattle.position_theory.specs.ChunkBits.{TellsBits, TellsWrong}
-use Rattle.position_theory.specs.ReadPromises.{TellsBitsOfChunks}
+use Rattle.position_theory.specs.ChunkBits.{CountsBits, CountsWrong}
+use Rattle.position_theory.specs.ReadPromises.{CountsBitsOfChunks}
 use Rattle.position_theory.proofs.ReadWords.{read-shows}
-use Rattle.level_theory.specs.LevelPromises.{TellsWrongOfChunks}
+use Rattle.level_theory.specs.LevelPromises.{CountsWrongOfChunks}
 use Rattle.level_theory.proofs.LevelsAnswered.{levels-show}
 use Rattle.dunnavish.specs.Decoding.{bitsLeft, readLeft}
 
@@ -33,17 +33,17 @@ count-decodes answered count is few = rw (is, ne-eqb count notRead (λ e. omega 
 
 -- so do the bits of a chunk, of a plain word and of one of which only some places are heard
 module _ (C : Code) (small : C .D < notRead) where
-  bits-decode : (named : Bool) (chunk : ℕ → ℕ) (p : ℕ) (answered : ChunkBits) → TellsBits C named chunk p answered
+  bits-decode : (named : Bool) (chunk : ℕ → ℕ) (p : ℕ) (answered : ChunkBits) → CountsBits C named chunk p answered
       → bitsLeft (bitsValue answered) ≡ answered
-  unfolding TellsBits bitsLeft bitsValue
+  unfolding CountsBits bitsLeft bitsValue
   bits-decode true chunk p answered (count, is, (_, few)) = count-decodes answered count is (omega arith)
   bits-decode false chunk p answered is = rw is
 
-  wrong-decode : (named : Bool) (heard : ℕ → Bool) (chunk : ℕ → ℕ) (p : ℕ) (answered : ChunkBits)
-      → TellsWrong C named heard chunk p answered → bitsLeft (bitsValue answered) ≡ answered
-  unfolding TellsWrong bitsLeft bitsValue
-  wrong-decode true heard chunk p answered (count, is, _, few) = count-decodes answered count is (omega arith)
-  wrong-decode false heard chunk p answered is = rw is
+  wrong-decode : (named : Bool) (unerased : ℕ → Bool) (chunk : ℕ → ℕ) (p : ℕ) (answered : ChunkBits)
+      → CountsWrong C named unerased chunk p answered → bitsLeft (bitsValue answered) ≡ answered
+  unfolding CountsWrong bitsLeft bitsValue
+  wrong-decode true unerased chunk p answered (count, is, _, few) = count-decodes answered count is (omega arith)
+  wrong-decode false unerased chunk p answered is = rw is
 
 small-D : (card : List ℕ) → SoundCard card → codeOf card .D < notRead
 small-D card sound = let S = sound-card card sound in omega (arith, D-high (codeOf card) S, S .n-high)
@@ -55,19 +55,19 @@ unfolding readLeft readValues
 reading-decodes r first second = rw (first, second)
 
 module _ (card : List ℕ) {answered : ReadAnswer} (r : Reading) (given : answered ≡ At r) where
-  pub read-decodes : (received : List ℕ) → answered ≡ readAnswer card received → TellsBitsOfChunks card received answered
+  pub read-decodes : (received : List ℕ) → answered ≡ readAnswer card received → CountsBitsOfChunks card received answered
       → readLeft 0 (readValues (At r)) ≡ unlessRefused 0 Refused (At r)
-  unfolding TellsBitsOfChunks
-  read-decodes received is tells =
+  unfolding CountsBitsOfChunks
+  read-decodes received is counted =
       let small = small-D card (read-shows card received r (sym is ∙ given) .0) in
-      let bits = tells r given in
+      let bits = counted r given in
       reading-decodes r (bits-decode (codeOf card) small _ _ _ _ (bits .first)) (bits-decode (codeOf card) small _ _ _ _ (bits .second))
 
-  pub levels-decode : (levels : List Float) → answered ≡ positionAnswer (levelsAnswer card levels) → TellsWrongOfChunks card levels answered
+  pub levels-decode : (levels : List Float) → answered ≡ positionAnswer (levelsAnswer card levels) → CountsWrongOfChunks card levels answered
       → readLeft 0 (readValues (At r)) ≡ unlessRefused 0 Refused (At r)
-  unfolding TellsWrongOfChunks
-  levels-decode levels is tells =
+  unfolding CountsWrongOfChunks
+  levels-decode levels is counted =
       let small = small-D card (levels-show card levels r (sym is ∙ given) .0) in
-      let bits = tells r given in
+      let bits = counted r given in
       reading-decodes r (wrong-decode (codeOf card) small _ _ _ _ _ (bits .first))
       (wrong-decode (codeOf card) small _ _ _ _ _ (bits .second))

@@ -6,7 +6,7 @@ use Prim.Native.Nat.{ℕ}
 use Rattle.model.specs.WriteWord.{writeRefusal, writeAnswer, lentAfterWrite, writeStatus, writeValues}
 use Rattle.model.specs.declared.WriteAnswer.{WriteAnswer}
 use Rattle.model.specs.declared.WriteAnswer.the-variants.{Written, Refused}
-use Rattle.code_theory.proofs.Refusals.{served-if-none}
+use Rattle.code_theory.proofs.RefusalRows.{served-if-none}
 use Rattle.position_theory.specs.WritePromises.{NeighboursDifferInOneBit, NoOtherPositionsWord, WritePromises, UnchangedIfRefused}
 use Rattle.dunnavish.specs.Crossing.{UnchangedUnlessZero}
 use Rattle.dunnavish.specs.Decoding.{writeLeft}

@@ -12,9 +12,9 @@ use Rattle.model.specs.Card.{Code, codeOf, SoundCard}
 use Rattle.model.specs.Order.{lastPosition}
 use Rattle.model.specs.Words.{wordBits, wordBytes}
 use Rattle.model.specs.ReedMuller.{orderWithinLimits}
-use Rattle.position_theory.specs.Damage.{WithinRadius, turned, ChunksBelowD, wrongInAll, lostInAll}
+use Rattle.position_theory.specs.Damage.{WithinRadius, damaged, ChunksBelowD, wrongInAll, erasedInAll}
 use Rattle.level_theory.specs.UnitLevels.{UnitLevels}
-use Rattle.level_theory.specs.LevelsSeen.{heardOf, bitsOf}
+use Rattle.level_theory.specs.LevelsSeen.{unerasedOf, bitsOf}
 use Rattle.reed_muller_theory.specs.MadeCards.{IsReedMullerCard}
 use Rattle.dunnavish.specs.Crossing.{cardBytes, readCount, strengthCount}
 use Rattle.dunnavish.specs.Decoding.{positionLeft, residualLeft}
@@ -26,31 +26,31 @@ ServedNear status left position e = (status ≡ 0) × (positionLeft left ≤ pos
 -- Demand 3, where five numbers are lent: for a sound card, every position on its track and whichever bits of that position's
 -- word are turned, at most t in each of the five chunks: the status is 0, and the position left is no further off than twice the
 -- bits turned
-unfoldable pub ServedWithinTwiceTurned : (card received lent : List ℕ) (status : ℕ) (left : List ℕ) → Type 0
-ServedWithinTwiceTurned card received lent status left =
+unfoldable pub ServedWithinTwiceDamaged : (card received lent : List ℕ) (status : ℕ) (left : List ℕ) → Type 0
+ServedWithinTwiceDamaged card received lent status left =
     length lent ≡ readCount → (position : ℕ) → SoundCard card → position ≤ lastPosition (codeOf card)
     → WithinRadius (codeOf card) position received
-    → ServedNear status left position (2 * turned (codeOf card) position received)
+    → ServedNear status left position (2 * damaged (codeOf card) position received)
 
 -- The sharper bound, under the same premises: no further off than the bits turned and the residual left together
-unfoldable pub ServedWithinTurnedAndResidual : (card received lent : List ℕ) (status : ℕ) (left : List ℕ) → Type 0
-ServedWithinTurnedAndResidual card received lent status left =
+unfoldable pub ServedWithinDamagedAndResidual : (card received lent : List ℕ) (status : ℕ) (left : List ℕ) → Type 0
+ServedWithinDamagedAndResidual card received lent status left =
     length lent ≡ readCount → (position : ℕ) → SoundCard card → position ≤ lastPosition (codeOf card)
     → WithinRadius (codeOf card) position received
-    → ServedNear status left position (turned (codeOf card) position received + residualLeft left)
+    → ServedNear status left position (damaged (codeOf card) position received + residualLeft left)
 
 -- Document 02, P5, where five numbers and two floats are lent: for a sound card, every position on its track and d levels of 1, -1 and 0
 -- that have, against that position's word, 2 × wrong + lost below D in every chunk: the status is 0, and the position left is no further
 -- off than 2 × wrong + lost over the whole word
-unfoldable pub ServedWithinTwiceWrongAndLost : (card : List ℕ) (levels : List Float) (lent : List ℕ) (lentStrength : List Float) (status : ℕ)
+unfoldable pub ServedWithinTwiceWrongAndErased : (card : List ℕ) (levels : List Float) (lent : List ℕ) (lentStrength : List Float) (status : ℕ)
     (left : List ℕ) → Type 0
-ServedWithinTwiceWrongAndLost card levels lent lentStrength status left =
+ServedWithinTwiceWrongAndErased card levels lent lentStrength status left =
     let C : Code = codeOf card in
     length lent ≡ readCount → length lentStrength ≡ strengthCount → (position : ℕ) → SoundCard card → position ≤ lastPosition C
     → length levels ≡ wordBits C → UnitLevels levels (wordBits C)
-    → ChunksBelowD C (heardOf levels) (place (wordBytes C position)) (bitsOf levels)
+    → ChunksBelowD C (unerasedOf levels) (place (wordBytes C position)) (bitsOf levels)
     → ServedNear status left position
-    (2 * wrongInAll C (heardOf levels) (place (wordBytes C position)) (bitsOf levels) + lostInAll C (heardOf levels))
+    (2 * wrongInAll C (unerasedOf levels) (place (wordBytes C position)) (bitsOf levels) + erasedInAll C (unerasedOf levels))
 
 -- Document 02, P1, where 512 bytes are lent: for every r and m within the limits the status is 0, and the bytes left are the card of the
 -- Reed-Muller code for the track

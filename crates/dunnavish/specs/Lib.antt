@@ -1,5 +1,5 @@
 pub mod Crossing
 pub mod Decoding
 pub mod Demands
-pub mod NothingLost
-pub mod Witnesses
+pub mod LosslessDecoding
+pub mod CallWitnesses

@@ -58,9 +58,9 @@ pub extern "C" fn dunnavish_vote_chunk(r: u32, m: u32, chunk: u64, values: &mut 
     let answer = depot::vote_chunk(r, m, chunk);
     match answer {
         VoteAnswer::Refused(refusal) => refusal,
-        VoteAnswer::Voted { number, unlike } => {
+        VoteAnswer::Voted { number, differing } => {
             values[0] = number;
-            values[1] = unlike;
+            values[1] = differing;
             0
         }
     }

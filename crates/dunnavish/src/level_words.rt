@@ -5,7 +5,7 @@ ghost use Rattle.model.specs.ReadLevels.{levelsAnswer, levelsStatus, levelsValu
 ghost use Rattle.level_theory.specs.LevelPromises.{LevelPromises};
 ghost use Rattle.dunnavish.specs.Crossing.{readCount, strengthCount, statusFor, leftBy, UnchangedUnlessZero};
 ghost use Rattle.dunnavish.specs.Decoding.{readLeft};
-ghost use Rattle.dunnavish.specs.Demands.{ServedWithinTwiceWrongAndLost};
+ghost use Rattle.dunnavish.specs.Demands.{ServedWithinTwiceWrongAndErased};
 use super::WRONG_COUNT;
 use super::words;
 use model::LevelsAnswer;
@@ -29,7 +29,7 @@ pub extern "C" fn dunnavish_read_levels(
         ≡ leftBy r (strengthValues (levelsAnswer (now (card .entry)) (now (levels .entry)))) (now (strength .entry)) ⌝ }
     ensures unchanged { λ r. ⌜ UnchangedUnlessZero (now (values .entry)) r (now (values .exit)) ⌝ }
     ensures strength_unchanged { λ r. ⌜ UnchangedUnlessZero (now (strength .entry)) r (now (strength .exit)) ⌝ }
-    ensures bounded { λ r. ⌜ ServedWithinTwiceWrongAndLost (now (card .entry)) (now (levels .entry))
+    ensures bounded { λ r. ⌜ ServedWithinTwiceWrongAndErased (now (card .entry)) (now (levels .entry))
         (now (values .entry)) (now (strength .entry)) r (now (values .exit)) ⌝ }
     ensures promises { λ r. ⌜ (length (now (values .entry)) ≡ readCount → length (now (strength .entry)) ≡ strengthCount
         → LevelPromises (now (card .entry)) (now (levels .entry)) (readLeft r (now (values .exit)))) ⌝ }

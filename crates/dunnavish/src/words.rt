@@ -12,7 +12,7 @@ ghost use Rattle.position_theory.specs.WritePromises.{NeighboursDifferInOneBit,
 ghost use Rattle.position_theory.specs.ReadPromises.{ReadPromises};
 ghost use Rattle.dunnavish.specs.Crossing.{readCount, numberCount, statusFor, leftBy, UnchangedUnlessZero};
 ghost use Rattle.dunnavish.specs.Decoding.{writeLeft, readLeft, millimetresLeft};
-ghost use Rattle.dunnavish.specs.Demands.{ServedWithinTwiceTurned, ServedWithinTurnedAndResidual};
+ghost use Rattle.dunnavish.specs.Demands.{ServedWithinTwiceDamaged, ServedWithinDamagedAndResidual};
 use super::WRONG_COUNT;
 use model::ChunkBits;
 use model::MillimetresAnswer;
@@ -78,9 +78,9 @@ pub extern "C" fn dunnavish_read_word(card: &[u8], word: &[u8], values: &mut [u3
     ensures left { λ r. ⌜ now (values .exit)
         ≡ leftBy r (readValues (readAnswer (now (card .entry)) (now (word .entry)))) (now (values .entry)) ⌝ }
     ensures unchanged { λ r. ⌜ UnchangedUnlessZero (now (values .entry)) r (now (values .exit)) ⌝ }
-    ensures bounded { λ r. ⌜ ServedWithinTwiceTurned (now (card .entry)) (now (word .entry))
+    ensures bounded { λ r. ⌜ ServedWithinTwiceDamaged (now (card .entry)) (now (word .entry))
         (now (values .entry)) r (now (values .exit)) ⌝ }
-    ensures sharper { λ r. ⌜ ServedWithinTurnedAndResidual (now (card .entry)) (now (word .entry))
+    ensures sharper { λ r. ⌜ ServedWithinDamagedAndResidual (now (card .entry)) (now (word .entry))
         (now (values .entry)) r (now (values .exit)) ⌝ }
     ensures promises { λ r. ⌜ (length (now (values .entry)) ≡ readCount
         → ReadPromises (now (card .entry)) (now (word .entry)) (readLeft r (now (values .exit)))) ⌝ }

@@ -1,2 +1,2 @@
 pub mod LevelAnswers
-pub mod ToldParts
+pub mod LevelWordParts

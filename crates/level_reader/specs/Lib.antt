@@ -1,1 +1,1 @@
-pub mod ToldWords
+pub mod LevelWords

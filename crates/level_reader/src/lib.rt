@@ -4,7 +4,7 @@ ghost use mathlib.Core.Path.{_≡_};
 ghost use Rattle.model.specs.ReadLevels.{readLevels};
 ghost use Rattle.model.specs.Decoded.{meaning};
 ghost use Rattle.code_theory.specs.Promise.{Sound};
-ghost use Rattle.levels.specs.ToldChunks.{readBySum};
+ghost use Rattle.levels.specs.LevelChunks.{readBySum};
 ghost use Rattle.reader.specs.Naming.{Names};
 use levels::limits;
 use levels::separators;
@@ -16,10 +16,10 @@ use reader::naming;
 use reader::naming::NamedRule;
 use reader::reading;
 
-mod telling;
+mod level_word;
 
 // What three separators name whose levels have these sums: a rule, and with it what the rule's separator reads.
-fn named_rule(sum1: f32, sum2: f32, sum3: f32) -> NamedRule
+fn rule_by_sums(sum1: f32, sum2: f32, sum3: f32) -> NamedRule
     ensures { λ r. ⌜ Names (readBySum sum1) (readBySum sum2) (readBySum sum3) r ⌝ }
 {
     let s1 = separators::read_by(sum1);
@@ -29,7 +29,7 @@ fn named_rule(sum1: f32, sum2: f32, sum3: f32) -> NamedRule
 }
 
 // The reading of a list of levels, of any length, with the strength of a word that is read.
-pub fn read(code: DecodedCode, levels: &[f32]) -> LevelsAnswer
+pub fn read_level_word(code: DecodedCode, levels: &[f32]) -> LevelsAnswer
     requires { ⌜ Sound (meaning code) ⌝ }
     ensures { λ r. ⌜ r ≡ readLevels (meaning code) (now (levels .entry)) ⌝ }
 {
@@ -40,14 +40,14 @@ pub fn read(code: DecodedCode, levels: &[f32]) -> LevelsAnswer
     if limits::any_outside(levels, at.bits as usize) {
         return LevelsAnswer::Refused(16);
     }
-    let told = telling::tell_word(code, at, levels);
-    let named = named_rule(told.sum1, told.sum2, told.sum3);
+    let received = level_word::word_of_levels(code, at, levels);
+    let named = rule_by_sums(received.sum1, received.sum2, received.sum3);
     let rule = named.rule;
     if rule == 0 {
         return LevelsAnswer::Refused(9);
     }
-    let word = told.word;
-    let strength = told.strength;
+    let word = received.word;
+    let strength = received.strength;
     match reading::by_rule(code, at, word, named) {
         ReadAnswer::At(reading) => LevelsAnswer::At { reading, strength },
         ReadAnswer::Refused(refusal) => LevelsAnswer::Refused(refusal),

@@ -9,13 +9,13 @@ use lib.Dec.{T, ltb}
 use lib.Ieee.{Float, binary32, minus, add, lt, ofInt, inFloat}
 use lib.Ieee.Exact.{HasValue}
 use Rattle.bits.specs.Sums.{sumBelow}
-use Rattle.model.specs.Levels.{zeroLevel, isHeard, bitTold, plusLevel, sumOfLevels, separatorReading}
-use Rattle.model.specs.declared.Told.{Told}
-use Rattle.level_theory.specs.UnitLevels.{zerosHeard, onesHeard, zerosLessOnes}
+use Rattle.model.specs.Levels.{zeroLevel, isUnerased, bitOfLevel, plusLevel, sumOfLevels, separatorReading}
+use Rattle.model.specs.declared.ReceivedLevel.{ReceivedLevel}
+use Rattle.level_theory.specs.UnitLevels.{zerosUnerased, onesUnerased, zerosLessOnes}
 use Rattle.level_theory.proofs.IntegerFloats.{sum-of-differences, difference-negative, difference-absolute, difference-in-float}
 use Rattle.level_theory.proofs.IntegerFloats.{integer-value, integer-below-zero, integers-add}
-use Rattle.level_theory.proofs.UnitsTold.{UnitOrLost, lost, plus, less, plus-one-bit, minus-one-bit}
-use Rattle.level_theory.proofs.HeardCounts.{places-in-all}
+use Rattle.level_theory.proofs.UnitsReceived.{UnitOrErased, erased, plus, less, plus-one-bit, minus-one-bit}
+use Rattle.level_theory.proofs.ErasureCounts.{places-in-all}
 
 -- the float of a - b, and the sum of two such
 abbrev difference : (a b : ℕ) → Float
@@ -28,11 +28,11 @@ differences-add a b c d ha hb hc hd =
     ∙ ap (ofInt binary32) (sum-of-differences a b c d)
 
 -- one told bit more
-bit-added : {b : Told} → UnitOrLost b → (zeros ones : ℕ) → zeros ≤ 2 ^ 24 → ones ≤ 2 ^ 24
+bit-added : {b : ReceivedLevel} → UnitOrErased b → (zeros ones : ℕ) → zeros ≤ 2 ^ 24 → ones ≤ 2 ^ 24
     → plusLevel (difference zeros ones) b
-    ≡ difference (zeros + cond (isHeard b) (1 - bitTold b) 0) (ones + cond (isHeard b) (bitTold b) 0)
-unfolding plusLevel isHeard
-bit-added lost zeros ones hz ho = rw (add-zero zeros, add-zero ones)
+    ≡ difference (zeros + cond (isUnerased b) (1 - bitOfLevel b) 0) (ones + cond (isUnerased b) (bitOfLevel b) 0)
+unfolding plusLevel isUnerased
+bit-added erased zeros ones hz ho = rw (add-zero zeros, add-zero ones)
 bit-added plus zeros ones hz ho = rw plus-one-bit (differences-add zeros ones 1 0 hz ho (omega arith) (omega arith))
 bit-added less zeros ones hz ho = rw minus-one-bit (differences-add zeros ones 0 1 hz ho (omega arith) (omega arith))
 
@@ -41,43 +41,43 @@ zero-float : zeroLevel ≡ difference 0 0
 unfolding ofInt
 zero-float = refl
 
-module _ (t : ℕ → Told) where
+module _ (t : ℕ → ReceivedLevel) where
   -- no more zeros are heard than there are places, and no more ones
-  few-zeros : (m : ℕ) → m ≤ 2 ^ 24 → zerosHeard t m ≤ 2 ^ 24
+  few-zeros : (m : ℕ) → m ≤ 2 ^ 24 → zerosUnerased t m ≤ 2 ^ 24
   few-zeros m h = omega (arith, places-in-all t m)
 
-  few-ones : (m : ℕ) → m ≤ 2 ^ 24 → onesHeard t m ≤ 2 ^ 24
+  few-ones : (m : ℕ) → m ≤ 2 ^ 24 → onesUnerased t m ≤ 2 ^ 24
   few-ones m h = omega (arith, places-in-all t m)
 
   -- the sum of m levels is the float of the zeros heard less the ones heard
-  pub sum-exact : (m : ℕ) → m ≤ 2 ^ 24 → ((p : ℕ) → p < m → UnitOrLost (t p))
+  pub sum-exact : (m : ℕ) → m ≤ 2 ^ 24 → ((p : ℕ) → p < m → UnitOrErased (t p))
       → sumOfLevels t m ≡ zerosLessOnes t m
-  unfolding sumOfLevels zerosHeard onesHeard sumBelow
+  unfolding sumOfLevels zerosUnerased onesUnerased sumBelow
   sum-exact zero h units = zero-float
   sum-exact (suc m) h units =
       rw (sum-exact m (omega arith) (λ p b. units p (omega arith)))
-      (bit-added (units m (omega arith)) (zerosHeard t m) (onesHeard t m) (few-zeros m (omega arith)) (few-ones m (omega arith)))
+      (bit-added (units m (omega arith)) (zerosUnerased t m) (onesUnerased t m) (few-zeros m (omega arith)) (few-ones m (omega arith)))
 
-  module _ (m : ℕ) (h : m ≤ 2 ^ 24) (units : (p : ℕ) → p < m → UnitOrLost (t p)) where
-    in-float : T (inFloat binary32 (minus (zerosHeard t m) (onesHeard t m)))
-    in-float = difference-in-float binary32 (zerosHeard t m) (onesHeard t m) (few-zeros m h) (few-ones m h)
+  module _ (m : ℕ) (h : m ≤ 2 ^ 24) (units : (p : ℕ) → p < m → UnitOrErased (t p)) where
+    in-float : T (inFloat binary32 (minus (zerosUnerased t m) (onesUnerased t m)))
+    in-float = difference-in-float binary32 (zerosUnerased t m) (onesUnerased t m) (few-zeros m h) (few-ones m h)
 
     -- nothing of it is rounded off: it has the value of that difference, negative where more ones are heard
-    pub sum-value : HasValue (sumOfLevels t m) (ltb (zerosHeard t m) (onesHeard t m))
-        ((zerosHeard t m - onesHeard t m) + (onesHeard t m - zerosHeard t m)) 1
+    pub sum-value : HasValue (sumOfLevels t m) (ltb (zerosUnerased t m) (onesUnerased t m))
+        ((zerosUnerased t m - onesUnerased t m) + (onesUnerased t m - zerosUnerased t m)) 1
     sum-value =
-        rw (sum-exact m h units, ← (difference-negative (zerosHeard t m) (onesHeard t m)))
-        (rw (← (difference-absolute (zerosHeard t m) (onesHeard t m)))
-        (integer-value binary32 (minus (zerosHeard t m) (onesHeard t m)) in-float))
+        rw (sum-exact m h units, ← (difference-negative (zerosUnerased t m) (onesUnerased t m)))
+        (rw (← (difference-absolute (zerosUnerased t m) (onesUnerased t m)))
+        (integer-value binary32 (minus (zerosUnerased t m) (onesUnerased t m)) in-float))
 
     -- it is below zero exactly if more ones are heard than zeros
-    pub below-zero : lt (sumOfLevels t m) zeroLevel ≡ ltb (zerosHeard t m) (onesHeard t m)
+    pub below-zero : lt (sumOfLevels t m) zeroLevel ≡ ltb (zerosUnerased t m) (onesUnerased t m)
     below-zero =
         rw (sum-exact m h units)
-        (integer-below-zero binary32 (minus (zerosHeard t m) (onesHeard t m)) in-float
-        ∙ difference-negative (zerosHeard t m) (onesHeard t m))
+        (integer-below-zero binary32 (minus (zerosUnerased t m) (onesUnerased t m)) in-float
+        ∙ difference-negative (zerosUnerased t m) (onesUnerased t m))
 
     -- so a separator reads 1 exactly if more ones are heard in it
-    pub separator-by-count : separatorReading m t ≡ cond (ltb (zerosHeard t m) (onesHeard t m)) 1 0
+    pub separator-by-count : separatorReading m t ≡ cond (ltb (zerosUnerased t m) (onesUnerased t m)) 1 0
     unfolding separatorReading
     separator-by-count = rw below-zero

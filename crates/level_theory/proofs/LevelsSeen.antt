@@ -6,66 +6,66 @@ use Prim.Native.Nat.{ℕ, _+_, _^_, _≤_, _<_}
 use native.Mathlib.Omega.{arith}
 use Rattle.bits.specs.Sums.{everywhere, fromPlace}
 use Rattle.bits.proofs.Sums.{sum-ext, from-place-zero}
-use Rattle.bits.proofs.Heard.{heard-ext}
+use Rattle.bits.proofs.Erasures.{unerased-ext}
 use Rattle.model.specs.Card.{Code}
 use Rattle.model.specs.Words.{wordBits, chunkSize, placesBefore}
 use Rattle.model.specs.Reading.{majority, chunkReading, seen, residual}
-use Rattle.model.specs.Levels.{isHeard, bitTold, heardIn, bitsIn, heardReading, separatorReading, toldReading, seenTold, residualHeard}
-use Rattle.model.specs.declared.Told.{Told}
+use Rattle.model.specs.Levels.{isUnerased, bitOfLevel, unerasedIn, bitsIn, erasureReading, separatorReading, levelsChunkReading, seenInLevels, residualUnerased}
+use Rattle.model.specs.declared.ReceivedLevel.{ReceivedLevel}
 use Rattle.code_theory.specs.Promise.{Sound, ChunkPromise}
-use Rattle.code_theory.proofs.ChunkReading.{heard-reading-ext}
+use Rattle.code_theory.proofs.ChunkReading.{erasure-reading-ext}
 use Rattle.code_theory.proofs.LeastDistance.{D-high}
 use Rattle.code_theory.proofs.Promise.{promise, plain-reading}
 use Rattle.position_theory.specs.SeenChunks.{SeesChunk, SeesChunks}
-use Rattle.position_theory.proofs.Telling.{TellsParity, Sees}
+use Rattle.position_theory.proofs.WholeChunks.{ReadsParity, Sees}
 use Rattle.position_theory.proofs.PlainSeen.{plain-residual}
-use Rattle.level_theory.proofs.UnitsTold.{UnitOrLost}
-use Rattle.level_theory.proofs.SeparatorsTell.{separator-bit, separator-tells, separator-as-bits}
+use Rattle.level_theory.proofs.UnitsReceived.{UnitOrErased}
+use Rattle.level_theory.proofs.SeparatorsRead.{separator-bit, separator-reads, separator-as-bits}
 
 module _ (C : Code) (promised : ChunkPromise C) where
-  told-sees-chunk : (chunk : ℕ → Told) → SeesChunk C (heardIn chunk) (bitsIn chunk) (toldReading C chunk)
-  told-sees-chunk chunk =
-      record { reader = heardReading C (heardIn chunk); keeps = promised .chunks (heardIn chunk); answers = refl }
+  levels-see-chunk : (chunk : ℕ → ReceivedLevel) → SeesChunk C (unerasedIn chunk) (bitsIn chunk) (levelsChunkReading C chunk)
+  levels-see-chunk chunk =
+      record { reader = erasureReading C (unerasedIn chunk); keeps = promised .chunks (unerasedIn chunk); answers = refl }
 
-  pub told-sees-chunks : (word : ℕ → Told) → SeesChunks C (heardIn word) (bitsIn word) (seenTold C word)
-  unfolding seenTold
-  told-sees-chunks word = record { first = told-sees-chunk _; second = told-sees-chunk _ }
+  pub levels-see-chunks : (word : ℕ → ReceivedLevel) → SeesChunks C (unerasedIn word) (bitsIn word) (seenInLevels C word)
+  unfolding seenInLevels
+  levels-see-chunks word = record { first = levels-see-chunk _; second = levels-see-chunk _ }
 
-module _ (C : Code) (sound : Sound C) (word : ℕ → Told) (units : (p : ℕ) → p < wordBits C → UnitOrLost (word p)) where
+module _ (C : Code) (sound : Sound C) (word : ℕ → ReceivedLevel) (units : (p : ℕ) → p < wordBits C → UnitOrErased (word p)) where
   few : C .D ≤ 2 ^ 24
   few = omega (arith, D-high C sound, sound .n-high)
 
   -- a separator that begins at this place
-  units-from : (at : ℕ) → at + C .D ≤ wordBits C → (p : ℕ) → p < C .D → UnitOrLost (fromPlace at word p)
+  units-from : (at : ℕ) → at + C .D ≤ wordBits C → (p : ℕ) → p < C .D → UnitOrErased (fromPlace at word p)
   units-from at room p b = units (at + p) (omega arith)
 
-  tells-from : (at : ℕ) → at + C .D ≤ wordBits C
-      → TellsParity (C .D) (fromPlace at (heardIn word)) (fromPlace at (bitsIn word)) (separatorReading (C .D) (fromPlace at word))
-  tells-from at room =
-      record { bit = separator-bit (C .D) (fromPlace at word); tells = separator-tells (C .D) (fromPlace at word) few (units-from at room) }
+  reads-from : (at : ℕ) → at + C .D ≤ wordBits C
+      → ReadsParity (C .D) (fromPlace at (unerasedIn word)) (fromPlace at (bitsIn word)) (separatorReading (C .D) (fromPlace at word))
+  reads-from at room =
+      record { bit = separator-bit (C .D) (fromPlace at word); reads = separator-reads (C .D) (fromPlace at word) few (units-from at room) }
 
-  pub told-sees : Sees C (heardIn word) (bitsIn word) (seenTold C word)
-  unfolding seenTold placesBefore chunkSize
-  told-sees =
+  pub levels-see : Sees C (unerasedIn word) (bitsIn word) (seenInLevels C word)
+  unfolding seenInLevels placesBefore chunkSize
+  levels-see =
       record {
-        chunks = told-sees-chunks C (promise C sound) word;
-        separator₁ = rw (← ap (separatorReading (C .D)) (from-place-zero word)) (tells-from 0 (omega arith));
-        separator₂ = tells-from (C .D + C .n) (omega arith);
-        separator₃ = tells-from (C .D + C .n + C .D + C .n) (omega arith);
+        chunks = levels-see-chunks C (promise C sound) word;
+        separator₁ = rw (← ap (separatorReading (C .D)) (from-place-zero word)) (reads-from 0 (omega arith));
+        separator₂ = reads-from (C .D + C .n) (omega arith);
+        separator₃ = reads-from (C .D + C .n + C .D + C .n) (omega arith);
       }
 
   -- where nothing is lost, of a plain word x that has these bits
-  module _ (heard : (p : ℕ) → p < wordBits C → isHeard (word p) ≡ true) (x : ℕ → ℕ)
-      (same : (p : ℕ) → p < wordBits C → x p ≡ bitTold (word p)) where
+  module _ (unerased : (p : ℕ) → p < wordBits C → isUnerased (word p) ≡ true) (x : ℕ → ℕ)
+      (same : (p : ℕ) → p < wordBits C → x p ≡ bitOfLevel (word p)) where
     majority-from : (at : ℕ) → at + C .D ≤ wordBits C → separatorReading (C .D) (fromPlace at word) ≡ majority (C .D) (fromPlace at x)
     unfolding majority
     majority-from at room =
-        separator-as-bits (C .D) (fromPlace at word) few (units-from at room) (λ p b. heard (at + p) (omega arith))
+        separator-as-bits (C .D) (fromPlace at word) few (units-from at room) (λ p b. unerased (at + p) (omega arith))
         ∙ rw (sum-ext (C .D) (λ p b. sym (same (at + p) (omega arith))))
 
-    chunk-from : (at : ℕ) → at + C .n ≤ wordBits C → toldReading C (fromPlace at word) ≡ chunkReading C (fromPlace at x)
+    chunk-from : (at : ℕ) → at + C .n ≤ wordBits C → levelsChunkReading C (fromPlace at word) ≡ chunkReading C (fromPlace at x)
     chunk-from at room =
-        heard-reading-ext C {heard′ = everywhere} (λ p b. heard (at + p) (omega arith)) (λ p b. sym (same (at + p) (omega arith)))
+        erasure-reading-ext C {unerased′ = everywhere} (λ p b. unerased (at + p) (omega arith)) (λ p b. sym (same (at + p) (omega arith)))
         ∙ sym (plain-reading C (promise C sound) (fromPlace at x))
 
     first-separator : separatorReading (C .D) word ≡ majority (C .D) x
@@ -74,8 +74,8 @@ module _ (C : Code) (sound : Sound C) (word : ℕ → Told) (units : (p : ℕ) �
         ∙ majority-from 0 (omega arith)
         ∙ ap (majority (C .D)) (from-place-zero x)
 
-    pub as-plain-seen : seenTold C word ≡ seen C x
-    unfolding seenTold seen
+    pub as-plain-seen : seenInLevels C word ≡ seen C x
+    unfolding seenInLevels seen
     as-plain-seen =
         rw (
           first-separator,
@@ -85,7 +85,7 @@ module _ (C : Code) (sound : Sound C) (word : ℕ → Told) (units : (p : ℕ) �
           chunk-from (C .D + C .n + C .D) (omega arith),
         )
 
-    pub as-plain-residual : residualHeard C (heardIn word) (bitsIn word) ≡ residual C x
-    unfolding residualHeard
+    pub as-plain-residual : residualUnerased C (unerasedIn word) (bitsIn word) ≡ residual C x
+    unfolding residualUnerased
     as-plain-residual =
-        fun-ext (λ q. heard-ext {heard′ = everywhere} (wordBits C) heard (λ p b. refl) (λ p b. sym (same p b))) ∙ sym (plain-residual C x)
+        fun-ext (λ q. unerased-ext {unerased′ = everywhere} (wordBits C) unerased (λ p b. refl) (λ p b. sym (same p b))) ∙ sym (plain-residual C x)

@@ -1,8 +1,8 @@
 pub mod IntegerFloats
-pub mod UnitsTold
-pub mod HeardCounts
+pub mod UnitsReceived
+pub mod ErasureCounts
 pub mod ExactSums
-pub mod SeparatorsTell
+pub mod SeparatorsRead
 pub mod LevelsSeen
 pub mod ReadsBelowD
 pub mod LevelsAnswered

@@ -13,14 +13,14 @@ use Rattle.model.specs.Card.{Code, codeOf, cardRefusal}
 use Rattle.model.specs.Order.{lastCodeword}
 use Rattle.model.specs.Words.{wordBits, word}
 use Rattle.model.specs.Reading.{Seen, ruleSeen, separatorBy, twoEnds, rows9To12}
-use Rattle.model.specs.Levels.{anyOutside, toldAt}
-use Rattle.model.specs.ReadLevels.{readingTold}
+use Rattle.model.specs.Levels.{anyOutside, receivedAt}
+use Rattle.model.specs.ReadLevels.{readingInLevels}
 use Rattle.model.specs.declared.ReadAnswer.{ReadAnswer}
 use Rattle.model.specs.declared.ReadAnswer.the-variants.{At, Refused}
 use Rattle.position_theory.specs.Damage.{ChunkBelowD}
 use Rattle.position_theory.specs.Contradictions.{separatorChunk, NamedChunk}
 use Rattle.level_theory.specs.UnitLevels.{UnitLevels}
-use Rattle.level_theory.specs.LevelsSeen.{heardOf, bitsOf, seenOf}
+use Rattle.level_theory.specs.LevelsSeen.{unerasedOf, bitsOf, seenOf}
 
 -- the rule's separator is from w(i): whatever the levels are, it reads as the parity of i, or they are 1, -1 and 0, and it has
 -- 2 × wrong + lost below D
@@ -29,17 +29,17 @@ SeparatorFrom card levels i =
     let C : Code = codeOf card in
     let rule : ℕ = ruleSeen (seenOf card levels) in
     (separatorBy (seenOf card levels) rule ≡ i % 2)
-    ⊎ (UnitLevels levels (wordBits C) × ChunkBelowD C (heardOf levels) (word C i) (bitsOf levels) (separatorChunk rule))
+    ⊎ (UnitLevels levels (wordBits C) × ChunkBelowD C (unerasedOf levels) (word C i) (bitsOf levels) (separatorChunk rule))
 
 -- Levels are pasted from two telegrams, w(i) and w(j), whose parities differ: by the rule that the separators name, the word has the rule's
 -- separator from the first and a code chunk c that the rule names from the second, with 2 × wrong + lost below D
-pub record PastedLevels (card : List ℕ) (levels : List Float) (i j c : ℕ) : Type 0 where
+pub record MixedLevels (card : List ℕ) (levels : List Float) (i j c : ℕ) : Type 0 where
   pub in-code : i ≤ lastCodeword (codeOf card)
   pub in-code′ : j ≤ lastCodeword (codeOf card)
   pub differ : i % 2 ≡ j % 2 → ⊥
   pub named : NamedChunk (ruleSeen (seenOf card levels)) c
   pub separator : SeparatorFrom card levels i
-  pub chunk : ChunkBelowD (codeOf card) (heardOf levels) (word (codeOf card) j) (bitsOf levels) c
+  pub chunk : ChunkBelowD (codeOf card) (unerasedOf levels) (word (codeOf card) j) (bitsOf levels) c
 
 -- the answer without P6: rows 9 to 12 are the last
 unfoldable pub levelsAnswerBefore : (card : List ℕ) (levels : List Float) → ReadAnswer
@@ -52,4 +52,4 @@ levelsAnswerBefore card levels =
     ∷ refuses 15 (not (eqb (length levels) (wordBits C)))
     ∷ refuses 16 (anyOutside (wordBits C) levels)
     ∷ rows9To12 (twoEnds C) s (ruleSeen s)))
-    Refused (At (readingTold C (toldAt levels)))
+    Refused (At (readingInLevels C (receivedAt levels)))

@@ -11,45 +11,45 @@ use Rattle.model.specs.Card.{Code, codeOf, SoundCard}
 use Rattle.model.specs.Order.{lastPosition}
 use Rattle.model.specs.Words.{wordBits, wordBytes}
 use Rattle.model.specs.Reading.{twoEnds}
-use Rattle.model.specs.Levels.{anyOutside, residualHeard}
+use Rattle.model.specs.Levels.{anyOutside, residualUnerased}
 use Rattle.model.specs.ReadWord.{readAnswer}
 use Rattle.model.specs.declared.Reading.{Reading}
 use Rattle.model.specs.declared.ReadAnswer.{ReadAnswer}
 use Rattle.model.specs.declared.ReadAnswer.the-variants.{At}
-use Rattle.position_theory.specs.Damage.{ChunksBelowD, wrongInAll, lostInAll, Near}
+use Rattle.position_theory.specs.Damage.{ChunksBelowD, wrongInAll, erasedInAll, Near}
 use Rattle.position_theory.specs.Nearest.{IsReadingOf}
 use Rattle.position_theory.specs.ChunkBits.{WrongOfChunks}
 use Rattle.position_theory.specs.Contradictions.{AgreesIfRead, contradicted, unlessContradicted}
 use Rattle.level_theory.specs.UnitLevels.{OneLevels, UnitLevels}
-use Rattle.level_theory.specs.LevelsSeen.{heardOf, bitsOf, seenOf, wordOfBits}
-use Rattle.level_theory.specs.LevelContradictions.{PastedLevels, levelsAnswerBefore}
+use Rattle.level_theory.specs.LevelsSeen.{unerasedOf, bitsOf, seenOf, wordOfBits}
+use Rattle.level_theory.specs.LevelContradictions.{MixedLevels, levelsAnswerBefore}
 
 -- ---- a clause of its own
 
 -- When each of d levels is 1, -1 or 0 and, against a position's word, every chunk has 2 × wrong + lost below D: the answer is no refusal,
 -- and off by at most 2 × wrong + lost over the whole word. For every sound card, every position on its track and every pattern
-unfoldable pub OffByAtMostTwiceWrongAndLost : (card : List ℕ) (levels : List Float) → ReadAnswer → Type 0
-OffByAtMostTwiceWrongAndLost card levels answer =
+unfoldable pub OffByAtMostTwiceWrongAndErased : (card : List ℕ) (levels : List Float) → ReadAnswer → Type 0
+OffByAtMostTwiceWrongAndErased card levels answer =
     let C : Code = codeOf card in
     (position : ℕ) → SoundCard card → position ≤ lastPosition C → length levels ≡ wordBits C → UnitLevels levels (wordBits C)
-    → ChunksBelowD C (heardOf levels) (place (wordBytes C position)) (bitsOf levels)
-    → Near answer position (2 * wrongInAll C (heardOf levels) (place (wordBytes C position)) (bitsOf levels) + lostInAll C (heardOf levels))
+    → ChunksBelowD C (unerasedOf levels) (place (wordBytes C position)) (bitsOf levels)
+    → Near answer position (2 * wrongInAll C (unerasedOf levels) (place (wordBytes C position)) (bitsOf levels) + erasedInAll C (unerasedOf levels))
 
 -- ---- the clause `promises`
 
 -- For a sound card and d levels, none of them outside the limits: the answer is the allowed position nearest to the word over bits that
 -- aren't lost, the smallest on a tie, with its residual over these bits; or the refusal by the first of rows 9 to 12 and 17 that holds
-unfoldable pub NearestOverHeard : (card : List ℕ) (levels : List Float) → ReadAnswer → Type 0
-NearestOverHeard card levels answer =
+unfoldable pub NearestOverUnerased : (card : List ℕ) (levels : List Float) → ReadAnswer → Type 0
+NearestOverUnerased card levels answer =
     let C : Code = codeOf card in
     SoundCard card → length levels ≡ wordBits C → anyOutside (wordBits C) levels ≡ false
-    → IsReadingOf (twoEnds C) (lastPosition C) (seenOf card levels) (residualHeard C (heardOf levels) (bitsOf levels)) answer
+    → IsReadingOf (twoEnds C) (lastPosition C) (seenOf card levels) (residualUnerased C (unerasedOf levels) (bitsOf levels)) answer
 
 -- Of every word that is read, the counts of the chunks that the rule names are those of their wrong places
-unfoldable pub TellsWrongOfChunks : (card : List ℕ) (levels : List Float) → ReadAnswer → Type 0
-TellsWrongOfChunks card levels answer =
+unfoldable pub CountsWrongOfChunks : (card : List ℕ) (levels : List Float) → ReadAnswer → Type 0
+CountsWrongOfChunks card levels answer =
     (r : Reading) → answer ≡ At r
-    → WrongOfChunks (codeOf card) (heardOf levels) (bitsOf levels) (seenOf card levels) (r .rule) (r .chunk1) (r .chunk2)
+    → WrongOfChunks (codeOf card) (unerasedOf levels) (bitsOf levels) (seenOf card levels) (r .rule) (r .chunk1) (r .chunk2)
 
 -- When every one of d levels is 1 or -1, the answer is that of the plain reading of the word of these bits, refusals too
 unfoldable pub AsPlainReading : (card : List ℕ) (levels : List Float) → ReadAnswer → Type 0
@@ -62,8 +62,8 @@ unfoldable pub LevelsReadOnlyIfParityAgrees : (card : List ℕ) (levels : List F
 LevelsReadOnlyIfParityAgrees card levels answer = AgreesIfRead (codeOf card) (seenOf card levels) answer
 
 -- Levels pasted from two telegrams whose parities differ are never read
-unfoldable pub PastedLevelsNeverRead : (card : List ℕ) (levels : List Float) → ReadAnswer → Type 0
-PastedLevelsNeverRead card levels answer = (i j c : ℕ) → PastedLevels card levels i j c → (r : Reading) → answer ≡ At r → ⊥
+unfoldable pub MixedLevelsNeverRead : (card : List ℕ) (levels : List Float) → ReadAnswer → Type 0
+MixedLevelsNeverRead card levels answer = (i j c : ℕ) → MixedLevels card levels i j c → (r : Reading) → answer ≡ At r → ⊥
 
 -- The words that were read and no longer are: those in which that separator differs, each refused by 17. Every other word, on every card,
 -- is answered as before, with the same values or the same refusal. (The strength goes with the reading.)
@@ -72,9 +72,9 @@ LevelsAsBeforeUnlessContradicted card levels answer =
     answer ≡ unlessContradicted (contradicted (seenOf card levels)) (levelsAnswerBefore card levels)
 
 pub record LevelPromises (card : List ℕ) (levels : List Float) (answer : ReadAnswer) : Type 0 where
-  pub nearest : NearestOverHeard card levels answer
-  pub bits : TellsWrongOfChunks card levels answer
+  pub nearest : NearestOverUnerased card levels answer
+  pub bits : CountsWrongOfChunks card levels answer
   pub plain : AsPlainReading card levels answer
   pub agrees : LevelsReadOnlyIfParityAgrees card levels answer
-  pub pasted : PastedLevelsNeverRead card levels answer
+  pub mixed : MixedLevelsNeverRead card levels answer
   pub before : LevelsAsBeforeUnlessContradicted card levels answer

@@ -9,18 +9,18 @@ use lib.Dec.{eqb}
 use lib.IntN.{pos}
 use lib.Ieee.{Float, fin, binary32, ofInt}
 use Rattle.model.specs.Card.{codeOf}
-use Rattle.model.specs.Levels.{heardReading}
+use Rattle.model.specs.Levels.{erasureReading}
 use Rattle.model.specs.CardsToTry.{cardB}
 use Rattle.model.specs.declared.Chunk.the-variants.{Codeword}
 use Rattle.model.specs.declared.ChunkBits.the-variants.{Differing, NotRead}
 use Rattle.model.specs.declared.Reading.{Reading}
 use Rattle.model.specs.declared.ReadAnswer.{ReadAnswer}
 use Rattle.model.specs.declared.ReadAnswer.the-variants.{At, Refused}
-use Rattle.position_theory.specs.Witnesses.{ReadAs, ReadWithin, NoneReads}
+use Rattle.position_theory.specs.PositionWitnesses.{ReadAs, ReadWithin, NoneReads}
 use Rattle.level_theory.specs.UnitLevels.{plusOne, minusOne}
-use Rattle.level_theory.specs.LevelPromises.{NearestOverHeard, TellsWrongOfChunks, AsPlainReading}
+use Rattle.level_theory.specs.LevelPromises.{NearestOverUnerased, CountsWrongOfChunks, AsPlainReading}
 use Rattle.level_theory.specs.ReadsBelowD.{ChunksReadBelowD}
-use Rattle.level_theory.specs.LevelPromises.{OffByAtMostTwiceWrongAndLost, LevelsReadOnlyIfParityAgrees, PastedLevelsNeverRead}
+use Rattle.level_theory.specs.LevelPromises.{OffByAtMostTwiceWrongAndErased, LevelsReadOnlyIfParityAgrees, MixedLevelsNeverRead}
 use Rattle.level_theory.specs.LevelPromises.{LevelsAsBeforeUnlessContradicted}
 
 -- ---- words of levels of card B, whose D is 3
@@ -32,11 +32,11 @@ levelOf (suc zero) = minusOne
 levelOf (suc (suc zero)) = fin false 0 (pos 0)
 levelOf (suc (suc (suc b))) = fin true 0 (pos 0)
 
-abbrev pub lost : ℕ
-lost = 2
+abbrev pub erased : ℕ
+erased = 2
 
-abbrev pub lost⁻ : ℕ
-lost⁻ = 3
+abbrev pub erased⁻ : ℕ
+erased⁻ = 3
 
 -- a word by its five chunks; chunks of one bit throughout
 abbrev pub chunks : (s₁ c₁ s₂ c₂ s₃ : List ℕ) → List ℕ
@@ -53,37 +53,37 @@ abbrev pub sevenWrong : List ℕ
 sevenWrong = chunks ones (1 ∷ 1 ∷ 0 ∷ []) (1 ∷ 0 ∷ 0 ∷ []) zeros zeros
 
 abbrev pub sixOrSeven : List ℕ
-sixOrSeven = chunks ones ones (lost ∷ 0 ∷ 0 ∷ []) zeros zeros
+sixOrSeven = chunks ones ones (erased ∷ 0 ∷ 0 ∷ []) zeros zeros
 
 -- 15 with one bit of separator 3 wrong, or two lost; either reads as 13, which is just 2 × wrong + lost off
 abbrev pub lastWrong : List ℕ
 lastWrong = chunks ones ones ones ones (1 ∷ 0 ∷ 1 ∷ [])
 
-abbrev pub lastLost : List ℕ
-lastLost = chunks ones ones ones ones (1 ∷ lost ∷ lost⁻ ∷ [])
+abbrev pub lastErased : List ℕ
+lastErased = chunks ones ones ones ones (1 ∷ erased ∷ erased⁻ ∷ [])
 
 -- 15 with one bit wrong, or two lost, in every chunk
 abbrev pub allDamaged : List ℕ
-allDamaged = chunks (0 ∷ 1 ∷ 1 ∷ []) (lost ∷ lost⁻ ∷ 1 ∷ []) (1 ∷ lost ∷ lost ∷ []) (1 ∷ 0 ∷ 1 ∷ []) (lost⁻ ∷ 1 ∷ lost ∷ [])
+allDamaged = chunks (0 ∷ 1 ∷ 1 ∷ []) (erased ∷ erased⁻ ∷ 1 ∷ []) (1 ∷ erased ∷ erased ∷ []) (1 ∷ 0 ∷ 1 ∷ []) (erased⁻ ∷ 1 ∷ erased ∷ [])
 
 -- 0 with two bits of chunk 1 lost and one bit of chunk 2 wrong
 abbrev pub zeroDamaged : List ℕ
-zeroDamaged = chunks zeros (lost ∷ lost⁻ ∷ 0 ∷ []) zeros (0 ∷ 1 ∷ 0 ∷ []) zeros
+zeroDamaged = chunks zeros (erased ∷ erased⁻ ∷ 0 ∷ []) zeros (0 ∷ 1 ∷ 0 ∷ []) zeros
 
 -- 2 × wrong + lost of chunk 1 is D, against either codeword: one bit wrong and one lost, or three lost
-abbrev pub wrongAndLost : List ℕ
-wrongAndLost = chunks zeros (lost ∷ 1 ∷ 0 ∷ []) zeros zeros zeros
+abbrev pub wrongAndErased : List ℕ
+wrongAndErased = chunks zeros (erased ∷ 1 ∷ 0 ∷ []) zeros zeros zeros
 
-abbrev pub threeLost : List ℕ
-threeLost = chunks zeros (lost ∷ lost ∷ lost ∷ []) zeros zeros zeros
+abbrev pub threeErased : List ℕ
+threeErased = chunks zeros (erased ∷ erased ∷ erased ∷ []) zeros zeros zeros
 
 -- w(0) with both code chunks from w(1); the same with two bits lost in separator 1 and in chunk 1, and with one wrong in either; with chunk
 -- 2 alone from w(1); and by rules 1 and 2, with a separator besides
 abbrev pub mixed : List ℕ
 mixed = chunks zeros ones zeros ones zeros
 
-abbrev pub mixedLost : List ℕ
-mixedLost = chunks (lost ∷ lost⁻ ∷ 0 ∷ []) (lost ∷ lost⁻ ∷ 1 ∷ []) zeros ones zeros
+abbrev pub mixedErased : List ℕ
+mixedErased = chunks (erased ∷ erased⁻ ∷ 0 ∷ []) (erased ∷ erased⁻ ∷ 1 ∷ []) zeros ones zeros
 
 abbrev pub mixedWrong : List ℕ
 mixedWrong = chunks (1 ∷ 0 ∷ 0 ∷ []) (0 ∷ 1 ∷ 1 ∷ []) zeros ones zeros
@@ -106,35 +106,35 @@ mixedLevels = ofInt binary32 (pos 3) ∷ minusOne ∷ minusOne ∷ levelsOf (one
 
 pub record LevelsWitnessed : Type 0 where
   -- a code chunk of which two of three places are lost is read
-  pub two-lost : ChunksReadBelowD cardB → heardReading (codeOf cardB) (λ p. eqb p 1) (λ p. 1) ≡ Codeword 1 0
+  pub two-erased : ChunksReadBelowD cardB → erasureReading (codeOf cardB) (λ p. eqb p 1) (λ p. 1) ≡ Codeword 1 0
   -- the nearest over bits that are heard: 6 and 7 are as near, or 13 and 15, and the smallest is answered; a pasted word is refused by 17
-  pub smaller-of-two : (answer : ReadAnswer) → NearestOverHeard cardB (levelsOf sixOrSeven) answer → ReadAs 6 0 2 answer
-  pub smallest-of-wrong : (answer : ReadAnswer) → NearestOverHeard cardB (levelsOf lastWrong) answer → ReadAs 13 1 3 answer
-  pub smallest-of-lost : (answer : ReadAnswer) → NearestOverHeard cardB (levelsOf lastLost) answer → ReadAs 13 0 3 answer
-  pub by-17 : (answer : ReadAnswer) → NearestOverHeard cardB (levelsOf mixed) answer → answer ≡ Refused 17
+  pub smaller-of-two : (answer : ReadAnswer) → NearestOverUnerased cardB (levelsOf sixOrSeven) answer → ReadAs 6 0 2 answer
+  pub smallest-of-wrong : (answer : ReadAnswer) → NearestOverUnerased cardB (levelsOf lastWrong) answer → ReadAs 13 1 3 answer
+  pub smallest-of-erased : (answer : ReadAnswer) → NearestOverUnerased cardB (levelsOf lastErased) answer → ReadAs 13 0 3 answer
+  pub by-17 : (answer : ReadAnswer) → NearestOverUnerased cardB (levelsOf mixed) answer → answer ≡ Refused 17
   -- wrong bits of chunks, with 2 × wrong + lost just below D; of a chunk that is not named none; and with D itself no reading
-  pub below-D : (r : Reading) → TellsWrongOfChunks cardB (levelsOf zeroDamaged) (At r) → (r .chunk1 ≡ Differing 0) × (r .chunk2 ≡ Differing 1)
-  pub not-named : (r : Reading) → TellsWrongOfChunks cardB (levelsOf sevenWrong) (At r) → (r .chunk1 ≡ NotRead) × (r .chunk2 ≡ Differing 0)
-  pub wrong-and-lost : NoneReads (TellsWrongOfChunks cardB (levelsOf wrongAndLost))
-  pub three-lost : NoneReads (TellsWrongOfChunks cardB (levelsOf threeLost))
+  pub below-D : (r : Reading) → CountsWrongOfChunks cardB (levelsOf zeroDamaged) (At r) → (r .chunk1 ≡ Differing 0) × (r .chunk2 ≡ Differing 1)
+  pub not-named : (r : Reading) → CountsWrongOfChunks cardB (levelsOf sevenWrong) (At r) → (r .chunk1 ≡ NotRead) × (r .chunk2 ≡ Differing 0)
+  pub wrong-and-erased : NoneReads (CountsWrongOfChunks cardB (levelsOf wrongAndErased))
+  pub three-erased : NoneReads (CountsWrongOfChunks cardB (levelsOf threeErased))
   -- levels of 1 and -1 are read, or refused, as the plain word
   pub as-plain : (answer : ReadAnswer) → AsPlainReading cardB (levelsOf sevenWrong) answer → ReadAs 5 1 2 answer
   pub refused-as-plain : (answer : ReadAnswer) → AsPlainReading cardB (levelsOf mixed) answer → answer ≡ Refused 17
   -- off by at most 2 × wrong + lost, which 13 for 15 is either way; and every chunk just below D
-  pub twice-wrong : (answer : ReadAnswer) → OffByAtMostTwiceWrongAndLost cardB (levelsOf lastWrong) answer → ReadWithin 2 15 answer
-  pub once-lost : (answer : ReadAnswer) → OffByAtMostTwiceWrongAndLost cardB (levelsOf lastLost) answer → ReadWithin 2 15 answer
-  pub in-all : (answer : ReadAnswer) → OffByAtMostTwiceWrongAndLost cardB (levelsOf allDamaged) answer → ReadWithin 10 15 answer
+  pub twice-wrong : (answer : ReadAnswer) → OffByAtMostTwiceWrongAndErased cardB (levelsOf lastWrong) answer → ReadWithin 2 15 answer
+  pub once-erased : (answer : ReadAnswer) → OffByAtMostTwiceWrongAndErased cardB (levelsOf lastErased) answer → ReadWithin 2 15 answer
+  pub in-all : (answer : ReadAnswer) → OffByAtMostTwiceWrongAndErased cardB (levelsOf allDamaged) answer → ReadWithin 10 15 answer
   -- separators that contradict the codeword, by each rule; and levels pasted from two telegrams, by each rule and each chunk that it names,
   -- with two bits lost or one wrong in both parts, and with levels of any magnitude
   pub contradicts : NoneReads (LevelsReadOnlyIfParityAgrees cardB (levelsOf mixed))
   pub contradicts-by-rule-1 : NoneReads (LevelsReadOnlyIfParityAgrees cardB (levelsOf mixedByRule1))
   pub contradicts-by-rule-2 : NoneReads (LevelsReadOnlyIfParityAgrees cardB (levelsOf mixedByRule2))
-  pub pasted-lost : NoneReads (PastedLevelsNeverRead cardB (levelsOf mixedLost))
-  pub pasted-wrong : NoneReads (PastedLevelsNeverRead cardB (levelsOf mixedWrong))
-  pub pasted-in-chunk-2 : NoneReads (PastedLevelsNeverRead cardB (levelsOf mixedInChunk2))
-  pub pasted-by-rule-1 : NoneReads (PastedLevelsNeverRead cardB (levelsOf mixedByRule1))
-  pub pasted-by-rule-2 : NoneReads (PastedLevelsNeverRead cardB (levelsOf mixedByRule2))
-  pub pasted-of-any-levels : NoneReads (PastedLevelsNeverRead cardB mixedLevels)
+  pub mixed-erased : NoneReads (MixedLevelsNeverRead cardB (levelsOf mixedErased))
+  pub mixed-wrong : NoneReads (MixedLevelsNeverRead cardB (levelsOf mixedWrong))
+  pub mixed-in-chunk-2 : NoneReads (MixedLevelsNeverRead cardB (levelsOf mixedInChunk2))
+  pub mixed-by-rule-1 : NoneReads (MixedLevelsNeverRead cardB (levelsOf mixedByRule1))
+  pub mixed-by-rule-2 : NoneReads (MixedLevelsNeverRead cardB (levelsOf mixedByRule2))
+  pub mixed-of-any-levels : NoneReads (MixedLevelsNeverRead cardB mixedLevels)
   -- what 17 changes: a word that was read is refused by it, another is read as before, and a refusal stays
   pub refused-now : (answer : ReadAnswer) → LevelsAsBeforeUnlessContradicted cardB (levelsOf mixed) answer → answer ≡ Refused 17
   pub read-as-before : (answer : ReadAnswer) → LevelsAsBeforeUnlessContradicted cardB (levelsOf sixOrSeven) answer → ReadAs 6 0 2 answer

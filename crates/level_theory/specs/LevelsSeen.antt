@@ -8,18 +8,18 @@ use Rattle.bits.specs.Places.{pack}
 use Rattle.model.specs.Card.{codeOf}
 use Rattle.model.specs.Words.{wordBits}
 use Rattle.model.specs.Reading.{Seen}
-use Rattle.model.specs.Levels.{toldAt, heardIn, bitsIn, seenTold}
+use Rattle.model.specs.Levels.{receivedAt, unerasedIn, bitsIn, seenInLevels}
 
 -- the places that are heard, and the bits there
-abbrev pub heardOf : (levels : List Float) (p : ℕ) → Bool
-heardOf levels = heardIn (toldAt levels)
+abbrev pub unerasedOf : (levels : List Float) (p : ℕ) → Bool
+unerasedOf levels = unerasedIn (receivedAt levels)
 
 abbrev pub bitsOf : (levels : List Float) (p : ℕ) → ℕ
-bitsOf levels = bitsIn (toldAt levels)
+bitsOf levels = bitsIn (receivedAt levels)
 
 -- what is seen of a word of levels
 abbrev pub seenOf : (card : List ℕ) (levels : List Float) → Seen
-seenOf card levels = seenTold (codeOf card) (toldAt levels)
+seenOf card levels = seenInLevels (codeOf card) (receivedAt levels)
 
 -- the word of the bits of levels, as it travels
 abbrev pub wordOfBits : (card : List ℕ) (levels : List Float) → List ℕ

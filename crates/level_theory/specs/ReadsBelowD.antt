@@ -3,23 +3,23 @@ use mathlib.Core.Path.{_≡_}
 use mathlib.Core.Bool.{Bool}
 use mathlib.Core.List.{List}
 use Prim.Native.Nat.{ℕ, _+_, _*_, _≤_, _<_}
-use Rattle.bits.specs.Sums.{lostBelow}
+use Rattle.bits.specs.Sums.{erasedBelow}
 use Rattle.model.specs.Card.{Code, codeOf, SoundCard}
 use Rattle.model.specs.Order.{lastCodeword}
-use Rattle.model.specs.Levels.{chunkWrong, heardReading}
+use Rattle.model.specs.Levels.{chunkWrong, erasureReading}
 use Rattle.model.specs.declared.Chunk.the-variants.{Codeword}
 
 -- codeword p is one for which 2 × wrong + lost is below D, of a chunk of which these places are heard
-abbrev pub BelowD : Code → (heard : ℕ → Bool) (chunk : ℕ → ℕ) (p : ℕ) → Type 0
-BelowD C heard chunk p = (p ≤ lastCodeword C) × (2 * chunkWrong C heard chunk p + lostBelow heard (C .n) < C .D)
+abbrev pub BelowD : Code → (unerased : ℕ → Bool) (chunk : ℕ → ℕ) (p : ℕ) → Type 0
+BelowD C unerased chunk p = (p ≤ lastCodeword C) × (2 * chunkWrong C unerased chunk p + erasedBelow unerased (C .n) < C .D)
 
 -- A code chunk reads as the codeword for which 2 × wrong + lost is below D: there is one at most, it is what is read, with its count of
 -- wrong places, and nothing else is
-pub record ReadsBelowD (C : Code) (heard : ℕ → Bool) (chunk : ℕ → ℕ) : Type 0 where
-  pub one : (p q : ℕ) → BelowD C heard chunk p → BelowD C heard chunk q → p ≡ q
-  pub read : (p : ℕ) → BelowD C heard chunk p → heardReading C heard chunk ≡ Codeword p (chunkWrong C heard chunk p)
-  pub below : (p e : ℕ) → heardReading C heard chunk ≡ Codeword p e → BelowD C heard chunk p × (e ≡ chunkWrong C heard chunk p)
+pub record ReadsBelowD (C : Code) (unerased : ℕ → Bool) (chunk : ℕ → ℕ) : Type 0 where
+  pub one : (p q : ℕ) → BelowD C unerased chunk p → BelowD C unerased chunk q → p ≡ q
+  pub read : (p : ℕ) → BelowD C unerased chunk p → erasureReading C unerased chunk ≡ Codeword p (chunkWrong C unerased chunk p)
+  pub below : (p e : ℕ) → erasureReading C unerased chunk ≡ Codeword p e → BelowD C unerased chunk p × (e ≡ chunkWrong C unerased chunk p)
 
 -- for every sound card, every chunk and whichever places of it are heard
 unfoldable pub ChunksReadBelowD : (card : List ℕ) → Type 0
-ChunksReadBelowD card = SoundCard card → (heard : ℕ → Bool) (chunk : ℕ → ℕ) → ReadsBelowD (codeOf card) heard chunk
+ChunksReadBelowD card = SoundCard card → (unerased : ℕ → Bool) (chunk : ℕ → ℕ) → ReadsBelowD (codeOf card) unerased chunk

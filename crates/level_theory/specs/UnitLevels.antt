@@ -6,8 +6,8 @@ use lib.IntN.{pos, negsuc}
 use lib.Ieee.{Float, nan, fin, binary32, minus, ofInt}
 use lib.ListN.{getD}
 use Rattle.bits.specs.Sums.{sumBelow}
-use Rattle.model.specs.Levels.{isHeard, bitTold}
-use Rattle.model.specs.declared.Told.{Told}
+use Rattle.model.specs.Levels.{isUnerased, bitOfLevel}
+use Rattle.model.specs.declared.ReceivedLevel.{ReceivedLevel}
 
 -- the levels 1 and -1
 abbrev pub plusOne : Float
@@ -38,12 +38,12 @@ abbrev pub UnitLevelsFrom : (at : ℕ) (levels : List Float) (D : ℕ) → Type 
 UnitLevelsFrom at levels D = (q : ℕ) → q < D → UnitLevel (getD levels (at + q) nan)
 
 -- how many of the bits at the first m places that are heard are 0, and how many are 1
-unfoldable pub zerosHeard : (t : ℕ → Told) (m : ℕ) → ℕ
-zerosHeard t m = sumBelow (λ p. cond (isHeard (t p)) (1 - bitTold (t p)) 0) m
+unfoldable pub zerosUnerased : (t : ℕ → ReceivedLevel) (m : ℕ) → ℕ
+zerosUnerased t m = sumBelow (λ p. cond (isUnerased (t p)) (1 - bitOfLevel (t p)) 0) m
 
-unfoldable pub onesHeard : (t : ℕ → Told) (m : ℕ) → ℕ
-onesHeard t m = sumBelow (λ p. cond (isHeard (t p)) (bitTold (t p)) 0) m
+unfoldable pub onesUnerased : (t : ℕ → ReceivedLevel) (m : ℕ) → ℕ
+onesUnerased t m = sumBelow (λ p. cond (isUnerased (t p)) (bitOfLevel (t p)) 0) m
 
 -- the former less the latter, as a level
-abbrev pub zerosLessOnes : (t : ℕ → Told) (m : ℕ) → Float
-zerosLessOnes t m = ofInt binary32 (minus (zerosHeard t m) (onesHeard t m))
+abbrev pub zerosLessOnes : (t : ℕ → ReceivedLevel) (m : ℕ) → Float
+zerosLessOnes t m = ofInt binary32 (minus (zerosUnerased t m) (onesUnerased t m))

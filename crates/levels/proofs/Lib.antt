@@ -1,3 +1,3 @@
 pub mod Constants
 pub mod Outside
-pub mod ChunkTold
+pub mod LevelByLevel

@@ -1,1 +1,1 @@
-pub mod ToldChunks
+pub mod LevelChunks

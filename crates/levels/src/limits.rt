@@ -7,7 +7,7 @@ ghost use Rattle.model.specs.Levels.{outside, anyOutside};
 use super::magnitudes;
 
 // Is a level outside? An infinite one is above the limit like any other, and only what is not a number differs from itself.
-fn is_outside(level: f32) -> bool
+fn level_is_outside(level: f32) -> bool
     ensures { λ r. ⌜ r ≡ outside level ⌝ }
 {
     let m = magnitudes::magnitude_of(level);
@@ -21,7 +21,7 @@ fn is_outside(level: f32) -> bool
 fn outside_flag(level: f32) -> u32
     ensures { λ r. ⌜ r ≡ cond (outside level) 1 0 ⌝ }
 {
-    if is_outside(level) { 1 } else { 0 }
+    if level_is_outside(level) { 1 } else { 0 }
 }
 
 // Is any of the first `count` levels outside? The flags of all of them are joined and tested once, so that the compiler can test several

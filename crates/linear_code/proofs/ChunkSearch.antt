@@ -14,7 +14,7 @@ use Rattle.bits.proofs.Numbers.{eq-or-ne}
 use Rattle.model.specs.Reading.{readFirst}
 use Rattle.model.specs.declared.Chunk.the-variants.{Codeword, Unreadable}
 use Rattle.code_theory.proofs.ChunkReading.{reading-first, reading-passed}
-use Rattle.linear_code.specs.FirstWithin.{unlikeBits}
+use Rattle.linear_code.specs.FirstWithin.{rowsDistance}
 use Rattle.code_theory.proofs.GrayStep.{AtSet, set-start, set-next}
 
 -- ---- the bits of one codeword
@@ -70,9 +70,9 @@ module _ (k : ℕ) (row : ℕ → ℕ) (x : ℕ) (near : ℕ → Bool) where
           passed = passed-too here;
         }
 
-    pub search-found : (count : ℕ → ℕ) (unlike : ℕ) → unlike ≡ count i → near i ≡ true
-        → Codeword i unlike ≡ readFirst near count (2 ^ k)
-    search-found count unlike e here =
+    pub search-found : (count : ℕ → ℕ) (differing : ℕ) → differing ≡ count i → near i ≡ true
+        → Codeword i differing ≡ readFirst near count (2 ^ k)
+    search-found count differing e here =
         ap (Codeword i) e
         ∙ sym (reading-first near count (2 ^ k) i (omega (arith, stand .at .end, stand .at .within)) (stand .passed) here)
 
@@ -82,5 +82,5 @@ module _ (k : ℕ) (row : ℕ → ℕ) (x : ℕ) (near : ℕ → Bool) where
 
 -- the ones of `apart` are the count of this search
 pub bits-apart : {k x last apart i : ℕ} {row : ℕ → ℕ} {near : ℕ → Bool} → AtCandidate k row x near last apart i
-    → ones apart ≡ unlikeBits k row x i
+    → ones apart ≡ rowsDistance k row x i
 bits-apart stand = rw (stand .differ, stand .at .current)

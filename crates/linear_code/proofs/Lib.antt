@@ -1,3 +1,3 @@
 pub mod Rows
 pub mod ChunkSearch
-pub mod HeardSearch
+pub mod ErasureSearch

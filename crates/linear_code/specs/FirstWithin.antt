@@ -13,12 +13,12 @@ use Rattle.model.specs.Reading.{readFirst}
 use Rattle.model.specs.declared.Chunk.{Chunk}
 
 -- the ones of codeword j, a sum of the first k rows, and x, joined by exclusive-or; and whether they are within a limit
-abbrev pub unlikeBits : (k : ℕ) (row : ℕ → ℕ) (x j : ℕ) → ℕ
-unlikeBits k row x j = ones (bitXor (sumOfRows row k (gray j)) x)
+abbrev pub rowsDistance : (k : ℕ) (row : ℕ → ℕ) (x j : ℕ) → ℕ
+rowsDistance k row x j = ones (bitXor (sumOfRows row k (gray j)) x)
 
 abbrev pub nearBits : (k : ℕ) (row : ℕ → ℕ) (x limit j : ℕ) → Bool
-nearBits k row x limit j = leb (unlikeBits k row x j) limit
+nearBits k row x limit j = leb (rowsDistance k row x j) limit
 
 unfoldable pub firstWithin : (k : ℕ) (rows : List ℕ) (x limit : ℕ) → Chunk
 firstWithin k rows x limit =
-    let row : ℕ → ℕ = λ z. getD rows z 0 in readFirst (nearBits k row x limit) (unlikeBits k row x) (2 ^ k)
+    let row : ℕ → ℕ = λ z. getD rows z 0 in readFirst (nearBits k row x limit) (rowsDistance k row x) (2 ^ k)

@@ -15,7 +15,7 @@ fn gray_number(i: u32) -> u32
 }
 
 // Bit z of a number. It is one of 32 bits: of one of 64 the compiler takes several rows in a step and branches on each of the rest.
-fn bit_of(x: u32, z: u32) -> u64
+fn gray_bit(x: u32, z: u32) -> u64
     requires { ⌜ z < 32 ⌝ }
     ensures { λ r. ⌜ (r ≡ bit x z) × (r < 2) ⌝ }
 {
@@ -34,7 +34,7 @@ pub fn codeword(code: DecodedCode, i: u32) -> u64
     let mut z: u32 = 0;
     while z < k {
         let row = rows[z as usize];
-        word ^= bit_of(gray, z) * row;
+        word ^= gray_bit(gray, z) * row;
         z += 1;
     }
     word

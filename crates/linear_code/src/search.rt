@@ -8,8 +8,8 @@ ghost use Rattle.bits.specs.Places.{bit};
 ghost use Rattle.model.specs.Card.{radius};
 ghost use Rattle.model.specs.Decoded.{meaning};
 ghost use Rattle.model.specs.Refusals.{ifServed};
-ghost use Rattle.model.specs.Reading.{chunkReading, chunkRefusal, chunkFigures, chunkStatus, chunkValues};
-ghost use Rattle.model.specs.Levels.{heardReading};
+ghost use Rattle.model.specs.Reading.{chunkReading, chunkRefusal, chunkExpected, chunkStatus, chunkValues};
+ghost use Rattle.model.specs.Levels.{erasureReading};
 ghost use Rattle.code_theory.specs.Promise.{Sound};
 ghost use Rattle.linear_code.specs.FirstWithin.{firstWithin};
 use bit_arithmetic::powers;
@@ -25,15 +25,15 @@ pub fn radius_of(code: DecodedCode) -> u32
 }
 
 // The rows of a code at the places that are heard, and 0 at the others.
-fn heard_rows(code: DecodedCode, heard: u64) -> [u64; 12]
+fn unerased_rows(code: DecodedCode, unerased: u64) -> [u64; 12]
     requires { ⌜ code .k ≤ 12 ⌝ }
-    ensures { λ r. ⌜ ((z : ℕ) → z < code .k → getD r z 0 ≡ bitAnd (getD (code .rows) z 0) heard) ⌝ }
+    ensures { λ r. ⌜ ((z : ℕ) → z < code .k → getD r z 0 ≡ bitAnd (getD (code .rows) z 0) unerased) ⌝ }
 {
     let k = code.k as usize;
     let mut rows: [u64; 12] = [0; 12];
     let mut z: usize = 0;
     while z < k {
-        rows[z] = code.rows[z] & heard;
+        rows[z] = code.rows[z] & unerased;
         z += 1;
     }
     rows
@@ -55,19 +55,19 @@ fn search(k: u32, rows: [u64; 12], x: u64, limit: u32) -> Chunk
     let mut i: u32 = 0;
     let found = loop {
         let mut rest = apart;
-        let mut unlike: u32 = 0;
+        let mut differing: u32 = 0;
         'bits: while rest != 0 {
-            unlike += 1;
-            if limit < unlike {
+            differing += 1;
+            if limit < differing {
                 break 'bits;
             }
             rest &= rest - 1;
         }
-        if unlike <= limit {
+        if differing <= limit {
             let bits = u64::count_ones(apart);
             break Chunk::Codeword {
                 number: i,
-                unlike: bits,
+                differing: bits,
             };
         }
         i += 1;
@@ -85,17 +85,17 @@ fn search(k: u32, rows: [u64; 12], x: u64, limit: u32) -> Chunk
 // limit is the most that may be wrong. Of a plain chunk, all of which is heard, this is the codeword within the radius, with the count of
 // places in which the two differ: the status is 0, and the values are the codeword's number and the count; the status is 10 where
 // there is no such codeword.
-pub fn read_chunk(code: DecodedCode, x: u64, heard: u64) -> Chunk
-    requires { ⌜ Sound (meaning code) × (x < 2 ^ code .n) × (heard < 2 ^ code .n) ⌝ }
-    ensures heard { λ r. ⌜ r ≡ heardReading (meaning code) (marked (bit heard)) (bit x) ⌝ }
-    ensures answer { λ r. ⌜ (heard ≡ 2 ^ code .n - 1 → r ≡ chunkReading (meaning code) (bit x)) ⌝ }
-    ensures status { λ r. ⌜ (heard ≡ 2 ^ code .n - 1 → chunkStatus r ≡ chunkRefusal (meaning code) (bit x)) ⌝ }
-    ensures values { λ r. ⌜ (heard ≡ 2 ^ code .n - 1 → chunkValues r ≡ ifServed (chunkStatus r) (chunkFigures (meaning code) (bit x))) ⌝ }
+pub fn read_chunk(code: DecodedCode, x: u64, unerased: u64) -> Chunk
+    requires { ⌜ Sound (meaning code) × (x < 2 ^ code .n) × (unerased < 2 ^ code .n) ⌝ }
+    ensures unerased { λ r. ⌜ r ≡ erasureReading (meaning code) (marked (bit unerased)) (bit x) ⌝ }
+    ensures answer { λ r. ⌜ (unerased ≡ 2 ^ code .n - 1 → r ≡ chunkReading (meaning code) (bit x)) ⌝ }
+    ensures status { λ r. ⌜ (unerased ≡ 2 ^ code .n - 1 → chunkStatus r ≡ chunkRefusal (meaning code) (bit x)) ⌝ }
+    ensures values { λ r. ⌜ (unerased ≡ 2 ^ code .n - 1 → chunkValues r ≡ ifServed (chunkStatus r) (chunkExpected (meaning code) (bit x))) ⌝ }
 {
-    let lost = code.n - u64::count_ones(heard);
-    if code.distance <= lost {
+    let erased = code.n - u64::count_ones(unerased);
+    if code.distance <= erased {
         return Chunk::Unreadable;
     }
-    let limit = (code.distance - 1 - lost) / 2;
-    search(code.k, heard_rows(code, heard), x & heard, limit)
+    let limit = (code.distance - 1 - erased) / 2;
+    search(code.k, unerased_rows(code, unerased), x & unerased, limit)
 }

@@ -38,6 +38,6 @@ cardValues (Sound s) = s .n ∷ s .k ∷ s .track ∷ s .distance ∷ s .radius 
 cardValues (Refused refusal) = []
 
 -- the values of a sound card by their meaning: n, k, track, D, t, d and the last position
-unfoldable pub cardFigures : List ℕ → List ℕ
-cardFigures b =
+unfoldable pub cardExpected : List ℕ → List ℕ
+cardExpected b =
     let C : Code = codeOf b in C .n ∷ C .k ∷ trackOf b ∷ C .D ∷ radius C ∷ wordBits C ∷ lastPosition C ∷ []

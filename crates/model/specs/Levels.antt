@@ -10,7 +10,7 @@ use lib.Dec.{ltb}
 use lib.IntN.{pos}
 use lib.Ieee.{Float, nan, inf, fin, binary32, add, neg, lt, eq, isNan, ofInt}
 use lib.ListN.{getD}
-use Rattle.bits.specs.Sums.{distanceHeard, lostBelow}
+use Rattle.bits.specs.Sums.{distanceUnerased, erasedBelow}
 use Rattle.bits.specs.Places.{bit}
 use Rattle.bits.specs.Searches.{anyBelow}
 use Rattle.model.specs.Card.{Code}
@@ -19,8 +19,8 @@ use Rattle.model.specs.Words.{wordBits, wordAt, separator₁, chunk₁, 
 use Rattle.model.specs.Reading.{readFirst, Seen}
 use Rattle.model.specs.declared.Chunk.{Chunk}
 use Rattle.model.specs.declared.Strength.{Strength}
-use Rattle.model.specs.declared.Told.{Told}
-use Rattle.model.specs.declared.Told.the-variants.{Lost, Level}
+use Rattle.model.specs.declared.ReceivedLevel.{ReceivedLevel}
+use Rattle.model.specs.declared.ReceivedLevel.the-variants.{Lost, Level}
 
 -- zero, the positive one, from which sums begin
 abbrev pub zeroLevel : Float
@@ -45,81 +45,81 @@ unfoldable pub anyOutside : (d : ℕ) (levels : List Float) → Bool
 anyOutside d levels = anyBelow (λ p. outside (getD levels p nan)) d
 
 -- each arriving level is told either as a level or, when it is zero of either sign, as a lost bit
-unfoldable pub told : Float → Told
-told x = cond (eq x zeroLevel) Lost (Level x)
+unfoldable pub receivedLevel : Float → ReceivedLevel
+receivedLevel x = cond (eq x zeroLevel) Lost (Level x)
 
 -- what the levels of a word are told as, place by place
-unfoldable pub toldAt : (levels : List Float) (p : ℕ) → Told
-toldAt levels p = told (getD levels p nan)
+unfoldable pub receivedAt : (levels : List Float) (p : ℕ) → ReceivedLevel
+receivedAt levels p = receivedLevel (getD levels p nan)
 
 -- whether a bit is heard, and which it is: negative for 1 (of a lost bit this means nothing)
-unfoldable pub isHeard : Told → Bool
-isHeard Lost = false
-isHeard (Level x) = true
+unfoldable pub isUnerased : ReceivedLevel → Bool
+isUnerased Lost = false
+isUnerased (Level x) = true
 
-unfoldable pub bitTold : Told → ℕ
-bitTold Lost = 0
-bitTold (Level x) = cond (lt x zeroLevel) 1 0
+unfoldable pub bitOfLevel : ReceivedLevel → ℕ
+bitOfLevel Lost = 0
+bitOfLevel (Level x) = cond (lt x zeroLevel) 1 0
 
 -- the places of a word that are heard, and its bits
-abbrev pub heardIn : (word : ℕ → Told) (p : ℕ) → Bool
-heardIn word p = isHeard (word p)
+abbrev pub unerasedIn : (word : ℕ → ReceivedLevel) (p : ℕ) → Bool
+unerasedIn word p = isUnerased (word p)
 
-abbrev pub bitsIn : (word : ℕ → Told) (p : ℕ) → ℕ
-bitsIn word p = bitTold (word p)
+abbrev pub bitsIn : (word : ℕ → ReceivedLevel) (p : ℕ) → ℕ
+bitsIn word p = bitOfLevel (word p)
 
 -- one level more, added in single precision and rounded once; a lost bit has no level
-unfoldable pub plusLevel : Float → Told → Float
+unfoldable pub plusLevel : Float → ReceivedLevel → Float
 plusLevel sum Lost = sum
 plusLevel sum (Level x) = add binary32 sum x
 
 -- the levels of a separator's D places, added in order from zero
-unfoldable pub sumOfLevels : (separator : ℕ → Told) (D : ℕ) → Float
+unfoldable pub sumOfLevels : (separator : ℕ → ReceivedLevel) (D : ℕ) → Float
 sumOfLevels separator zero = zeroLevel
 sumOfLevels separator (suc D) = plusLevel (sumOfLevels separator D) (separator D)
 
 -- a separator reads 1 when they sum below zero, else 0
-unfoldable pub separatorReading : (D : ℕ) (separator : ℕ → Told) → ℕ
+unfoldable pub separatorReading : (D : ℕ) (separator : ℕ → ReceivedLevel) → ℕ
 separatorReading D separator = cond (lt (sumOfLevels separator D) zeroLevel) 1 0
 
 -- of a code chunk against c(p): wrong are the places that are heard and in which the two differ
-unfoldable pub chunkWrong : Code → (heard : ℕ → Bool) (x : ℕ → ℕ) (p : ℕ) → ℕ
-chunkWrong C heard x p = distanceHeard heard (C .n) (bit (codeword C p)) x
+unfoldable pub chunkWrong : Code → (unerased : ℕ → Bool) (x : ℕ → ℕ) (p : ℕ) → ℕ
+chunkWrong C unerased x p = distanceUnerased unerased (C .n) (bit (codeword C p)) x
 
 -- whether 2 × wrong + lost is below D
-unfoldable pub withinLosses : Code → (heard : ℕ → Bool) (x : ℕ → ℕ) (p : ℕ) → Bool
-withinLosses C heard x p = ltb (2 * chunkWrong C heard x p + lostBelow heard (C .n)) (C .D)
+unfoldable pub withinErasures : Code → (unerased : ℕ → Bool) (x : ℕ → ℕ) (p : ℕ) → Bool
+withinErasures C unerased x p = ltb (2 * chunkWrong C unerased x p + erasedBelow unerased (C .n)) (C .D)
 
 -- a code chunk reads as the codeword for which 2 × wrong + lost is below D (the first such p; there is one at most, by the law
--- `one-within-losses`), with its count of wrong places
-unfoldable pub heardReading : Code → (heard : ℕ → Bool) (x : ℕ → ℕ) → Chunk
-heardReading C heard x = readFirst (withinLosses C heard x) (chunkWrong C heard x) (2 ^ C .k)
+-- `one-within-erasures`), with its count of wrong places
+unfoldable pub erasureReading : Code → (unerased : ℕ → Bool) (x : ℕ → ℕ) → Chunk
+erasureReading C unerased x = readFirst (withinErasures C unerased x) (chunkWrong C unerased x) (2 ^ C .k)
 
 -- what a code chunk of told bits reads as
-abbrev pub toldReading : Code → (chunk : ℕ → Told) → Chunk
-toldReading C chunk = heardReading C (heardIn chunk) (bitsIn chunk)
+abbrev pub levelsChunkReading : Code → (chunk : ℕ → ReceivedLevel) → Chunk
+levelsChunkReading C chunk = erasureReading C (unerasedIn chunk) (bitsIn chunk)
 
 -- what is seen of a word of told bits
-unfoldable pub seenTold : Code → (word : ℕ → Told) → Seen
-seenTold C word =
+unfoldable pub seenInLevels : Code → (word : ℕ → ReceivedLevel) → Seen
+seenInLevels C word =
     record {
       s₁ = separatorReading (C .D) (separator₁ C word);
       s₂ = separatorReading (C .D) (separator₂ C word);
       s₃ = separatorReading (C .D) (separator₃ C word);
-      read₁ = toldReading C (chunk₁ C word);
-      read₂ = toldReading C (chunk₂ C word);
+      read₁ = levelsChunkReading C (chunk₁ C word);
+      read₂ = levelsChunkReading C (chunk₂ C word);
     }
 
 -- the residual of a position over bits that aren't lost: in how many of them its word is unlike the received word
-unfoldable pub residualHeard : Code → (heard : ℕ → Bool) (x : ℕ → ℕ) (position : ℕ) → ℕ
-residualHeard C heard x position = distanceHeard heard (wordBits C) (wordAt C position) x
+unfoldable pub residualUnerased : Code → (unerased : ℕ → Bool) (x : ℕ → ℕ) (position : ℕ) → ℕ
+residualUnerased C unerased x position = distanceUnerased unerased (wordBits C) (wordAt C position) x
 
 -- the strength of no levels: two zeros
 abbrev pub noStrength : Strength
 noStrength = record { sum = zeroLevel; greatest = zeroLevel }
 
 -- one level more: the sum of the magnitudes, added in the same way, and the greatest
-unfoldable pub withLevel : Strength → Told → Strength
+unfoldable pub withLevel : Strength → ReceivedLevel → Strength
 withLevel s Lost = s
 withLevel s (Level x) =
     record {
@@ -128,6 +128,6 @@ withLevel s (Level x) =
     }
 
 -- the receiver's strength over a word's d levels, in order
-unfoldable pub strengthOf : (word : ℕ → Told) (d : ℕ) → Strength
+unfoldable pub strengthOf : (word : ℕ → ReceivedLevel) (d : ℕ) → Strength
 strengthOf word zero = noStrength
 strengthOf word (suc d) = withLevel (strengthOf word d) (word d)

@@ -3,7 +3,7 @@
 use Prim.Native.Nat.{ℕ, zero, suc, _+_, _-_, _*_, _/_, _^_}
 use lib.Bits.{bitXor}
 use lib.Dec.{eqb}
-use Rattle.bits.specs.Sums.{sumBelow, unlike}
+use Rattle.bits.specs.Sums.{sumBelow, difference}
 use Rattle.bits.specs.Places.{bit, weight}
 use Rattle.bits.specs.Searches.{first}
 use Rattle.model.specs.Card.{Code, sumOfRows}
@@ -23,7 +23,7 @@ codeword C i = sumOfRows (C .row) (C .k) (gray i)
 -- the row in which c(i) and c(i+1) differ: the one whose bit differs in Gray(i) and Gray(i+1)
 -- (for i below 2^k - 1; from there on there is no such row, and the number means nothing)
 unfoldable pub changedRow : Code → (i : ℕ) → ℕ
-changedRow C i = first (λ z. eqb (unlike (bit (gray i) z) (bit (gray (i + 1)) z)) 1) (C .k)
+changedRow C i = first (λ z. eqb (difference (bit (gray i) z) (bit (gray (i + 1)) z)) 1) (C .k)
 
 -- A(i): the weight of the row in which c(i) and c(i+1) differ
 unfoldable pub changedWeight : Code → (i : ℕ) → ℕ

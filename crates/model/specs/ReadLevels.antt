@@ -8,37 +8,37 @@ use lib.ListN.{length}
 use Rattle.model.specs.Refusals.{Row, refuses, refusedAs, firstRefusal, unlessRefused}
 use Rattle.model.specs.Card.{Code, cardRefusal, codeOf}
 use Rattle.model.specs.Words.{wordBits}
-use Rattle.model.specs.Reading.{Seen, ruleSeen, twoEnds, rowsSeen, rangeSeen, nearest, figuresOf}
-use Rattle.model.specs.Levels.{anyOutside, toldAt, heardIn, bitsIn, seenTold, residualHeard, strengthOf}
+use Rattle.model.specs.Reading.{Seen, ruleSeen, twoEnds, rowsSeen, rangeSeen, nearest, readingValues}
+use Rattle.model.specs.Levels.{anyOutside, receivedAt, unerasedIn, bitsIn, seenInLevels, residualUnerased, strengthOf}
 use Rattle.model.specs.ReadWord.{readStatus, readValues}
 use Rattle.model.specs.declared.Reading.{Reading}
 use Rattle.model.specs.declared.ReadAnswer.{ReadAnswer}
 use Rattle.model.specs.declared.ReadAnswer.the-variants.{At as ReadAt, Refused as ReadRefused}
-use Rattle.model.specs.declared.Told.{Told}
+use Rattle.model.specs.declared.ReceivedLevel.{ReceivedLevel}
 use Rattle.model.specs.declared.Strength.{Strength}
 use Rattle.model.specs.declared.LevelsAnswer.{LevelsAnswer}
 use Rattle.model.specs.declared.LevelsAnswer.the-variants.{At, Refused}
 
 -- the rows of what is seen of a word of told bits, and the position nearest to it over bits that aren't lost
-abbrev pub rowsTold : Code → (word : ℕ → Told) → List Row
-rowsTold C word = let s : Seen = seenTold C word in rowsSeen (twoEnds C) s (ruleSeen s)
+abbrev pub rowsInLevels : Code → (word : ℕ → ReceivedLevel) → List Row
+rowsInLevels C word = let s : Seen = seenInLevels C word in rowsSeen (twoEnds C) s (ruleSeen s)
 
-abbrev pub readingTold : Code → (word : ℕ → Told) → Reading
-readingTold C word =
-    let s : Seen = seenTold C word in
-    nearest (residualHeard C (heardIn word) (bitsIn word)) s (ruleSeen s) (rangeSeen (twoEnds C) s (ruleSeen s))
+abbrev pub readingInLevels : Code → (word : ℕ → ReceivedLevel) → Reading
+readingInLevels C word =
+    let s : Seen = seenInLevels C word in
+    nearest (residualUnerased C (unerasedIn word) (bitsIn word)) s (ruleSeen s) (rangeSeen (twoEnds C) s (ruleSeen s))
 
 -- the rows of a list of levels, once its card is sound: 15 in the place of 6, and 16 in the place of 8
 unfoldable pub rowsOfLevels : Code → (levels : List Float) → List Row
 rowsOfLevels C levels =
     refuses 15 (not (eqb (length levels) (wordBits C)))
     ∷ refuses 16 (anyOutside (wordBits C) levels)
-    ∷ rowsTold C (toldAt levels)
+    ∷ rowsInLevels C (receivedAt levels)
 
 -- what is answered of levels whose refusal has this number: the refusal; or the reading, with the strength of all levels
 unfoldable pub levelsAnswered : Code → (levels : List Float) (refusal : ℕ) → LevelsAnswer
 levelsAnswered C levels refusal =
-    unlessRefused refusal Refused (At (readingTold C (toldAt levels)) (strengthOf (toldAt levels) (wordBits C)))
+    unlessRefused refusal Refused (At (readingInLevels C (receivedAt levels)) (strengthOf (receivedAt levels) (wordBits C)))
 
 -- the answer for the code of a sound card
 unfoldable pub readLevels : Code → (levels : List Float) → LevelsAnswer
@@ -69,9 +69,9 @@ strengthValues (At reading strength) = strength .sum ∷ strength .greatest ∷ 
 strengthValues (Refused refusal) = []
 
 -- the values of a word of levels that is read, by their meaning; and beside them the strength's two floats
-unfoldable pub levelsFigures : (card : List ℕ) (levels : List Float) → List ℕ
-levelsFigures card levels = figuresOf (readingTold (codeOf card) (toldAt levels))
+unfoldable pub levelsExpected : (card : List ℕ) (levels : List Float) → List ℕ
+levelsExpected card levels = readingValues (readingInLevels (codeOf card) (receivedAt levels))
 
-unfoldable pub strengthFigures : (card : List ℕ) (levels : List Float) → List Float
-strengthFigures card levels =
-    let s : Strength = strengthOf (toldAt levels) (wordBits (codeOf card)) in s .sum ∷ s .greatest ∷ []
+unfoldable pub strengthExpected : (card : List ℕ) (levels : List Float) → List Float
+strengthExpected card levels =
+    let s : Strength = strengthOf (receivedAt levels) (wordBits (codeOf card)) in s .sum ∷ s .greatest ∷ []

@@ -9,7 +9,7 @@ use Rattle.bits.specs.Searches.{anyBelow}
 use Rattle.model.specs.Refusals.{Row, refuses, refusedAs, firstRefusal, unlessRefused}
 use Rattle.model.specs.Card.{Code, cardRefusal, codeOf}
 use Rattle.model.specs.Words.{wordBits, wordLength}
-use Rattle.model.specs.Reading.{seen, ruleNamed, rowsOf, allowed, residual, nearest, figuresOf}
+use Rattle.model.specs.Reading.{seen, ruleNamed, rowsOf, allowed, residual, nearest, readingValues}
 use Rattle.model.specs.declared.Reading.{Reading}
 use Rattle.model.specs.declared.ReadAnswer.{ReadAnswer}
 use Rattle.model.specs.declared.ReadAnswer.the-variants.{At, Refused}
@@ -48,9 +48,9 @@ readStatus (At r) = 0
 readStatus (Refused refusal) = refusal
 
 unfoldable pub readValues : ReadAnswer → List ℕ
-readValues (At r) = figuresOf r
+readValues (At r) = readingValues r
 readValues (Refused refusal) = []
 
 -- the values of a word that is read, by their meaning
-unfoldable pub readFigures : (card received : List ℕ) → List ℕ
-readFigures card received = figuresOf (readingOf (codeOf card) received)
+unfoldable pub readExpected : (card received : List ℕ) → List ℕ
+readExpected card received = readingValues (readingOf (codeOf card) received)

@@ -45,16 +45,16 @@ unfoldable pub chunkRefusal : Code → (x : ℕ → ℕ) → ℕ
 chunkRefusal C x = firstRefusal (refuses 10 (not (ltb (first (withinRadius C x) (2 ^ C .k)) (2 ^ C .k))) ∷ [])
 
 -- the values of a chunk that is read: the codeword's number, and in how many bits the two differ
-unfoldable pub chunkFigures : Code → (x : ℕ → ℕ) → List ℕ
-chunkFigures C x = let p : ℕ = first (withinRadius C x) (2 ^ C .k) in p ∷ chunkDistance C x p ∷ []
+unfoldable pub chunkExpected : Code → (x : ℕ → ℕ) → List ℕ
+chunkExpected C x = let p : ℕ = first (withinRadius C x) (2 ^ C .k) in p ∷ chunkDistance C x p ∷ []
 
 -- what a chunk reads as, in these words: its status, 10 where no codeword is near enough, and its values
 unfoldable pub chunkStatus : Chunk → ℕ
-chunkStatus (Codeword number unlike) = 0
+chunkStatus (Codeword number differing) = 0
 chunkStatus Unreadable = 10
 
 unfoldable pub chunkValues : Chunk → List ℕ
-chunkValues (Codeword number unlike) = number ∷ unlike ∷ []
+chunkValues (Codeword number differing) = number ∷ differing ∷ []
 chunkValues Unreadable = []
 
 -- whether a chunk reads as no codeword, and the number of the codeword that any other reads as (0 of an unreadable one, which means
@@ -213,5 +213,5 @@ bitsValue (Differing count) = count
 bitsValue NotRead = notRead
 
 -- the values of a reading: position, residual, rule, and the bits that chunks 1 and 2 needed
-abbrev pub figuresOf : Reading → List ℕ
-figuresOf r = r .position ∷ r .residual ∷ r .rule ∷ bitsValue (r .chunk1) ∷ bitsValue (r .chunk2) ∷ []
+abbrev pub readingValues : Reading → List ℕ
+readingValues r = r .position ∷ r .residual ∷ r .rule ∷ bitsValue (r .chunk1) ∷ bitsValue (r .chunk2) ∷ []

@@ -83,13 +83,13 @@ unfoldable pub coefficient : (m : ℕ) (y : ℕ → ℕ) (S : ℕ) → ℕ
 coefficient m y S = cond (ltb (classes m S) (2 * votesForOne m S y)) 1 0
 
 -- step 2 (b), the round of size s: the products of s variables that were voted for are taken off y, modulo 2
-unfoldable pub round : (m s : ℕ) (y : ℕ → ℕ) (p : ℕ) → ℕ
-round m s y p = (y p + sumOver (setsOf m s) (λ S. coefficient m y S * product S p)) % 2
+unfoldable pub voteRound : (m s : ℕ) (y : ℕ → ℕ) (p : ℕ) → ℕ
+voteRound m s y p = (y p + sumOver (setsOf m s) (λ S. coefficient m y S * product S p)) % 2
 
 -- what is left of y after the first j rounds; they go from size r down to size 0
 unfoldable pub afterRounds : (r m : ℕ) (y : ℕ → ℕ) (j : ℕ) → ℕ → ℕ
 afterRounds r m y zero = y
-afterRounds r m y (suc j) = round m (r - j) (afterRounds r m y j)
+afterRounds r m y (suc j) = voteRound m (r - j) (afterRounds r m y j)
 
 -- the coefficient of S that the votes find, in the round of its size
 unfoldable pub voted : (r m : ℕ) (y : ℕ → ℕ) (S : ℕ) → ℕ

@@ -25,13 +25,13 @@ voteAnswer r m chunk =
 
 -- an answer's status, 0 or the refusal's number; and its values, none of a refusal
 unfoldable pub voteStatus : VoteAnswer → ℕ
-voteStatus (Voted number unlike) = 0
+voteStatus (Voted number differing) = 0
 voteStatus (Refused refusal) = refusal
 
 unfoldable pub voteValues : VoteAnswer → List ℕ
-voteValues (Voted number unlike) = number ∷ unlike ∷ []
+voteValues (Voted number differing) = number ∷ differing ∷ []
 voteValues (Refused refusal) = []
 
 -- the values of a chunk that is read by voting, by their meaning: the codeword's number, and in how many bits the two differ
-unfoldable pub voteFigures : (r m chunk : ℕ) → List ℕ
-voteFigures r m chunk = votedNumber r m (bit chunk) ∷ votedDistance r m (bit chunk) ∷ []
+unfoldable pub voteExpected : (r m chunk : ℕ) → List ℕ
+voteExpected r m chunk = votedNumber r m (bit chunk) ∷ votedDistance r m (bit chunk) ∷ []

@@ -5,7 +5,7 @@
 // What a code chunk reads as: the number p of the codeword c(p) within the radius, and in how many places the two differ. Of a chunk with
 // lost bits, the codeword for which 2 × wrong + lost is below D, and how many places are wrong.
 pub enum Chunk {
-    Codeword { number: u32, unlike: u32 },
+    Codeword { number: u32, differing: u32 },
     Unreadable,
 }
 
@@ -71,7 +71,7 @@ pub enum ReadAnswer {
 }
 
 // What an arriving level is told as: a lost bit, or a level. Document 01 names the form: an enum with Level(f32) and Lost.
-pub enum Told {
+pub enum ReceivedLevel {
     Lost,
     Level(f32),
 }
@@ -111,6 +111,6 @@ pub struct MadeCard {
 
 // The answer to a vote on a chunk: the codeword's number, and in how many bits the two differ.
 pub enum VoteAnswer {
-    Voted { number: u32, unlike: u32 },
+    Voted { number: u32, differing: u32 },
     Refused(u32),
 }

@@ -10,12 +10,12 @@ use Rattle.bits.specs.Sums.{sumBelow, distance, marked}
 use Rattle.bits.specs.Places.{place, cut}
 use Rattle.bits.proofs.Numbers.{lt-or-le}
 use Rattle.bits.proofs.Distance.{distance-ext}
-use Rattle.bits.proofs.Heard.{heard-ext-left, heard-alike-after}
+use Rattle.bits.proofs.Erasures.{unerased-ext-left, unerased-alike-after}
 use Rattle.bits.proofs.Places.{cut-below, cut-above}
 use Rattle.model.specs.Card.{Code}
 use Rattle.model.specs.Order.{lastCodeword, start}
 use Rattle.model.specs.Words.{wordBits, word}
-use Rattle.model.specs.Levels.{residualHeard}
+use Rattle.model.specs.Levels.{residualUnerased}
 use Rattle.code_theory.specs.Promise.{Sound}
 use Rattle.code_theory.proofs.Promise.{promise}
 use Rattle.code_theory.proofs.Starts.{word-bits-bound}
@@ -23,7 +23,7 @@ use Rattle.position_theory.proofs.Blocks.{word-at-start, word-passed}
 use Rattle.position.specs.HoldsWord.{HoldsWord}
 use Rattle.nearest_position.specs.declared.received.ReceivedWord.{ReceivedWord}
 use Rattle.nearest_position.specs.declared.scan.Scan.{Scan}
-use Rattle.nearest_position.specs.Received.{unlikeIn, NothingSpare}
+use Rattle.nearest_position.specs.Received.{receivedDistance, NothingSpare}
 use Rattle.nearest_position.specs.Scanned.{Scanned}
 use Rattle.nearest_position.specs.Passing.{stepsTo, passedTo, residualTo, ResidualsAlong, Passes, Searched}
 use Rattle.nearest_position.specs.Way.{positionAt, ResidualsOf, residualIn}
@@ -33,30 +33,30 @@ use Rattle.nearest_position.proofs.Passing.{passed-above}
 
 module _ (C : Code) (sound : Sound C) (x : ReceivedWord) where
   -- at a start the word is the codeword's
-  pub residual-of-start : (p : ℕ) → p ≤ lastCodeword C → residualIn C x (start C p) ≡ unlikeIn (wordBits C) (word C p) x
-  unfolding residualHeard
+  pub residual-of-start : (p : ℕ) → p ≤ lastCodeword C → residualIn C x (start C p) ≡ receivedDistance (wordBits C) (word C p) x
+  unfolding residualUnerased
   residual-of-start p h =
-      heard-ext-left (marked (place (x .heard))) (wordBits C) (place (x .bits)) (λ q b. word-at-start C (promise C sound) p h q)
+      unerased-ext-left (marked (place (x .unerased))) (wordBits C) (place (x .bits)) (λ q b. word-at-start C (promise C sound) p h q)
 
   -- the positions of a block are those of the way from its codeword to the one after it
   pub residuals-of-block : (i next : ℕ) → next ≡ i + 1 → i < lastCodeword C → ResidualsOf C x i next (residualIn C x)
-  unfolding residualHeard passedTo ResidualsOf
+  unfolding residualUnerased passedTo ResidualsOf
   residuals-of-block i next after inside q room =
       rw after
-      (heard-ext-left (marked (place (x .heard))) (wordBits C) (place (x .bits)) (λ p b. word-passed C (promise C sound) i inside q p room b))
+      (unerased-ext-left (marked (place (x .unerased))) (wordBits C) (place (x .bits)) (λ p b. word-passed C (promise C sound) i inside q p room b))
 
 -- ---- in arrays
 
 -- a word with zeros after it differs from the received one where the word itself does
-pub unlike-held : (C : Code) → Sound C → (x : ReceivedWord) → NothingSpare C x → (held w : ℕ → ℕ)
-    → ((p : ℕ) → held p ≡ cut (wordBits C) w p) → unlikeIn 320 held x ≡ unlikeIn (wordBits C) w x
+pub distance-held : (C : Code) → Sound C → (x : ReceivedWord) → NothingSpare C x → (held w : ℕ → ℕ)
+    → ((p : ℕ) → held p ≡ cut (wordBits C) w p) → receivedDistance 320 held x ≡ receivedDistance (wordBits C) w x
 unfolding NothingSpare
-unlike-held C sound x spare held w holds =
+distance-held C sound x spare held w holds =
     let d = wordBits C in
-    let heard = marked (place (x .heard)) in
-    heard-alike-after heard d 320 held (place (x .bits)) (word-bits-bound C sound)
+    let unerased = marked (place (x .unerased)) in
+    unerased-alike-after unerased d 320 held (place (x .bits)) (word-bits-bound C sound)
     (λ p past _ known. holds p ∙ cut-above d w p past ∙ sym (spare p past known))
-    ∙ heard-ext-left heard d (place (x .bits)) (λ p b. holds p ∙ cut-below d w p b)
+    ∙ unerased-ext-left unerased d (place (x .bits)) (λ p b. holds p ∙ cut-below d w p b)
 
 module _ (C : Code) (sound : Sound C) (i next : ℕ) (u v : List ℕ) (old : HoldsWord C (word C i) u) (new : HoldsWord C (word C next) v) where
   -- the steps made below a place
@@ -86,8 +86,8 @@ module _ (C : Code) (sound : Sound C) (i next : ℕ) (u v : List ℕ) (old : Hol
 
   module _ (x : ReceivedWord) (spare : NothingSpare C x) where
     residual-at-place : (q : ℕ) → q ≤ wordBits C
-        → residualTo u v x q ≡ unlikeIn (wordBits C) (passedTo (word C i) (word C next) q) x
-    residual-at-place q room = unlike-held C sound x spare _ _ (word-at-place q room)
+        → residualTo u v x q ≡ receivedDistance (wordBits C) (passedTo (word C i) (word C next) q) x
+    residual-at-place q room = distance-held C sound x spare _ _ (word-at-place q room)
 
     residuals-along : (f : ℕ → ℕ) → ResidualsOf C x i next f → (at to : ℕ) → at ≤ to → to ≤ wordBits C
         → ResidualsAlong f u v x (positionAt C i next at) at to
@@ -107,7 +107,7 @@ module _ (C : Code) (sound : Sound C) (i next : ℕ) (u v : List ℕ) (old : Hol
       block-searched f residuals = search .scanned f (rw is (residuals-along f residuals at to forward room))
 
     -- a search that stands at the start of the way, and goes on through the places below `to`
-    module _ (s : Scan) (at-start : s .position ≡ start C i) (here : s .residual ≡ unlikeIn (wordBits C) (word C i) x) where
+    module _ (s : Scan) (at-start : s .position ≡ start C i) (here : s .residual ≡ receivedDistance (wordBits C) (word C i) x) where
       stands : s .position ≡ positionAt C i next 0
       unfolding distance sumBelow
       stands = at-start ∙ omega arith
@@ -115,7 +115,7 @@ module _ (C : Code) (sound : Sound C) (i next : ℕ) (u v : List ℕ) (old : Hol
       pub residual-at-start : s .residual ≡ residualTo u v x 0
       residual-at-start =
           here
-          ∙ heard-ext-left (marked (place (x .heard))) (wordBits C) (place (x .bits)) (λ p b. sym (passed-above (word C i) (word C next) 0 p (omega arith)))
+          ∙ unerased-ext-left (marked (place (x .unerased))) (wordBits C) (place (x .bits)) (λ p b. sym (passed-above (word C i) (word C next) 0 p (omega arith)))
           ∙ sym (residual-at-place 0 (omega arith))
 
       module _ (to : ℕ) (room : to ≤ wordBits C) (r : Scan) (passes : Passes u v x 0 to s r) where

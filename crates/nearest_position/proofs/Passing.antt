@@ -9,19 +9,19 @@ use native.Mathlib.Omega.{arith}
 use borrow.Author.Tests.{lt-ltb, le-ltb}
 use lib.Bits.{bitXor}
 use lib.ListN.{getD, replicate, getD-replicate}
-use Rattle.bits.specs.Sums.{unlike, marked}
+use Rattle.bits.specs.Sums.{difference, marked}
 use Rattle.bits.specs.Places.{bit, place}
 use Rattle.bits.proofs.Numbers.{lt-or-le}
 use Rattle.bits.proofs.Binary.{bit-xor}
 use Rattle.bits.proofs.Distance.{distance-suc}
-use Rattle.bits.proofs.Heard.{heard-ext-left, heard-one-place}
+use Rattle.bits.proofs.Erasures.{unerased-ext-left, unerased-one-place}
 use Rattle.bits.proofs.Places.{place-bit}
 use Rattle.position.specs.Spliced.{Spliced}
 use Rattle.nearest_position.specs.declared.received.ReceivedWord.{ReceivedWord}
 use Rattle.nearest_position.specs.declared.scan.Scan.{Scan}
-use Rattle.nearest_position.specs.Received.{unlikeIn}
+use Rattle.nearest_position.specs.Received.{receivedDistance}
 use Rattle.nearest_position.specs.Scanned.{Scanned, beginsAt}
-use Rattle.nearest_position.specs.Passing.{stepsTo, passedTo, unlikeHeard, residualTo, ResidualsAlong, Passes, Searched}
+use Rattle.nearest_position.specs.Passing.{stepsTo, passedTo, differenceUnerased, residualTo, ResidualsAlong, Passes, Searched}
 use Rattle.nearest_position.proofs.Scanning.{scanned-first}
 
 -- where the places below q have been passed, the word below q and from there on
@@ -39,13 +39,13 @@ pub passes-none : (u v : List ℕ) (x : ReceivedWord) (at : ℕ) (s : Scan) → 
 passes-none u v x at s e = record { low = refl; position = refl; residual = e; scanned = λ f along scanned. scanned }
 
 -- bits that are not the same differ by 1
-differs : (u v : List ℕ) (q : ℕ) → (place u q ≡ place v q → ⊥) → unlike (place u q) (place v q) ≡ 1
+differs : (u v : List ℕ) (q : ℕ) → (place u q ≡ place v q → ⊥) → difference (place u q) (place v q) ≡ 1
 differs u v q differ = omega (arith, place-bit u q, place-bit v q)
 
 module _ (u v : List ℕ) (q : ℕ) where
   -- the bit at place q of the exclusive-or of the two bytes that hold it tells whether the two bits differ
   pub joined-bit : (t : ℕ) → ((w : List ℕ) → getD w (q / 8) 0 ≡ bitXor (getD u (q / 8) 0) (getD v (q / 8) 0) → t ≡ place w q)
-      → t ≡ unlike (place u q) (place v q)
+      → t ≡ difference (place u q) (place v q)
   unfolding place
   joined-bit t is =
       let joined = bitXor (getD u (q / 8) 0) (getD v (q / 8) 0) in
@@ -55,15 +55,15 @@ module _ (u v : List ℕ) (q : ℕ) where
       ∙ bit-xor (getD u (q / 8) 0) (getD v (q / 8) 0) (q % 8)
 
   -- one place more
-  step-more : stepsTo u v (q + 1) ≡ stepsTo u v q + unlike (place u q) (place v q)
+  step-more : stepsTo u v (q + 1) ≡ stepsTo u v q + difference (place u q) (place v q)
   step-more = rw (add-one q) (distance-suc q (place u) (place v))
 
 residual-more : (u v : List ℕ) (x : ReceivedWord) (q : ℕ) → q < 320
-    → residualTo u v x (q + 1) + unlikeHeard (place (x .heard) q) (place u q) (place (x .bits) q)
-    ≡ residualTo u v x q + unlikeHeard (place (x .heard) q) (place v q) (place (x .bits) q)
+    → residualTo u v x (q + 1) + differenceUnerased (place (x .unerased) q) (place u q) (place (x .bits) q)
+    ≡ residualTo u v x q + differenceUnerased (place (x .unerased) q) (place v q) (place (x .bits) q)
 residual-more u v x q room =
     rw (← passed-above (place u) (place v) q q (omega arith), ← passed-below (place u) (place v) (q + 1) q (omega arith))
-    (heard-one-place (marked (place (x .heard))) (passedTo (place u) (place v) (q + 1)) (passedTo (place u) (place v) q) (place (x .bits)) 320 q room
+    (unerased-one-place (marked (place (x .unerased))) (passedTo (place u) (place v) (q + 1)) (passedTo (place u) (place v) q) (place (x .bits)) 320 q room
     elsewhere)
   where
     elsewhere : (p : ℕ) → p < 320 → (p ≡ q → ⊥) → passedTo (place u) (place v) (q + 1) p ≡ passedTo (place u) (place v) q p
@@ -78,7 +78,7 @@ module _ (u v : List ℕ) (x : ReceivedWord) (at q : ℕ) (s t : Scan) (from-at 
   pub pass-alike : place u q ≡ place v q → Passes u v x at (q + 1) s t
   unfolding ResidualsAlong
   pass-alike e =
-      let none : unlike (place u q) (place v q) ≡ 0 = rw e (omega arith) in
+      let none : difference (place u q) (place v q) ≡ 0 = rw e (omega arith) in
       let kept : residualTo u v x (q + 1) ≡ residualTo u v x q = omega (arith, rw e at (residual-more u v x q room)) in
       record {
         low = so-far .low;
@@ -90,23 +90,23 @@ module _ (u v : List ℕ) (x : ReceivedWord) (at q : ℕ) (s t : Scan) (from-at 
   -- a place that differs
   module _ (differ : place u q ≡ place v q → ⊥) where
     -- a turn to what was received takes one from the residual, where the bit is heard
-    pub residual-positive : place (x .heard) q ≡ 1 → place (x .bits) q ≡ place v q → 1 ≤ t .residual
-    residual-positive heard e =
-        let alike : unlike (place v q) (place (x .bits) q) ≡ 0 = rw e (omega arith) in
-        let turned : unlike (place u q) (place (x .bits) q) ≡ 1 = rw e (differs u v q differ) in
-        omega (arith, so-far .residual, rw heard at (residual-more u v x q room))
+    pub residual-positive : place (x .unerased) q ≡ 1 → place (x .bits) q ≡ place v q → 1 ≤ t .residual
+    residual-positive unerased e =
+        let alike : difference (place v q) (place (x .bits) q) ≡ 0 = rw e (omega arith) in
+        let differing : difference (place u q) (place (x .bits) q) ≡ 1 = rw e (differs u v q differ) in
+        omega (arith, so-far .residual, rw unerased at (residual-more u v x q room))
 
     -- `next` is the residual after the bit was turned to v's, and r the search one position on with that residual
     pub pass-differing : (next : ℕ)
-        → ((old : ℕ) → old < 2 → unlike old (place v q) ≡ 1
-        → next + unlikeHeard (place (x .heard) q) old (place (x .bits) q) ≡ t .residual + unlikeHeard (place (x .heard) q) (place v q) (place (x .bits) q))
+        → ((old : ℕ) → old < 2 → difference old (place v q) ≡ 1
+        → next + differenceUnerased (place (x .unerased) q) old (place (x .bits) q) ≡ t .residual + differenceUnerased (place (x .unerased) q) (place v q) (place (x .bits) q))
         → (r : Scan) → r .low ≡ t .low → r .position ≡ t .position + 1 → r .residual ≡ next
         → ((f : ℕ → ℕ) → Scanned f t → next ≡ f (t .position + 1) → Scanned f r) → Passes u v x at (q + 1) s r
     unfolding ResidualsAlong
-    pass-differing next turned r low on residual scans =
+    pass-differing next differing r low on residual scans =
         let step : stepsTo u v (q + 1) ≡ stepsTo u v q + 1 = omega (arith, step-more u v q, differs u v q differ) in
         let is-next : next ≡ residualTo u v x (q + 1) =
-        omega (arith, turned (place u q) (place-bit u q) (differs u v q differ), so-far .residual, residual-more u v x q room) in
+        omega (arith, differing (place u q) (place-bit u q) (differs u v q differ), so-far .residual, residual-more u v x q room) in
         record {
           low = low ∙ so-far .low;
           position = omega (arith, so-far .position);
@@ -118,9 +118,9 @@ module _ (u v : List ℕ) (x : ReceivedWord) (at q : ℕ) (s t : Scan) (from-at 
 
 -- the residual of a word w put together of the two at a place is the one there
 module _ (u v w : List ℕ) (at : ℕ) (splice : Spliced u v w at) where
-  pub residual-counted : (x : ReceivedWord) → unlikeIn 320 (place w) x ≡ residualTo u v x at
+  pub residual-counted : (x : ReceivedWord) → receivedDistance 320 (place w) x ≡ residualTo u v x at
   unfolding passedTo
-  residual-counted x = heard-ext-left (marked (place (x .heard))) 320 (place (x .bits)) (λ p b. splice p)
+  residual-counted x = unerased-ext-left (marked (place (x .unerased))) 320 (place (x .bits)) (λ p b. splice p)
 
 -- a search that begins at `low`, where the places below `at` have been passed, and passes those below `to`
 pub searched : (u v : List ℕ) (x : ReceivedWord) (low at to : ℕ) → at ≤ to → (s r : Scan) → s ≡ beginsAt low (residualTo u v x at)

@@ -6,11 +6,11 @@ use mathlib.Core.Bool.{cond}
 use mathlib.Core.List.{List}
 use Prim.Native.Nat.{ℕ, _+_, _≤_}
 use lib.Dec.{ltb, eqb}
-use Rattle.bits.specs.Sums.{unlike, distance}
+use Rattle.bits.specs.Sums.{difference, distance}
 use Rattle.bits.specs.Places.{place}
 use Rattle.nearest_position.specs.declared.received.ReceivedWord.{ReceivedWord}
 use Rattle.nearest_position.specs.declared.scan.Scan.{Scan}
-use Rattle.nearest_position.specs.Received.{unlikeIn}
+use Rattle.nearest_position.specs.Received.{receivedDistance}
 use Rattle.nearest_position.specs.Scanned.{Scanned}
 
 -- how many steps are made below place q
@@ -23,11 +23,11 @@ passedTo u v q p = cond (ltb p q) (v p) (u p)
 
 -- in how many of the bits that are heard it is unlike the received word
 abbrev pub residualTo : (u v : List ℕ) → ReceivedWord → (q : ℕ) → ℕ
-residualTo u v x q = unlikeIn 320 (passedTo (place u) (place v) q) x
+residualTo u v x q = receivedDistance 320 (passedTo (place u) (place v) q) x
 
 -- what one place adds to that: 1 where it is heard and the two bits differ
-abbrev pub unlikeHeard : (heard a b : ℕ) → ℕ
-unlikeHeard heard a b = cond (eqb heard 1) (unlike a b) 0
+abbrev pub differenceUnerased : (unerased a b : ℕ) → ℕ
+differenceUnerased unerased a b = cond (eqb unerased 1) (difference a b) 0
 
 -- f is the residual at each position between two places, for a search that stands at `position` where it has passed those below `at`
 unfoldable pub ResidualsAlong : (f : ℕ → ℕ) (u v : List ℕ) → ReceivedWord → (position at to : ℕ) → Type 0

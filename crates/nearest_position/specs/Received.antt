@@ -3,7 +3,7 @@ use mathlib.Core.Path.{_≡_}
 use mathlib.Core.Bool.{true}
 use mathlib.Core.List.{List}
 use Prim.Native.Nat.{ℕ, _≤_, _<_}
-use Rattle.bits.specs.Sums.{distanceHeard, marked}
+use Rattle.bits.specs.Sums.{distanceUnerased, marked}
 use Rattle.bits.specs.Places.{place}
 use Rattle.model.specs.Card.{Code}
 use Rattle.model.specs.Words.{wordBits}
@@ -13,17 +13,17 @@ use Rattle.position.specs.declared.layout.Layout.{Layout}
 use Rattle.nearest_position.specs.declared.received.ReceivedWord.{ReceivedWord}
 
 -- in how many of the first d bits, of those that are heard, the word w is unlike the received one
-abbrev pub unlikeIn : (d : ℕ) (w : ℕ → ℕ) → ReceivedWord → ℕ
-unlikeIn d w x = distanceHeard (marked (place (x .heard))) d w (place (x .bits))
+abbrev pub receivedDistance : (d : ℕ) (w : ℕ → ℕ) → ReceivedWord → ℕ
+receivedDistance d w x = distanceUnerased (marked (place (x .unerased))) d w (place (x .bits))
 
 -- x holds a plain word, all of which is heard
 pub record PlainWord (received : List ℕ) (x : ReceivedWord) : Type 0 where
   pub bits-held : (p : ℕ) → place (x .bits) p ≡ place received p
-  pub all-heard : (p : ℕ) → p < 320 → place (x .heard) p ≡ 1
+  pub all-unerased : (p : ℕ) → p < 320 → place (x .unerased) p ≡ 1
 
 -- nothing that is heard is set past the word's bits
 unfoldable pub NothingSpare : Code → ReceivedWord → Type 0
-NothingSpare C x = (p : ℕ) → wordBits C ≤ p → marked (place (x .heard)) p ≡ true → place (x .bits) p ≡ 0
+NothingSpare C x = (p : ℕ) → wordBits C ≤ p → marked (place (x .unerased)) p ≡ true → place (x .bits) p ≡ 0
 
 -- a word of a sound code, whose words have this layout
 abbrev pub ReceivedIn : Code → Layout → ReceivedWord → Type 0

@@ -6,9 +6,9 @@ use Rattle.bits.specs.Places.{place}
 use Rattle.model.specs.Card.{Code}
 use Rattle.model.specs.Order.{start}
 use Rattle.model.specs.Words.{wordBits, word}
-use Rattle.model.specs.Levels.{residualHeard}
+use Rattle.model.specs.Levels.{residualUnerased}
 use Rattle.nearest_position.specs.declared.received.ReceivedWord.{ReceivedWord}
-use Rattle.nearest_position.specs.Received.{unlikeIn}
+use Rattle.nearest_position.specs.Received.{receivedDistance}
 use Rattle.nearest_position.specs.Passing.{passedTo}
 
 -- the position at which the places below q have been passed, on the way that begins at r(i)
@@ -18,8 +18,8 @@ positionAt C i next q = start C i + distance q (word C i) (word C next)
 -- f is, at each position of the way, in how many of the bits that are heard the word there is unlike the received one
 unfoldable pub ResidualsOf : Code → ReceivedWord → (i next : ℕ) (f : ℕ → ℕ) → Type 0
 ResidualsOf C x i next f =
-    (q : ℕ) → q ≤ wordBits C → f (positionAt C i next q) ≡ unlikeIn (wordBits C) (passedTo (word C i) (word C next) q) x
+    (q : ℕ) → q ≤ wordBits C → f (positionAt C i next q) ≡ receivedDistance (wordBits C) (passedTo (word C i) (word C next) q) x
 
 -- on a track with two ends: the residual of a position against the received word
 abbrev pub residualIn : Code → ReceivedWord → (position : ℕ) → ℕ
-residualIn C x = residualHeard C (marked (place (x .heard))) (place (x .bits))
+residualIn C x = residualUnerased C (marked (place (x .unerased))) (place (x .bits))

@@ -6,7 +6,7 @@ ghost use Rattle.model.specs.Decoded.{meaning};
 ghost use Rattle.model.specs.Order.{lastCodeword, start};
 ghost use Rattle.model.specs.Words.{wordBits, word};
 ghost use Rattle.code_theory.specs.Promise.{Sound};
-ghost use Rattle.nearest_position.specs.Received.{unlikeIn, NothingSpare};
+ghost use Rattle.nearest_position.specs.Received.{receivedDistance, NothingSpare};
 ghost use Rattle.nearest_position.specs.Scanned.{Scanned};
 ghost use Rattle.nearest_position.specs.Way.{positionAt, ResidualsOf};
 use super::received::ReceivedWord;
@@ -38,7 +38,7 @@ pub fn search_block(
 // The search on from the block's start, at which it stands, through the places of separator 1.
 pub fn search_after_start(code: DecodedCode, x: ReceivedWord, i: u32, next: u32, s: Scan) -> Scan
     requires { ⌜ Sound (meaning code) × NothingSpare (meaning code) x × (i ≤ lastCodeword (meaning code)) ⌝ }
-    requires { ⌜ (s .position ≡ start (meaning code) i) × (s .residual ≡ unlikeIn (wordBits (meaning code)) (word (meaning code) i) x) ⌝ }
+    requires { ⌜ (s .position ≡ start (meaning code) i) × (s .residual ≡ receivedDistance (wordBits (meaning code)) (word (meaning code) i) x) ⌝ }
     ensures { λ r. ⌜ (r .low ≡ s .low) × (r .position ≡ positionAt (meaning code) i next (code .distance)) ⌝ }
     ensures { λ r. ⌜ ((f : ℕ → ℕ) → ResidualsOf (meaning code) x i next f → Scanned f s → Scanned f r) ⌝ }
 {

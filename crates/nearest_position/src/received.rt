@@ -7,7 +7,7 @@ ghost use Rattle.nearest_position.specs.Received.{PlainWord};
 // The bits, with zeros after them, and a 1 for each place that is heard.
 pub struct ReceivedWord {
     pub bits: [u8; 40],
-    pub heard: [u8; 40],
+    pub unerased: [u8; 40],
 }
 
 // A plain word: its bytes, with zeros after them, and all of it is heard.
@@ -17,7 +17,7 @@ pub fn plain(word: &[u8]) -> ReceivedWord
 {
     let mut x = ReceivedWord {
         bits: [0u8; 40],
-        heard: [255; 40],
+        unerased: [255; 40],
     };
     let mut j: usize = 0;
     while j < word.len() {

@@ -2,11 +2,11 @@
 // are passed one after the other, the residual going up or down by one where the bit is heard. It knows arrays and numbers alone, no code.
 ghost use mathlib.Core.Path.{_≡_};
 ghost use Prim.Native.Nat.{ℕ, _+_, _≤_, _<_};
-ghost use Rattle.bits.specs.Sums.{unlike};
+ghost use Rattle.bits.specs.Sums.{difference};
 ghost use Rattle.bits.specs.Places.{place};
-ghost use Rattle.nearest_position.specs.Received.{unlikeIn};
+ghost use Rattle.nearest_position.specs.Received.{receivedDistance};
 ghost use Rattle.nearest_position.specs.Scanned.{Scanned, beginsAt};
-ghost use Rattle.nearest_position.specs.Passing.{unlikeHeard, residualTo, Passes, Searched};
+ghost use Rattle.nearest_position.specs.Passing.{differenceUnerased, residualTo, Passes, Searched};
 use super::received::ReceivedWord;
 use super::residual;
 use position::places;
@@ -24,28 +24,28 @@ pub struct Scan {
 
 // A search that stands at its first position, whose word is `w`.
 pub fn begin(w: [u8; 40], x: ReceivedWord, low: u32) -> Scan
-    ensures { λ r. ⌜ r ≡ beginsAt low (unlikeIn 320 (place w) x) ⌝ }
+    ensures { λ r. ⌜ r ≡ beginsAt low (receivedDistance 320 (place w) x) ⌝ }
 {
-    let unlike = residual::heard_bits_unlike(w, x);
+    let differing = residual::unerased_distance(w, x);
     Scan {
         low,
         position: low,
-        residual: unlike,
+        residual: differing,
         best: low,
-        least: unlike,
+        least: differing,
     }
 }
 
 // The residual after a bit was turned to `new`: one less if that is what was received, one more if not, and as it was if the bit is lost.
 // A word has at most 320 bits, so a residual is at most that.
-fn next_residual(residual: u32, new: u32, received: u32, heard: u32) -> u32
-    requires { ⌜ (residual ≤ 320) × (new < 2) × (received < 2) × (heard < 2) × (heard ≡ 1 → received ≡ new → 1 ≤ residual) ⌝ }
-    ensures { λ r. ⌜ ((old : ℕ) → old < 2 → unlike old new ≡ 1 → r + unlikeHeard heard old received ≡ residual + unlikeHeard heard new received) ⌝ }
+fn next_residual(residual: u32, new: u32, received: u32, unerased: u32) -> u32
+    requires { ⌜ (residual ≤ 320) × (new < 2) × (received < 2) × (unerased < 2) × (unerased ≡ 1 → received ≡ new → 1 ≤ residual) ⌝ }
+    ensures { λ r. ⌜ ((old : ℕ) → old < 2 → difference old new ≡ 1 → r + differenceUnerased unerased old received ≡ residual + differenceUnerased unerased new received) ⌝ }
 {
     if received == new {
-        residual - heard
+        residual - unerased
     } else {
-        residual + heard
+        residual + unerased
     }
 }
 
@@ -88,7 +88,7 @@ pub fn pass_places(u: [u8; 40], v: [u8; 40], x: ReceivedWord, at: u32, to: u32, 
         if places::bit_of(u[j] ^ v[j], q) != 0 {
             let new = places::bit_of(v[j], q);
             let received = places::bit_of(x.bits[j], q);
-            let known = places::bit_of(x.heard[j], q);
+            let known = places::bit_of(x.unerased[j], q);
             let next = advance(state, next_residual(state.residual, new, received, known));
             state = next;
         }

@@ -39,7 +39,7 @@ fn nearest_before(code: DecodedCode, at: Layout, x: ReceivedWord, p: u32) -> Sca
     ensures { λ r. ⌜ SearchedRange (residualIn (meaning code) x) (range₁ (meaning code) p) r ⌝ }
 {
     let i = p - 1;
-    let start = blocks::block_start(code, i);
+    let start = blocks::start_of_block(code, i);
     let low = start + code.distance + blocks::changed_weight(code, i);
     block::search_block(code, x, i, p, low, at.separator2, at.bits)
 }
@@ -49,7 +49,7 @@ fn nearest_after(code: DecodedCode, at: Layout, x: ReceivedWord, p: u32) -> Scan
     requires { ⌜ ReceivedIn (meaning code) at x × (p < lastCodeword (meaning code)) ⌝ }
     ensures { λ r. ⌜ SearchedRange (residualIn (meaning code) x) (range₂ (meaning code) p) r ⌝ }
 {
-    let low = blocks::block_start(code, p);
+    let low = blocks::start_of_block(code, p);
     block::search_block(code, x, p, p + 1, low, 0, at.chunk2)
 }
 
@@ -61,7 +61,7 @@ fn search_before_start(code: DecodedCode, at: Layout, x: ReceivedWord, p: u32) -
     if p == 0 {
         return scan::begin(words::word_of(code, 0), x, 0);
     }
-    let low = blocks::block_start(code, p) - code.distance;
+    let low = blocks::start_of_block(code, p) - code.distance;
     block::search_block(code, x, p - 1, p, low, at.separator3, at.bits)
 }
 

@@ -22,19 +22,19 @@ use Rattle.position.specs.Spliced.{Spliced}
 -- ---- bytes
 
 module _ (q : ℕ) where
-  mixed-is : (x y : ℕ) → y / 2 ^ q * 2 ^ q + x % 2 ^ q ≡ bitXor (y / 2 ^ q * 2 ^ q) (x % 2 ^ q)
-  mixed-is x y = sym (xor-shifted (y / 2 ^ q) q (x % 2 ^ q) (mod-lt x (pow-pos q)))
+  spliced-byte-is : (x y : ℕ) → y / 2 ^ q * 2 ^ q + x % 2 ^ q ≡ bitXor (y / 2 ^ q * 2 ^ q) (x % 2 ^ q)
+  spliced-byte-is x y = sym (xor-shifted (y / 2 ^ q) q (x % 2 ^ q) (mod-lt x (pow-pos q)))
 
-  pub mixed-bits : (x y p : ℕ) → bit (y / 2 ^ q * 2 ^ q + x % 2 ^ q) p ≡ cond (ltb p q) (bit x p) (bit y p)
-  mixed-bits x y p =
+  pub spliced-byte-bits : (x y p : ℕ) → bit (y / 2 ^ q * 2 ^ q + x % 2 ^ q) p ≡ cond (ltb p q) (bit x p) (bit y p)
+  spliced-byte-bits x y p =
       ⊎-elim
       (λ (b : p < q).
-      rw (mixed-is x y, bit-xor (y / 2 ^ q * 2 ^ q) (x % 2 ^ q) p, moved-below q (y / 2 ^ q) p b, remainder-kept q x p b, lt-ltb p q b)
+      rw (spliced-byte-is x y, bit-xor (y / 2 ^ q * 2 ^ q) (x % 2 ^ q) p, moved-below q (y / 2 ^ q) p b, remainder-kept q x p b, lt-ltb p q b)
       (omega arith))
       (λ (b : q ≤ p).
       let rest = le-dest b in
       rw (
-        mixed-is x y,
+        spliced-byte-is x y,
         bit-xor (y / 2 ^ q * 2 ^ q) (x % 2 ^ q) p,
         remainder-above q x p b,
         le-ltb p q b,
@@ -44,8 +44,8 @@ module _ (q : ℕ) where
       ) (omega arith))
       (lt-or-le p q)
 
-  pub mixed-fits : (x y : ℕ) → q ≤ 8 → y < 256 → y / 2 ^ q * 2 ^ q + x % 2 ^ q < 256
-  mixed-fits x y h hy =
+  pub spliced-byte-fits : (x y : ℕ) → q ≤ 8 → y < 256 → y / 2 ^ q * 2 ^ q + x % 2 ^ q < 256
+  spliced-byte-fits x y h hy =
       let rest = le-dest h in
       let eight : 8 ≡ rest .0 + q = omega arith in
       let above : y / 2 ^ q < 2 ^ rest .0 = shr-lt (rest .0) q (rw (← eight) hy) in

@@ -10,7 +10,7 @@ use Rattle.bits.proofs.Places.{cut-above}
 use Rattle.model.specs.Card.{Code}
 use Rattle.model.specs.Order.{codeword}
 use Rattle.model.specs.Words.{word}
-use Rattle.position_theory.proofs.Words.{word-separator₁, word-chunk₁, word-separator₂, word-chunk₂, word-separator₃}
+use Rattle.position_theory.proofs.WordChunkLaws.{word-separator₁, word-chunk₁, word-separator₂, word-chunk₂, word-separator₃}
 use Rattle.position.specs.FiveChunks.{BitsFrom, FiveChunks}
 use Rattle.position.proofs.ChunkByChunk.{chunk-appended}
 

@@ -85,7 +85,7 @@ fn start_by(code: DecodedCode, weights: [u32; 12], i: u32) -> u32
 }
 
 // The start of block i.
-pub fn block_start(code: DecodedCode, i: u32) -> u32
+pub fn start_of_block(code: DecodedCode, i: u32) -> u32
     requires { ⌜ Sound (meaning code) × (i ≤ lastCodeword (meaning code)) ⌝ }
     ensures { λ r. ⌜ r ≡ start (meaning code) i ⌝ }
 {
@@ -107,7 +107,7 @@ pub fn last_position(code: DecodedCode) -> u32
     requires { ⌜ Sound (meaning code) ⌝ }
     ensures { λ r. ⌜ r ≡ lastPosition (meaning code) ⌝ }
 {
-    block_start(code, last_codeword(code))
+    start_of_block(code, last_codeword(code))
 }
 
 // The block of a position, by binary search: the last one that starts at or before it.

@@ -6,7 +6,7 @@ ghost use Rattle.bits.specs.Places.{bit, place};
 use super::places;
 
 // In how many bits two bytes differ.
-fn byte_unlike(x: u8, y: u8) -> u32
+fn byte_distance(x: u8, y: u8) -> u32
     ensures { λ r. ⌜ (r ≡ distance 8 (bit x) (bit y)) × (r ≤ 8) ⌝ }
 {
     u32::count_ones((x ^ y) as u32)
@@ -20,7 +20,7 @@ pub fn place_after(u: [u8; 40], v: [u8; 40], m: u32) -> u32
     let mut passed: u32 = 0;
     let mut j: usize = 0;
     'bytes: while j < 40 {
-        let more = passed + byte_unlike(u[j], v[j]);
+        let more = passed + byte_distance(u[j], v[j]);
         if m < more {
             break 'bytes;
         }

@@ -8,7 +8,7 @@ ghost use Rattle.position.specs.Spliced.{Spliced};
 use bit_arithmetic::powers;
 
 // The bits of `low` below place q, and those of `high` from there on.
-fn mixed(low: u8, high: u8, q: u32) -> u8
+fn spliced_byte(low: u8, high: u8, q: u32) -> u8
     requires { ⌜ q ≤ 8 ⌝ }
     ensures { λ r. ⌜ ((p : ℕ) → p < 8 → bit r p ≡ cond (ltb p q) (bit low p) (bit high p)) ⌝ }
 {
@@ -29,7 +29,7 @@ pub fn spliced(u: [u8; 40], v: [u8; 40], at: u32) -> [u8; 40]
         j += 1;
     }
     if at % 8 != 0 {
-        word[whole] = mixed(v[whole], u[whole], at % 8);
+        word[whole] = spliced_byte(v[whole], u[whole], at % 8);
     }
     word
 }

@@ -108,7 +108,7 @@ pub fn word_at(code: DecodedCode, position: u32) -> [u8; 40]
     ensures { λ r. ⌜ HoldsWord (meaning code) (wordAt (meaning code) position) r ⌝ }
 {
     let i = blocks::block_of(code, position);
-    word_in_block(code, i, i + 1, position - blocks::block_start(code, i))
+    word_in_block(code, i, i + 1, position - blocks::start_of_block(code, i))
 }
 
 // Writes the word of a position to the lent bytes.

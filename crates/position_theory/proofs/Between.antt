@@ -6,7 +6,7 @@ use mathlib.Core.Path.{_≡_, refl, _∙_, sym}
 use mathlib.Core.Logic.{_⊎_, inl, inr, ⊎-elim}
 use Prim.Native.Nat.{ℕ, zero, suc, _+_, _%_, _≤_, _<_}
 use native.Mathlib.Omega.{arith}
-use Rattle.bits.specs.Sums.{distance, unlike}
+use Rattle.bits.specs.Sums.{distance, difference}
 use Rattle.bits.specs.Walk.{walk}
 use Rattle.bits.proofs.Numbers.{lt-or-le}
 use Rattle.bits.proofs.Distance.{distance-ext, distance-split, distance-everywhere, distance-through}
@@ -15,13 +15,13 @@ use Rattle.model.specs.Card.{Code}
 use Rattle.model.specs.Order.{lastCodeword}
 use Rattle.model.specs.Words.{wordBits, chunkSize, placesBefore, chunkOf, word}
 use Rattle.code_theory.specs.LeastDistance.{codewordDistance}
-use Rattle.position_theory.proofs.Words.{content, word-chunk, word-bit, chunk-ends, word-ends, distance-none}
+use Rattle.position_theory.proofs.WordChunkLaws.{content, word-chunk, word-bit, chunk-ends, word-ends, distance-none}
 
 -- i and j are numbers of codewords, one even and one odd, whose codewords differ in A places
 pub record Next (C : Code) (i j A : ℕ) : Type 0 where
   pub from-codeword : i ≤ lastCodeword C
   pub to-codeword : j ≤ lastCodeword C
-  pub parities : unlike (i % 2) (j % 2) ≡ 1
+  pub parities : difference (i % 2) (j % 2) ≡ 1
   pub codewords : codewordDistance C i j ≡ A
 
 -- the steps from w(i) to w(j) before chunk c, and in all

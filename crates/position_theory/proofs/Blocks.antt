@@ -18,7 +18,7 @@ use Rattle.model.specs.Card.{Code}
 use Rattle.model.specs.Order.{lastCodeword, changedWeight, blockLength, start, lastPosition}
 use Rattle.model.specs.Words.{wordBits, chunkSize, placesBefore, word, blockOf, wordAt}
 use Rattle.code_theory.specs.Promise.{ChunkPromise}
-use Rattle.position_theory.proofs.Words.{word-bit}
+use Rattle.position_theory.proofs.WordChunkLaws.{word-bit}
 use Rattle.position_theory.proofs.Between.{Next, apart-before, words-apart}
 use Rattle.position_theory.proofs.Ways.{Way, way-steps, way-passed}
 
@@ -111,8 +111,8 @@ module _ (C : Code) (promise : ChunkPromise C) where
       block-is C i _ (omega arith) (omega arith) (λ j l b. omega (arith, starts-rise i j l b))
 
   -- the block of r(i) is block i, of the last position too
-  pub block-start : (i : ℕ) → i ≤ lastCodeword C → blockOf C (start C i) ≡ i
-  block-start i h = block-is C i _ h (omega arith) (λ j l b. omega (arith, starts-rise i j l b, promise .D-pos))
+  pub start-of-block : (i : ℕ) → i ≤ lastCodeword C → blockOf C (start C i) ≡ i
+  start-of-block i h = block-is C i _ h (omega arith) (λ j l b. omega (arith, starts-rise i j l b, promise .D-pos))
 
   pub block-low : (position : ℕ) → start C (blockOf C position) ≤ position
   unfolding blockOf
@@ -187,7 +187,7 @@ module _ (C : Code) (promise : ChunkPromise C) where
   pub word-at-start : (i : ℕ) → i ≤ lastCodeword C → (p : ℕ) → wordAt C (start C i) p ≡ word C i p
   unfolding wordAt
   word-at-start i h p =
-      rw (block-start i h, sub-self (start C i)) (walk-none (word C i) (word C (i + 1)) p)
+      rw (start-of-block i h, sub-self (start C i)) (walk-none (word C i) (word C (i + 1)) p)
 
   -- the word m steps into block i, its end included, is the walk of m steps from w(i) to w(i+1)
   pub word-in-block : (i m : ℕ) → i < lastCodeword C → m ≤ blockLength C i

@@ -7,30 +7,30 @@ use mathlib.Core.Bool.{Bool, false}
 use mathlib.Core.List.{List}
 use Prim.Native.Nat.{ℕ, _+_, _≤_, _<_}
 use native.Mathlib.Omega.{arith}
-use Rattle.bits.specs.Sums.{lostBelow, everywhere}
+use Rattle.bits.specs.Sums.{erasedBelow, everywhere}
 use Rattle.bits.specs.Places.{place}
 use Rattle.bits.proofs.Distance.{distance-ext-left}
-use Rattle.bits.proofs.Heard.{heard-ext-left, none-lost}
+use Rattle.bits.proofs.Erasures.{unerased-ext-left, none-erased}
 use Rattle.bits.proofs.Places.{place-bit}
 use Rattle.model.specs.Card.{Code}
 use Rattle.model.specs.Order.{lastCodeword, blockLength, start, lastPosition}
 use Rattle.model.specs.Words.{wordBits, chunkOf, wordAt, wordBytes, divided}
 use Rattle.model.specs.Reading.{Seen, seen, twoEnds, residual}
-use Rattle.model.specs.Levels.{residualHeard}
+use Rattle.model.specs.Levels.{residualUnerased}
 use Rattle.model.specs.ReadWord.{readWord}
 use Rattle.model.specs.declared.ReadAnswer.{ReadAnswer}
 use Rattle.model.specs.declared.ReadAnswer.the-variants.{At, Refused}
 use Rattle.code_theory.specs.Promise.{ChunkPromise}
-use Rattle.position_theory.specs.Damage.{turnedIn, wrongIn, ChunkBelowD, ChunksBelowD, ChunksWithin}
-use Rattle.position_theory.specs.Damage.{WithinRadius, turned, Near, residualOf, UndividedWithinRadius}
-use Rattle.position_theory.proofs.Words.{chunk-fits, five-distance}
+use Rattle.position_theory.specs.Damage.{damagedIn, wrongIn, ChunkBelowD, ChunksBelowD, ChunksWithin}
+use Rattle.position_theory.specs.Damage.{WithinRadius, damaged, Near, residualOf, UndividedWithinRadius}
+use Rattle.position_theory.proofs.WordChunkLaws.{chunk-fits, five-distance}
 use Rattle.position_theory.proofs.WordBytes.{place-of-word, readingOfSeen, read-if-whole}
 use Rattle.position_theory.proofs.Between.{WholeAt}
 use Rattle.position_theory.proofs.Ways.{Way}
 use Rattle.position_theory.proofs.Blocks.{block-way, on-the-way}
 use Rattle.position_theory.proofs.WhereDivided.{undivided-if-whole}
 use Rattle.position_theory.proofs.TrueAllowed.{Allows, true-allowed}
-use Rattle.position_theory.proofs.Telling.{Sees, whole-tell}
+use Rattle.position_theory.proofs.WholeChunks.{Sees, whole-chunks-read}
 use Rattle.position_theory.proofs.PlainSeen.{plain-sees, within-radius-below, plain-residual}
 use Rattle.position_theory.proofs.Ranges.{counted-residuals}
 use Rattle.position_theory.proofs.RuleReads.{reads-in-code}
@@ -39,12 +39,12 @@ use Rattle.position_theory.proofs.Allowed.{allowed-isometric}
 use Rattle.position_theory.proofs.Nearest.{answer-near}
 
 -- each chunk of the position's word that is not divided has 2 × wrong + lost below D; which is so where each of the five has
-abbrev pub UndividedBelowD : Code → (heard : ℕ → Bool) (position : ℕ) (u x : ℕ → ℕ) → Type 0
-UndividedBelowD C heard position u x = (c : ℕ) → c < 5 → divided C position c ≡ false → ChunkBelowD C heard u x c
+abbrev pub UndividedBelowD : Code → (unerased : ℕ → Bool) (position : ℕ) (u x : ℕ → ℕ) → Type 0
+UndividedBelowD C unerased position u x = (c : ℕ) → c < 5 → divided C position c ≡ false → ChunkBelowD C unerased u x c
 
-pub all-below : (C : Code) (heard : ℕ → Bool) (position : ℕ) (u x : ℕ → ℕ) → ChunksBelowD C heard u x → UndividedBelowD C heard position u x
+pub all-below : (C : Code) (unerased : ℕ → Bool) (position : ℕ) (u x : ℕ → ℕ) → ChunksBelowD C unerased u x → UndividedBelowD C unerased position u x
 unfolding ChunksBelowD
-all-below C heard position u x below c b _ = below c b
+all-below C unerased position u x below c b _ = below c b
 
 -- likewise a word within the radius in every chunk is within it in those that are not divided (limits are compared as numbers, so that a
 -- claim of a wider one is refused by a counterexample)
@@ -55,48 +55,48 @@ all-within C position received d =
 
 module _ (C : Code) where
   -- the bits turned, or wrong, in a chunk go by the word's places alone
-  pub turned-in-ext : {u u′ : ℕ → ℕ} (x : ℕ → ℕ) → ((p : ℕ) → p < wordBits C → u p ≡ u′ p) → (c : ℕ) → c < 5
-      → turnedIn C c u x ≡ turnedIn C c u′ x
-  unfolding turnedIn
-  turned-in-ext x same c b = distance-ext-left _ (chunkOf C c x) (λ p l. same _ (omega (arith, chunk-fits C c b)))
+  pub damaged-in-ext : {u u′ : ℕ → ℕ} (x : ℕ → ℕ) → ((p : ℕ) → p < wordBits C → u p ≡ u′ p) → (c : ℕ) → c < 5
+      → damagedIn C c u x ≡ damagedIn C c u′ x
+  unfolding damagedIn
+  damaged-in-ext x same c b = distance-ext-left _ (chunkOf C c x) (λ p l. same _ (omega (arith, chunk-fits C c b)))
 
-  wrong-in-ext : (heard : ℕ → Bool) {u u′ : ℕ → ℕ} (x : ℕ → ℕ) → ((p : ℕ) → p < wordBits C → u p ≡ u′ p) → (c : ℕ) → c < 5
-      → wrongIn C heard c u x ≡ wrongIn C heard c u′ x
+  wrong-in-ext : (unerased : ℕ → Bool) {u u′ : ℕ → ℕ} (x : ℕ → ℕ) → ((p : ℕ) → p < wordBits C → u p ≡ u′ p) → (c : ℕ) → c < 5
+      → wrongIn C unerased c u x ≡ wrongIn C unerased c u′ x
   unfolding wrongIn
-  wrong-in-ext heard x same c b =
-      heard-ext-left (chunkOf C c heard) _ (chunkOf C c x) (λ p l. same _ (omega (arith, chunk-fits C c b)))
+  wrong-in-ext unerased x same c b =
+      unerased-ext-left (chunkOf C c unerased) _ (chunkOf C c x) (λ p l. same _ (omega (arith, chunk-fits C c b)))
 
   -- the bits turned in all are the residual of the true position
-  turned-is-residual : (position : ℕ) (received : List ℕ) → turned C position received ≡ residual C (place received) position
-  unfolding turned residual
-  turned-is-residual position received =
+  damaged-is-residual : (position : ℕ) (received : List ℕ) → damaged C position received ≡ residual C (place received) position
+  unfolding damaged residual
+  damaged-is-residual position received =
       sym (five-distance C (place (wordBytes C position)) (place received))
       ∙ distance-ext-left (wordBits C) (place received) (place-of-word C position)
 
-module _ (C : Code) {heard : ℕ → Bool} {x : ℕ → ℕ} {s : Seen} (sees : Sees C heard x s) where
+module _ (C : Code) {unerased : ℕ → Bool} {x : ℕ → ℕ} {s : Seen} (sees : Sees C unerased x s) where
   -- m steps on the way from one codeword's word to the next one's, on any track, where every whole chunk has 2 × wrong + lost below D: what
   -- is seen is one of the four cases
   pub case-on-way : {words : ℕ → ℕ → ℕ} {from to i j A : ℕ} → Way C words from to i j A → (m : ℕ) → from + m ≤ to
       → (u : ℕ → ℕ) → ((p : ℕ) → p < wordBits C → u p ≡ words (from + m) p)
-      → ((c : ℕ) → c < 5 → WholeAt C A m c → ChunkBelowD C heard u x c) → TrueCase (C .D) A i j m s
+      → ((c : ℕ) → c < 5 → WholeAt C A m c → ChunkBelowD C unerased u x c) → TrueCase (C .D) A i j m s
   case-on-way way m room u same within =
       true-case (way .next .parities)
-      (whole-tell C sees (way .next) m
-      (λ c b whole. rw (wrong-in-ext C heard x (λ p l. same p l ∙ way .walked m room p l) c b) at (within c b whole)))
+      (whole-chunks-read C sees (way .next) m
+      (λ c b whole. rw (wrong-in-ext C unerased x (λ p l. same p l ∙ way .walked m room p l) c b) at (within c b whole)))
 
-module _ (C : Code) (promise : ChunkPromise C) {heard : ℕ → Bool} {x : ℕ → ℕ} {s : Seen} (sees : Sees C heard x s) where
+module _ (C : Code) (promise : ChunkPromise C) {unerased : ℕ → Bool} {x : ℕ → ℕ} {s : Seen} (sees : Sees C unerased x s) where
   -- a word with 2 × wrong + lost below D in every chunk that is not divided, so in every whole one, allows the true position; of a divided
   -- chunk nothing is asked
   steps-allowed : (i m : ℕ) (u : ℕ → ℕ) → i < lastCodeword C → m ≤ blockLength C i
       → ((p : ℕ) → p < wordBits C → u p ≡ wordAt C (start C i + m) p)
-      → UndividedBelowD C heard (start C i + m) u x → Allows (twoEnds C) s (start C i + m)
+      → UndividedBelowD C unerased (start C i + m) u x → Allows (twoEnds C) s (start C i + m)
   steps-allowed i m u inside room same within =
       true-allowed C promise s i m inside room
       (case-on-way C sees (block-way C promise i inside) m (omega (arith, promise .start-next i inside)) u same
       (λ c b whole. within c b (undivided-if-whole C promise i m c inside room b whole)))
 
   position-allowed : (position : ℕ) (u : ℕ → ℕ) → position ≤ lastPosition C → ((p : ℕ) → p < wordBits C → u p ≡ wordAt C position p)
-      → UndividedBelowD C heard position u x → Allows (twoEnds C) s position
+      → UndividedBelowD C unerased position u x → Allows (twoEnds C) s position
   position-allowed position u h same within =
       let way = on-the-way C promise position h in
       let there =
@@ -106,15 +106,15 @@ module _ (C : Code) (promise : ChunkPromise C) {heard : ℕ → Bool} {x : ℕ �
 
   -- and the answer is as near to that position as the residuals and the lost bits say
   pub error-of-seen : (position : ℕ) (u : ℕ → ℕ) → position ≤ lastPosition C → ((p : ℕ) → p < wordBits C → u p ≡ wordAt C position p)
-      → UndividedBelowD C heard position u x
-      → let answer = readingOfSeen (twoEnds C) s (residualHeard C heard x) in
-      Near answer position (residualHeard C heard x position + residualOf answer + lostBelow heard (wordBits C))
-      × (residualOf answer ≤ residualHeard C heard x position)
-  unfolding residualHeard
+      → UndividedBelowD C unerased position u x
+      → let answer = readingOfSeen (twoEnds C) s (residualUnerased C unerased x) in
+      Near answer position (residualUnerased C unerased x position + residualOf answer + erasedBelow unerased (wordBits C))
+      × (residualOf answer ≤ residualUnerased C unerased x position)
+  unfolding residualUnerased
   error-of-seen position u h same within =
       answer-near (twoEnds C) (wordBits C) (wordAt C) (lastPosition C) s
-      (allowed-isometric C promise s (reads-in-code C (sees .chunks))) (residualHeard C heard x) (lostBelow heard (wordBits C))
-      (counted-residuals heard (wordBits C) (wordAt C) x) position (position-allowed position u h same within)
+      (allowed-isometric C promise s (reads-in-code C (sees .chunks))) (residualUnerased C unerased x) (erasedBelow unerased (wordBits C))
+      (counted-residuals unerased (wordBits C) (wordAt C) x) position (position-allowed position u h same within)
 
 -- a bound may be loosened
 pub near-loosen : (answer : ReadAnswer) (position e e′ : ℕ) → e ≤ e′ → Near answer position e → Near answer position e′
@@ -137,13 +137,13 @@ module _ (C : Code) (promise : ChunkPromise C) where
 
   -- the first distance of P7, and what the second follows from
   pub error-bounded : (position : ℕ) (received : List ℕ) → position ≤ lastPosition C → UndividedWithinRadius C position received
-      → Near (readWord C received) position (turned C position received + residualOf (readWord C received))
-      × (residualOf (readWord C received) ≤ turned C position received)
+      → Near (readWord C received) position (damaged C position received + residualOf (readWord C received))
+      × (residualOf (readWord C received) ≤ damaged C position received)
   error-bounded position received h d =
       let x = place received in
-      let none = none-lost everywhere (wordBits C) (λ p b. refl) in
+      let none = none-erased everywhere (wordBits C) (λ p b. refl) in
       let (near, least) =
       error-of-seen C promise (plain-sees C promise (place-bit received)) position (place (wordBytes C position)) h
       (place-of-word C position) (plain-below position received d) in
-      rw (read-if-whole C received (d .right-length) (d .spare-zero), turned-is-residual C position received, plain-residual C x)
-      (near-loosen (readingOfSeen (twoEnds C) (seen C x) (residualHeard C everywhere x)) position _ _ (omega (arith, none)) near, least)
+      rw (read-if-whole C received (d .right-length) (d .spare-zero), damaged-is-residual C position received, plain-residual C x)
+      (near-loosen (readingOfSeen (twoEnds C) (seen C x) (residualUnerased C everywhere x)) position _ _ (omega (arith, none)) near, least)

@@ -16,14 +16,14 @@ use Rattle.model.specs.Words.{word}
 use Rattle.model.specs.Reading.{Seen, ruleSeen, numberBy, separatorOf, separatorBy, Rules}
 use Rattle.model.specs.declared.Reading.{Reading}
 use Rattle.model.specs.declared.ReadAnswer.the-variants.{At, Refused}
-use Rattle.code_theory.proofs.Refusals.{numbered, rows-after, refused-if-some, refused-by-card, past-card}
+use Rattle.code_theory.proofs.RefusalRows.{numbered, rows-after, refused-if-some, refused-by-card, past-card}
 use Rattle.position_theory.specs.Damage.{ChunkBelowD}
 use Rattle.position_theory.specs.SeenChunks.{SeesChunks}
 use Rattle.position_theory.specs.Nearest.{refusalOf}
 use Rattle.position_theory.specs.Contradictions.{ParityAgrees, separatorChunk, NamedChunk, unlessContradicted}
 use Rattle.position_theory.proofs.Separators.{of-every-rule}
-use Rattle.position_theory.proofs.Words.{word-chunk}
-use Rattle.position_theory.proofs.Telling.{Tells, Sees, first-tells, second-tells, word-tells}
+use Rattle.position_theory.proofs.WordChunkLaws.{word-chunk}
+use Rattle.position_theory.proofs.WholeChunks.{ChunkReads, Sees, first-reads, second-reads, word-reads}
 use Rattle.position_theory.proofs.RuleReads.{BothRead, InCode, RuleReads, number-of, reads-in-code, rule-reads}
 
 -- ---- whatever is seen of a word, where no row holds
@@ -42,32 +42,32 @@ parity-agrees C R s kinds none =
     }
 
 -- a separator from w(i), with 2 × wrong + lost below D, reads as the parity of i
-pub separator-from : (C : Code) {heard : ℕ → Bool} {x : ℕ → ℕ} {s : Seen} → Sees C heard x s → (i : ℕ) → i ≤ lastCodeword C
-    → ChunkBelowD C heard (word C i) x (separatorChunk (ruleSeen s)) → separatorBy s (ruleSeen s) ≡ i % 2
-unfolding Tells separatorOf
-separator-from C {heard} {x} {s} sees i in-code =
-    let tells : (c : ℕ) → c < 5 → ChunkBelowD C heard (word C i) x c → Tells s c i = λ c five. word-tells C sees c i five in-code in
-    of-every-rule (λ rule. ChunkBelowD C heard (word C i) x (separatorChunk rule) → separatorBy s rule ≡ i % 2)
-    (tells 0 (omega arith)) (tells 0 (omega arith)) (tells 4 (omega arith)) (tells 0 (omega arith)) (s .s₁) (s .s₂) (s .s₃)
+pub separator-from : (C : Code) {unerased : ℕ → Bool} {x : ℕ → ℕ} {s : Seen} → Sees C unerased x s → (i : ℕ) → i ≤ lastCodeword C
+    → ChunkBelowD C unerased (word C i) x (separatorChunk (ruleSeen s)) → separatorBy s (ruleSeen s) ≡ i % 2
+unfolding ChunkReads separatorOf
+separator-from C {unerased} {x} {s} sees i in-code =
+    let reads-as : (c : ℕ) → c < 5 → ChunkBelowD C unerased (word C i) x c → ChunkReads s c i = λ c five. word-reads C sees c i five in-code in
+    of-every-rule (λ rule. ChunkBelowD C unerased (word C i) x (separatorChunk rule) → separatorBy s rule ≡ i % 2)
+    (reads-as 0 (omega arith)) (reads-as 0 (omega arith)) (reads-as 4 (omega arith)) (reads-as 0 (omega arith)) (s .s₁) (s .s₂) (s .s₃)
 
-module _ (C : Code) (R : Rules) {heard : ℕ → Bool} {x : ℕ → ℕ} {s : Seen} (sees : SeesChunks C heard x s) where
+module _ (C : Code) (R : Rules) {unerased : ℕ → Bool} {x : ℕ → ℕ} {s : Seen} (sees : SeesChunks C unerased x s) where
   -- a code chunk from w(j), likewise, reads as codeword j; so where the rule names it and no row holds, j is the number that is read
-  chunk-from : (j c : ℕ) → j ≤ lastCodeword C → NamedChunk (ruleSeen s) c → ChunkBelowD C heard (word C j) x c
+  chunk-from : (j c : ℕ) → j ≤ lastCodeword C → NamedChunk (ruleSeen s) c → ChunkBelowD C unerased (word C j) x c
       → RuleReads R s (InCode C) (ruleSeen s) → numberBy s (ruleSeen s) ≡ j
   chunk-from j c in-code named below reads =
       ⊎-elim
       (λ (is, first).
-      let tells = first-tells C sees (word C j) j in-code (word-chunk C j 1 (omega arith)) (rw is at below) in
-      sym (number-of (s .read₁) (reads .first first)) ∙ number-of (s .read₁) tells)
+      let reads-as = first-reads C sees (word C j) j in-code (word-chunk C j 1 (omega arith)) (rw is at below) in
+      sym (number-of (s .read₁) (reads .first first)) ∙ number-of (s .read₁) reads-as)
       (λ (is, second).
-      let tells = second-tells C sees (word C j) j in-code (word-chunk C j 3 (omega arith)) (rw is at below) in
-      sym (number-of (s .read₂) (reads .second second)) ∙ number-of (s .read₂) tells)
+      let reads-as = second-reads C sees (word C j) j in-code (word-chunk C j 3 (omega arith)) (rw is at below) in
+      sym (number-of (s .read₂) (reads .second second)) ∙ number-of (s .read₂) reads-as)
       named
 
   -- so a word whose rule's separator has another parity than j is refused
-  pub pasted-refused : (i j c : ℕ) → j ≤ lastCodeword C → (i % 2 ≡ j % 2 → ⊥) → separatorBy s (ruleSeen s) ≡ i % 2
-      → NamedChunk (ruleSeen s) c → ChunkBelowD C heard (word C j) x c → refusalOf R s ≡ 0 → ⊥
-  pasted-refused i j c in-code differ reads-i named below none =
+  pub mixed-refused : (i j c : ℕ) → j ≤ lastCodeword C → (i % 2 ≡ j % 2 → ⊥) → separatorBy s (ruleSeen s) ≡ i % 2
+      → NamedChunk (ruleSeen s) c → ChunkBelowD C unerased (word C j) x c → refusalOf R s ≡ 0 → ⊥
+  mixed-refused i j c in-code differ reads-i named below none =
       let reads = rule-reads R s (InCode C) (reads-in-code C sees) none in
       differ (sym reads-i ∙ reads .parity ∙ ap (λ (p : ℕ). p % 2) (chunk-from j c in-code named below reads))
 

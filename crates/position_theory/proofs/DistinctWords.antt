@@ -16,8 +16,8 @@ use Rattle.model.specs.ReadWord.{readWord}
 use Rattle.model.specs.declared.ReadAnswer.{ReadAnswer}
 use Rattle.model.specs.declared.ReadAnswer.the-variants.{At, Refused}
 use Rattle.code_theory.specs.Promise.{ChunkPromise}
-use Rattle.position_theory.specs.Damage.{turnedIn, ChunksWithin, WithinRadius, turned, Near}
-use Rattle.position_theory.proofs.Words.{five-distance}
+use Rattle.position_theory.specs.Damage.{damagedIn, ChunksWithin, WithinRadius, damaged, Near}
+use Rattle.position_theory.proofs.WordChunkLaws.{five-distance}
 use Rattle.position_theory.proofs.WordBytes.{length-of-word, no-spare-set, differing-words}
 use Rattle.position_theory.proofs.Blocks.{block-le, block-low, block-high}
 use Rattle.position_theory.proofs.Ranges.{Isometric}
@@ -52,7 +52,7 @@ module _ (C : Code) (promise : ChunkPromise C) where
 
   -- an undamaged word is within the radius, with nothing turned
   undamaged : (position : ℕ) → WithinRadius C position (wordBytes C position)
-  unfolding ChunksWithin turnedIn
+  unfolding ChunksWithin damagedIn
   undamaged position =
       record {
         right-length = length-of-word C position;
@@ -60,9 +60,9 @@ module _ (C : Code) (promise : ChunkPromise C) where
         chunks = λ c b. rw distance-self (omega arith);
       }
 
-  nothing-turned : (position : ℕ) → turned C position (wordBytes C position) ≡ 0
-  unfolding turned
-  nothing-turned position =
+  nothing-damaged : (position : ℕ) → damaged C position (wordBytes C position) ≡ 0
+  unfolding damaged
+  nothing-damaged position =
       let u = place (wordBytes C position) in sym (five-distance C u u) ∙ distance-self (wordBits C) u
 
   -- two positions that are no steps from one answer are one
@@ -76,7 +76,7 @@ module _ (C : Code) (promise : ChunkPromise C) where
   read-as-itself position h =
       let bound =
       error-bounded C promise position (wordBytes C position) h (all-within C position (wordBytes C position) (undamaged position)) in
-      near-loosen (readWord C (wordBytes C position)) position _ 0 (omega (arith, nothing-turned position)) (bound .0)
+      near-loosen (readWord C (wordBytes C position)) position _ 0 (omega (arith, nothing-damaged position)) (bound .0)
 
   pub words-distinct : (p q : ℕ) → p ≤ lastPosition C → q ≤ lastPosition C → wordBytes C p ≡ wordBytes C q → p ≡ q
   words-distinct p q hp hq e =

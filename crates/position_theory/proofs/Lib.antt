@@ -1,10 +1,10 @@
 pub mod Ranges
-pub mod Words
+pub mod WordChunkLaws
 pub mod Between
 pub mod Ways
 pub mod WordBytes
 pub mod Separators
-pub mod Telling
+pub mod WholeChunks
 pub mod PlainSeen
 pub mod TrueCases
 pub mod Blocks
@@ -24,4 +24,4 @@ pub mod ChunkBits
 pub mod Contradictions
 pub mod WritePromises
 pub mod ReadPromises
-pub mod Witnesses
+pub mod PositionWitnesses

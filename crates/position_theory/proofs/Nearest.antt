@@ -11,7 +11,7 @@ use Rattle.model.specs.Order.{lastPosition}
 use Rattle.model.specs.Words.{wordBits, wordAt}
 use Rattle.model.specs.Reading.{Seen, ruleSeen, Rules, twoEnds, nearestIn, nearest}
 use Rattle.code_theory.specs.Promise.{ChunkPromise}
-use Rattle.code_theory.proofs.Refusals.{served-if-none, refused-if-some}
+use Rattle.code_theory.proofs.RefusalRows.{served-if-none, refused-if-some}
 use Rattle.position_theory.specs.Damage.{Near, residualOf}
 use Rattle.position_theory.specs.Nearest.{refusalOf, allowedBy, NearestOf, IsReadingOf}
 use Rattle.position_theory.proofs.WordBytes.{readingOfSeen}
@@ -49,13 +49,13 @@ module _ (R : Rules) (d : ℕ) (words : ℕ → ℕ → ℕ) (last : ℕ) (s : S
       (eq-or-ne (refusalOf R s) 0)
 
   -- the answer to a word that allows a position is as near to that position as the residuals and the lost places say
-  pub answer-near : (lost : ℕ) → WithinResiduals d words residual lost → (position : ℕ) → Allows R s position
+  pub answer-near : (erased : ℕ) → WithinResiduals d words residual erased → (position : ℕ) → Allows R s position
       → let answer = readingOfSeen R s residual in
-      Near answer position (residual position + residualOf answer + lost) × (residualOf answer ≤ residual position)
+      Near answer position (residual position + residualOf answer + erased) × (residualOf answer ≤ residual position)
   unfolding readingOfSeen
-  answer-near lost within position a =
+  answer-near erased within position a =
       rw (served-if-none _ _ _ (a .none-refuses))
-      (answer-off-by d words residual lost within s (ruleSeen s) (allowedBy R s)
+      (answer-off-by d words residual erased within s (ruleSeen s) (allowedBy R s)
       (track (a .none-refuses) .isometric) position (a .from-low) (a .to-high))
 
 -- on a track with two ends

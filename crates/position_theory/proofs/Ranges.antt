@@ -7,10 +7,10 @@ use mathlib.Core.Logic.{⊎-elim}
 use Prim.Native.Nat.{ℕ, _+_, _-_, _≤_, _<_}
 use native.Mathlib.Nat.{add-sub-of-le}
 use native.Mathlib.Omega.{arith}
-use Rattle.bits.specs.Sums.{distance, distanceHeard, lostBelow}
+use Rattle.bits.specs.Sums.{distance, distanceUnerased, erasedBelow}
 use Rattle.bits.proofs.Numbers.{lt-or-le}
 use Rattle.bits.proofs.Distance.{distance-comm}
-use Rattle.bits.proofs.Heard.{heard-triangle}
+use Rattle.bits.proofs.Erasures.{unerased-triangle}
 use Rattle.bits.proofs.Searches.{leastAt-low, leastAt-high, leastAt-least, leastAt-first}
 use Rattle.model.specs.Reading.{Seen, Range, nearestIn, nearest}
 use Rattle.model.specs.declared.ReadAnswer.the-variants.{At}
@@ -44,13 +44,13 @@ pub record IsometricRange (d : ℕ) (words : ℕ → ℕ → ℕ) (last : ℕ) (
   pub isometric : Isometric d words (range .low) (range .high)
 
 -- no two words are further apart than their residuals and so many lost places together
-abbrev pub WithinResiduals : (d : ℕ) (words : ℕ → ℕ → ℕ) (residual : ℕ → ℕ) (lost : ℕ) → Type 0
-WithinResiduals d words residual lost = (q q′ : ℕ) → distance d (words q) (words q′) ≤ residual q + residual q′ + lost
+abbrev pub WithinResiduals : (d : ℕ) (words : ℕ → ℕ → ℕ) (residual : ℕ → ℕ) (erased : ℕ) → Type 0
+WithinResiduals d words residual erased = (q q′ : ℕ) → distance d (words q) (words q′) ≤ residual q + residual q′ + erased
 
 -- which holds of the residuals that count the bits heard in which a word is unlike x
-pub counted-residuals : (heard : ℕ → Bool) (d : ℕ) (words : ℕ → ℕ → ℕ) (x : ℕ → ℕ)
-    → WithinResiduals d words (λ q. distanceHeard heard d (words q) x) (lostBelow heard d)
-counted-residuals heard d words x q q′ = heard-triangle heard d (words q) (words q′) x
+pub counted-residuals : (unerased : ℕ → Bool) (d : ℕ) (words : ℕ → ℕ → ℕ) (x : ℕ → ℕ)
+    → WithinResiduals d words (λ q. distanceUnerased unerased d (words q) x) (erasedBelow unerased d)
+counted-residuals unerased d words x q q′ = unerased-triangle unerased d (words q) (words q′) x
 
 -- q is the nearest position of a range: none of the range has a smaller residual, and none before it as small a one
 pub record NearestIn (residual : ℕ → ℕ) (range : Range) (q : ℕ) : Type 0 where
@@ -75,11 +75,11 @@ nearest-in residual range h =
 
 -- the answer to a range that holds the true position is as near to it as the two residuals and the lost places say, and its own is no
 -- larger
-module _ (d : ℕ) (words : ℕ → ℕ → ℕ) (residual : ℕ → ℕ) (lost : ℕ) (within : WithinResiduals d words residual lost) where
+module _ (d : ℕ) (words : ℕ → ℕ → ℕ) (residual : ℕ → ℕ) (erased : ℕ) (within : WithinResiduals d words residual erased) where
   pub answer-off-by : (s : Seen) (rule : ℕ) (range : Range) → Isometric d words (range .low) (range .high)
       → (position : ℕ) → range .low ≤ position → position ≤ range .high
       → let answer = At (nearest residual s rule range) in
-      Near answer position (residual position + residualOf answer + lost) × (residualOf answer ≤ residual position)
+      Near answer position (residual position + residualOf answer + erased) × (residualOf answer ≤ residual position)
   unfolding nearest Near residualOf
   answer-off-by s rule range far position l h =
       let q : ℕ = nearestIn residual range in

@@ -13,7 +13,7 @@ use Rattle.model.specs.Reading.{seen, twoEnds, ruleNamed, rows9To12, rowsSeen, 
 use Rattle.model.specs.ReadWord.{rowsOfWord, readingOf, readRefusal, readAnswer}
 use Rattle.model.specs.declared.Reading.{Reading}
 use Rattle.model.specs.declared.ReadAnswer.the-variants.{At, Refused}
-use Rattle.code_theory.proofs.Refusals.{NoneHolds, numbered, none-refuses, none-holds, served-if-none, refused-if-some, none-past-card}
+use Rattle.code_theory.proofs.RefusalRows.{NoneHolds, numbered, none-refuses, none-holds, served-if-none, refused-if-some, none-past-card}
 use Rattle.position_theory.specs.Nearest.{refusalOf}
 
 -- a word is read where no refusal holds, and what is answered is its reading

@@ -14,7 +14,7 @@ use Rattle.model.specs.Reading.{unreadable, numberRead, Seen, ruleSeen, namesFi
 use Rattle.model.specs.Reading.{separatorOf, separatorBy, parityDiffers, Rules, rows9To12, rowsSeen}
 use Rattle.model.specs.declared.Chunk.{Chunk}
 use Rattle.model.specs.declared.Chunk.the-variants.{Codeword, Unreadable}
-use Rattle.code_theory.proofs.Refusals.{NoneHolds, numbered, none-holds}
+use Rattle.code_theory.proofs.RefusalRows.{NoneHolds, numbered, none-holds}
 use Rattle.position_theory.specs.SeenChunks.{SeesChunks, ReadsAs, NamedReads}
 use Rattle.position_theory.specs.Nearest.{refusalOf}
 use Rattle.position_theory.proofs.Separators.{of-every-rule}
@@ -31,7 +31,7 @@ BothRead Kind s = ReadsKind Kind (s .read₁) × ReadsKind Kind (s .read₂)
 abbrev pub InCode : Code → (p : ℕ) → Type 0
 InCode C p = p ≤ lastCodeword C
 
-pub reads-in-code : (C : Code) {heard : ℕ → Bool} {x : ℕ → ℕ} {s : Seen} → SeesChunks C heard x s → BothRead (InCode C) s
+pub reads-in-code : (C : Code) {unerased : ℕ → Bool} {x : ℕ → ℕ} {s : Seen} → SeesChunks C unerased x s → BothRead (InCode C) s
 reads-in-code C sees = (
   λ p e read. sees .first .keeps .within _ p e (sym (sees .first .answers) ∙ read) .0,
   λ p e read. sees .second .keeps .within _ p e (sym (sees .second .answers) ∙ read) .0,

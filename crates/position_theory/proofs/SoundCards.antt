@@ -6,7 +6,7 @@ use Prim.Native.Nat.{ℕ}
 use Rattle.model.specs.Card.{cardRefusal, codeOf, SoundCard}
 use Rattle.model.specs.ReadWord.{readWord, readRefusal, readAnswer}
 use Rattle.code_theory.specs.Promise.{ChunkPromise}
-use Rattle.code_theory.proofs.Refusals.{past-card}
+use Rattle.code_theory.proofs.RefusalRows.{past-card}
 use Rattle.code_theory.proofs.SoundCard.{sound-card}
 use Rattle.code_theory.proofs.Promise.{promise}
 

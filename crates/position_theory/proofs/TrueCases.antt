@@ -5,13 +5,13 @@ use mathlib.Core.Path.{_≡_, sym, _∙_}
 use mathlib.Core.Logic.{_⊎_, inl, inr, ⊎-elim}
 use Prim.Native.Nat.{ℕ, _+_, _*_, _%_, _≤_, _<_}
 use native.Mathlib.Omega.{arith}
-use Rattle.bits.specs.Sums.{unlike}
+use Rattle.bits.specs.Sums.{difference}
 use Rattle.bits.proofs.Numbers.{lt-or-le, eq-or-ne}
 use Rattle.model.specs.Words.{chunkSize, placesBefore}
 use Rattle.model.specs.Reading.{Seen, ruleSeen}
 use Rattle.position_theory.specs.SeenChunks.{ReadsAs}
 use Rattle.position_theory.proofs.Separators.{rule₁-named, rule₂-named, rule₃-named}
-use Rattle.position_theory.proofs.Telling.{Tells, WholeTell}
+use Rattle.position_theory.proofs.WholeChunks.{ChunkReads, WholeChunksRead}
 
 pub data TrueCase (D A i j m : ℕ) (s : Seen) : Type 0 where
   -- rule 3 around w(i)
@@ -24,7 +24,7 @@ pub data TrueCase (D A i j m : ℕ) (s : Seen) : Type 0 where
   around-last : ruleSeen s ≡ 3 → ReadsAs (s .read₁) j → ReadsAs (s .read₂) j → s .s₁ ≡ j % 2 → 2 * D + 2 * A ≤ m
       → TrueCase D A i j m s
 
-module _ {D A i j m : ℕ} {s : Seen} (parities : unlike (i % 2) (j % 2) ≡ 1) (w : WholeTell D A i j m s) where
+module _ {D A i j m : ℕ} {s : Seen} (parities : difference (i % 2) (j % 2) ≡ 1) (w : WholeChunksRead D A i j m s) where
   -- a separator reads as one parity or as the other
   either : (b : ℕ) → b < 2 → (b ≡ i % 2) ⊎ (b ≡ j % 2)
   either b h = ⊎-elim inl (λ (ne : b ≡ i % 2 → ⊥). inr (omega arith)) (eq-or-ne b (i % 2))
@@ -34,7 +34,7 @@ module _ {D A i j m : ℕ} {s : Seen} (parities : unlike (i % 2) (j % 2) ≡ 1) 
 
   -- by the chunk that is divided
   in-separator₁ : m < D → TrueCase D A i j m s
-  unfolding Tells placesBefore chunkSize
+  unfolding ChunkReads placesBefore chunkSize
   in-separator₁ h =
       let second : s .s₂ ≡ i % 2 = w .ahead 2 (omega arith) (omega arith) in
       let third : s .s₃ ≡ i % 2 = w .ahead 4 (omega arith) (omega arith) in
@@ -47,7 +47,7 @@ module _ {D A i j m : ℕ} {s : Seen} (parities : unlike (i % 2) (j % 2) ≡ 1) 
       (either (s .s₁) (w .bit₁))
 
   in-chunk₁ : D ≤ m → m < D + A → TrueCase D A i j m s
-  unfolding Tells placesBefore chunkSize
+  unfolding ChunkReads placesBefore chunkSize
   in-chunk₁ l h =
       let second : s .s₂ ≡ i % 2 = w .ahead 2 (omega arith) (omega arith) in
       let third : s .s₃ ≡ i % 2 = w .ahead 4 (omega arith) (omega arith) in
@@ -55,7 +55,7 @@ module _ {D A i j m : ℕ} {s : Seen} (parities : unlike (i % 2) (j % 2) ≡ 1) 
       (w .ahead 3 (omega arith) (omega arith)) third (omega arith)
 
   in-separator₂ : D + A ≤ m → m < D + A + D → TrueCase D A i j m s
-  unfolding Tells placesBefore chunkSize
+  unfolding ChunkReads placesBefore chunkSize
   in-separator₂ l h =
       let first : s .s₁ ≡ j % 2 = w .passed 0 (omega arith) (omega arith) in
       let third : s .s₃ ≡ i % 2 = w .ahead 4 (omega arith) (omega arith) in
@@ -67,7 +67,7 @@ module _ {D A i j m : ℕ} {s : Seen} (parities : unlike (i % 2) (j % 2) ≡ 1) 
       (either (s .s₂) (w .bit₂))
 
   in-chunk₂ : D + A + D ≤ m → m < D + A + D + A → TrueCase D A i j m s
-  unfolding Tells placesBefore chunkSize
+  unfolding ChunkReads placesBefore chunkSize
   in-chunk₂ l h =
       let first : s .s₁ ≡ j % 2 = w .passed 0 (omega arith) (omega arith) in
       let second : s .s₂ ≡ j % 2 = w .passed 2 (omega arith) l in
@@ -75,7 +75,7 @@ module _ {D A i j m : ℕ} {s : Seen} (parities : unlike (i % 2) (j % 2) ≡ 1) 
       (w .passed 1 (omega arith) (omega arith)) first (omega arith)
 
   in-separator₃ : D + A + D + A ≤ m → TrueCase D A i j m s
-  unfolding Tells placesBefore chunkSize
+  unfolding ChunkReads placesBefore chunkSize
   in-separator₃ l =
       let first : s .s₁ ≡ j % 2 = w .passed 0 (omega arith) (omega arith) in
       let second : s .s₂ ≡ j % 2 = w .passed 2 (omega arith) (omega arith) in

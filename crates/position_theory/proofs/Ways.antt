@@ -20,7 +20,7 @@ use Rattle.model.specs.Card.{Code}
 use Rattle.model.specs.Order.{codeword}
 use Rattle.model.specs.Words.{wordBits, chunkSize, placesBefore, chunkOf, word}
 use Rattle.position_theory.proofs.Ranges.{Isometric}
-use Rattle.position_theory.proofs.Words.{content, word-bit, chunk-fits}
+use Rattle.position_theory.proofs.WordChunkLaws.{content, word-bit, chunk-fits}
 use Rattle.position_theory.proofs.Between.{Next, stepsBefore, words-apart, way-apart, across-apart, chunk-ahead, chunk-passed}
 
 -- a track's words from one position to another, both included, walk from w(i) to w(j), whose codewords differ in A places

@@ -9,7 +9,7 @@ use native.Mathlib.Nat.{le-dest, eq-or-lt-of-le}
 use native.Mathlib.Omega.{arith}
 use lib.Dec.{ltb, eqb}
 use borrow.Author.Tests.{lt-ltb, le-ltb, ltb-true, eq-eqb, ne-eqb}
-use Rattle.bits.specs.Sums.{distance, unlike}
+use Rattle.bits.specs.Sums.{distance, difference}
 use Rattle.bits.specs.Walk.{walk}
 use Rattle.bits.specs.Searches.{anyBelow}
 use Rattle.bits.proofs.Numbers.{lt-or-le, and-true-left, and-true-right}
@@ -21,10 +21,10 @@ use Rattle.model.specs.Order.{lastCodeword, changedWeight, blockLength, start, 
 use Rattle.model.specs.Words.{chunkSize, placesBefore, chunkOf, word, wordAt, divided}
 use Rattle.code_theory.specs.Promise.{ChunkPromise}
 use Rattle.position_theory.specs.DividedChunks.{DividedOneByOne}
-use Rattle.position_theory.proofs.Words.{word-bit, word-chunk, chunk-ends, chunk-fits, places-rise}
+use Rattle.position_theory.proofs.WordChunkLaws.{word-bit, word-chunk, chunk-ends, chunk-fits, places-rise}
 use Rattle.position_theory.proofs.Between.{Next, stepsBefore, WholeAt, apart-before, chunk-ahead, chunk-passed}
 use Rattle.position_theory.proofs.Ways.{way-steps}
-use Rattle.position_theory.proofs.Blocks.{OnTheWay, next-codeword, block-inside, block-start, on-the-way}
+use Rattle.position_theory.proofs.Blocks.{OnTheWay, next-codeword, block-inside, start-of-block, on-the-way}
 use Rattle.position_theory.proofs.Blocks.{word-at-start, word-in-block}
 
 -- ---- by the places in which u and v differ, some of them taken from v in w
@@ -51,7 +51,7 @@ module _ (u v w : ℕ → ℕ) where
       and-false true = refl
       and-false false = refl
 
-  some-taken : (d q q′ : ℕ) → q < d → unlike (u q) (v q) ≡ 1 → w q ≡ v q → q′ < d → unlike (u q′) (v q′) ≡ 1 → w q′ ≡ u q′
+  some-taken : (d q q′ : ℕ) → q < d → difference (u q) (v q) ≡ 1 → w q ≡ v q → q′ < d → difference (u q′) (v q′) ≡ 1 → w q′ ≡ u q′
       → (anyBelow isTaken d && anyBelow isKept d) ≡ true
   some-taken d q q′ b differ taken b′ differ′ left =
       rw (
@@ -64,7 +64,7 @@ module _ (u v w : ℕ → ℕ) where
 -- step number r of the walk from one codeword's word to the next, counted from 0, turns a place of chunk c where r is no less than the
 -- steps before that chunk and below those to its end
 step-in-chunk : (C : Code) {i j A : ℕ} → Next C i j A → (c r : ℕ) → c < 5 → stepsBefore C A c ≤ r → r < stepsBefore C A (suc c)
-    → (q : ℕ) × (q < chunkSize (C .D) (C .n) c) × (unlike (chunkOf C c (word C i) q) (chunkOf C c (word C j) q) ≡ 1)
+    → (q : ℕ) × (q < chunkSize (C .D) (C .n) c) × (difference (chunkOf C c (word C i) q) (chunkOf C c (word C j) q) ≡ 1)
     × (distance (placesBefore (C .D) (C .n) c + q) (word C i) (word C j) ≡ r)
 step-in-chunk C {i} {j} next c r b l h =
     inside (differing-place u v (placesBefore (C .D) (C .n) (suc c)) r (rw (apart-before C next (suc c) b) h))
@@ -75,8 +75,8 @@ step-in-chunk C {i} {j} next c r b l h =
     v : ℕ → ℕ
     v = word C j
 
-    inside : (p : ℕ) × (p < placesBefore (C .D) (C .n) (suc c)) × (unlike (u p) (v p) ≡ 1) × (distance p u v ≡ r)
-        → (q : ℕ) × (q < chunkSize (C .D) (C .n) c) × (unlike (chunkOf C c u q) (chunkOf C c v q) ≡ 1)
+    inside : (p : ℕ) × (p < placesBefore (C .D) (C .n) (suc c)) × (difference (u p) (v p) ≡ 1) × (distance p u v ≡ r)
+        → (q : ℕ) × (q < chunkSize (C .D) (C .n) c) × (difference (chunkOf C c u q) (chunkOf C c v q) ≡ 1)
         × (distance (placesBefore (C .D) (C .n) c + q) u v ≡ r)
     inside (p, below, differ, number) =
         ⊎-elim
@@ -92,7 +92,7 @@ module _ (C : Code) (promise : ChunkPromise C) where
   undivided-start : (i c : ℕ) → i ≤ lastCodeword C → divided C (start C i) c ≡ false
   unfolding divided
   undivided-start i c h =
-      rw (block-start C promise i h)
+      rw (start-of-block C promise i h)
       (none-taken (chunkOf C c (word C i)) (chunkOf C c (word C (i + 1))) (chunkOf C c (wordAt C (start C i))) (chunkSize (C .D) (C .n) c)
       (λ p b. word-at-start C promise i h _))
 

@@ -25,7 +25,7 @@ use Rattle.model.specs.ReadWord.{spareSet, rowsOfWord, readWord}
 use Rattle.model.specs.declared.ReadAnswer.{ReadAnswer}
 use Rattle.model.specs.declared.ReadAnswer.the-variants.{At, Refused}
 use Rattle.position_theory.specs.Nearest.{refusalOf, allowedBy}
-use Rattle.position_theory.proofs.Words.{word-bit}
+use Rattle.position_theory.proofs.WordChunkLaws.{word-bit}
 
 -- the bytes of any word have no spare bit set
 pub packed-none-spare : (C : Code) {w : ℕ → ℕ} → ((p : ℕ) → w p < 2) → spareSet C (pack (wordBits C) w) ≡ false
@@ -83,13 +83,13 @@ module _ (C : Code) (received : List ℕ) (spare : spareSet C received ≡ false
       rw (← (rest .1)) (omega (arith, place-bit received (wordBits C + rest .0), not-one))
 
   -- it is unlike any word in as many bits as their bytes differ in
-  pub packed-unlike : {w : ℕ → ℕ} → ((p : ℕ) → w p < 2)
+  pub packed-differing : {w : ℕ → ℕ} → ((p : ℕ) → w p < 2)
       → distance (wordBits C) w (place received) ≡ differingBits (pack (wordBits C) w) received
-  packed-unlike {w} bits =
+  packed-differing {w} bits =
       sym (distance-ext-left (wordBits C) (place received) (place-packed (wordBits C) w bits))
       ∙ sym (differing-below (wordBits C) (pack (wordBits C) w) received (length-pack (wordBits C) w)
       (λ p h b. place-spare (wordBits C) w bits p h ∙ sym (spare-bits-zero p h b)))
 
   pub residual-counts : (position : ℕ) → residual C (place received) position ≡ differingBits (wordBytes C position) received
   unfolding residual wordBytes
-  residual-counts position = packed-unlike (word-at-bit C position)
+  residual-counts position = packed-differing (word-at-bit C position)

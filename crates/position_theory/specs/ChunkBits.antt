@@ -4,7 +4,7 @@ use mathlib.Core.Path.{_≡_}
 use mathlib.Core.Bool.{Bool, true, false}
 use mathlib.Core.List.{List}
 use Prim.Native.Nat.{ℕ, _+_, _*_, _≤_, _<_}
-use Rattle.bits.specs.Sums.{lostBelow}
+use Rattle.bits.specs.Sums.{erasedBelow}
 use Rattle.bits.specs.Places.{place}
 use Rattle.model.specs.Card.{Code, radius}
 use Rattle.model.specs.Order.{lastCodeword}
@@ -13,7 +13,7 @@ use Rattle.model.specs.Reading.{chunkDistance, Seen, seen, ruleSeen, namesFirst
 use Rattle.model.specs.Levels.{chunkWrong}
 use Rattle.model.specs.declared.ChunkBits.{ChunkBits}
 use Rattle.model.specs.declared.ChunkBits.the-variants.{Differing, NotRead}
-use Rattle.position_theory.specs.Damage.{turnedIn}
+use Rattle.position_theory.specs.Damage.{damagedIn}
 use Rattle.position_theory.specs.Nearest.{allowedBy}
 
 -- a number is the count of places in which a code chunk and c(p) differ, and it is at most t
@@ -21,43 +21,43 @@ abbrev pub CountsDiffering : Code → (chunk : ℕ → ℕ) (p count : ℕ) → 
 CountsDiffering C chunk p count = (count ≡ chunkDistance C chunk p) × (count ≤ radius C)
 
 -- what is answered of a code chunk: this count where the rule names the chunk, and where it does not, that the chunk was not read
-unfoldable pub TellsBits : Code → (named : Bool) (chunk : ℕ → ℕ) (p : ℕ) → ChunkBits → Type 0
-TellsBits C true chunk p answered = (count : ℕ) × (answered ≡ Differing count) × CountsDiffering C chunk p count
-TellsBits C false chunk p answered = answered ≡ NotRead
+unfoldable pub CountsBits : Code → (named : Bool) (chunk : ℕ → ℕ) (p : ℕ) → ChunkBits → Type 0
+CountsBits C true chunk p answered = (count : ℕ) × (answered ≡ Differing count) × CountsDiffering C chunk p count
+CountsBits C false chunk p answered = answered ≡ NotRead
 
 -- the same of a chunk of which only some places are heard: the count is that of the wrong ones, and 2 × wrong + lost is below D
-unfoldable pub TellsWrong : Code → (named : Bool) (heard : ℕ → Bool) (chunk : ℕ → ℕ) (p : ℕ) → ChunkBits → Type 0
-TellsWrong C true heard chunk p answered =
-    (count : ℕ) × (answered ≡ Differing count) × (count ≡ chunkWrong C heard chunk p) × (2 * count + lostBelow heard (C .n) < C .D)
-TellsWrong C false heard chunk p answered = answered ≡ NotRead
+unfoldable pub CountsWrong : Code → (named : Bool) (unerased : ℕ → Bool) (chunk : ℕ → ℕ) (p : ℕ) → ChunkBits → Type 0
+CountsWrong C true unerased chunk p answered =
+    (count : ℕ) × (answered ≡ Differing count) × (count ≡ chunkWrong C unerased chunk p) × (2 * count + erasedBelow unerased (C .n) < C .D)
+CountsWrong C false unerased chunk p answered = answered ≡ NotRead
 
 -- What is told of both code chunks of a word of which s is seen: the rule is the one that the separators name;
 -- the chunks that it names read as one codeword c(p), by which it allows positions; and what is told of either chunk is its bits against
 -- that codeword.
-pub record BitsSeen (C : Code) (R : Rules) (s : Seen) (Tells₁ Tells₂ : (named : Bool) (p : ℕ) → ChunkBits → Type 0)
+pub record BitsSeen (C : Code) (R : Rules) (s : Seen) (ChunkReads₁ ChunkReads₂ : (named : Bool) (p : ℕ) → ChunkBits → Type 0)
     (rule : ℕ) (bits₁ bits₂ : ChunkBits) : Type 0 where
   pub by-rule : rule ≡ ruleSeen s
   pub p : ℕ
   pub in-code : p ≤ lastCodeword C
   pub allows : allowedBy R s ≡ R .range rule p
-  pub first : Tells₁ (namesFirst rule) p bits₁
-  pub second : Tells₂ (namesSecond rule) p bits₂
+  pub first : ChunkReads₁ (namesFirst rule) p bits₁
+  pub second : ChunkReads₂ (namesSecond rule) p bits₂
 
 -- of the received word x, all of which is heard
 abbrev pub BitsOfChunks : Code → (x : ℕ → ℕ) (rule : ℕ) (bits₁ bits₂ : ChunkBits) → Type 0
 BitsOfChunks C x =
-    BitsSeen C (twoEnds C) (seen C x) (λ named. TellsBits C named (chunk₁ C x)) (λ named. TellsBits C named (chunk₂ C x))
+    BitsSeen C (twoEnds C) (seen C x) (λ named. CountsBits C named (chunk₁ C x)) (λ named. CountsBits C named (chunk₂ C x))
 
 -- of a word x of which these places are heard
-abbrev pub WrongOfChunks : Code → (heard : ℕ → Bool) (x : ℕ → ℕ) → Seen → (rule : ℕ) (bits₁ bits₂ : ChunkBits) → Type 0
-WrongOfChunks C heard x s =
+abbrev pub WrongOfChunks : Code → (unerased : ℕ → Bool) (x : ℕ → ℕ) → Seen → (rule : ℕ) (bits₁ bits₂ : ChunkBits) → Type 0
+WrongOfChunks C unerased x s =
     BitsSeen C (twoEnds C) s
-    (λ named. TellsWrong C named (chunk₁ C heard) (chunk₁ C x))
-    (λ named. TellsWrong C named (chunk₂ C heard) (chunk₂ C x))
+    (λ named. CountsWrong C named (chunk₁ C unerased) (chunk₁ C x))
+    (λ named. CountsWrong C named (chunk₂ C unerased) (chunk₂ C x))
 
 -- as numbers, the bits of either code chunk, where the rule names it, are those of the position's word that are turned in it (of the five
 -- chunks, 0 to 4, the code chunks are 1 and 3)
-abbrev pub AreTurned : Code → (position : ℕ) (received : List ℕ) (rule bits₁ bits₂ : ℕ) → Type 0
-AreTurned C position received rule bits₁ bits₂ =
-    (namesFirst rule ≡ true → bits₁ ≡ turnedIn C 1 (place (wordBytes C position)) (place received))
-    × (namesSecond rule ≡ true → bits₂ ≡ turnedIn C 3 (place (wordBytes C position)) (place received))
+abbrev pub AreDamaged : Code → (position : ℕ) (received : List ℕ) (rule bits₁ bits₂ : ℕ) → Type 0
+AreDamaged C position received rule bits₁ bits₂ =
+    (namesFirst rule ≡ true → bits₁ ≡ damagedIn C 1 (place (wordBytes C position)) (place received))
+    × (namesSecond rule ≡ true → bits₂ ≡ damagedIn C 3 (place (wordBytes C position)) (place received))

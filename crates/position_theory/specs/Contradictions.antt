@@ -18,7 +18,7 @@ use Rattle.model.specs.ReadWord.{spareSet, readingOf}
 use Rattle.model.specs.declared.Reading.{Reading}
 use Rattle.model.specs.declared.ReadAnswer.{ReadAnswer}
 use Rattle.model.specs.declared.ReadAnswer.the-variants.{At, Refused}
-use Rattle.position_theory.specs.Damage.{turnedIn}
+use Rattle.position_theory.specs.Damage.{damagedIn}
 use Rattle.position_theory.specs.SeenChunks.{NamedReads}
 
 -- ---- words that are read
@@ -50,13 +50,13 @@ NamedChunk rule c = ((c ≡ 1) × (namesFirst rule ≡ true)) ⊎ ((c ≡ 3) × 
 -- A word x is pasted from two telegrams, w(i) and w(j), whose parities differ: by the rule that its separators name, it has the rule's
 -- separator from the first and a code chunk c that the rule names from the second, at most t bits turned in either, and whatever else
 -- elsewhere. (A telegram of any position has, in a chunk that is not being changed there, what some w(i) has.)
-pub record Pasted (C : Code) (x : ℕ → ℕ) (i j c : ℕ) : Type 0 where
+pub record Mixed (C : Code) (x : ℕ → ℕ) (i j c : ℕ) : Type 0 where
   pub in-code : i ≤ lastCodeword C
   pub in-code′ : j ≤ lastCodeword C
   pub differ : i % 2 ≡ j % 2 → ⊥
   pub named : NamedChunk (ruleNamed C x) c
-  pub separator : turnedIn C (separatorChunk (ruleNamed C x)) (word C i) x ≤ radius C
-  pub chunk : turnedIn C c (word C j) x ≤ radius C
+  pub separator : damagedIn C (separatorChunk (ruleNamed C x)) (word C i) x ≤ radius C
+  pub chunk : damagedIn C c (word C j) x ≤ radius C
 
 -- ---- what is answered otherwise than without P6
 

@@ -6,7 +6,7 @@ use mathlib.Core.Bool.{Bool, false}
 use mathlib.Core.List.{List}
 use Prim.Native.Nat.{ℕ, _+_, _*_, _≤_, _<_}
 use lib.ListN.{length}
-use Rattle.bits.specs.Sums.{sumBelow, distance, distanceHeard, lostBelow}
+use Rattle.bits.specs.Sums.{sumBelow, distance, distanceUnerased, erasedBelow}
 use Rattle.bits.specs.Places.{place}
 use Rattle.model.specs.Card.{Code, radius}
 use Rattle.model.specs.Words.{chunkSize, chunkOf, wordBytes, wordLength, divided}
@@ -15,42 +15,42 @@ use Rattle.model.specs.declared.ReadAnswer.{ReadAnswer}
 use Rattle.model.specs.declared.ReadAnswer.the-variants.{At, Refused}
 
 -- the number of bits turned in chunk c, of the chunks 0 to 4: the places of it in which x is unlike u
-unfoldable pub turnedIn : Code → (c : ℕ) (u x : ℕ → ℕ) → ℕ
-turnedIn C c u x = distance (chunkSize (C .D) (C .n) c) (chunkOf C c u) (chunkOf C c x)
+unfoldable pub damagedIn : Code → (c : ℕ) (u x : ℕ → ℕ) → ℕ
+damagedIn C c u x = distance (chunkSize (C .D) (C .n) c) (chunkOf C c u) (chunkOf C c x)
 
 -- where only some places are heard: the number of bits that are wrong in chunk c, those of it that are heard and in which x is unlike u,
 -- and the number of bits that are lost in it
-unfoldable pub wrongIn : Code → (heard : ℕ → Bool) (c : ℕ) (u x : ℕ → ℕ) → ℕ
-wrongIn C heard c u x = distanceHeard (chunkOf C c heard) (chunkSize (C .D) (C .n) c) (chunkOf C c u) (chunkOf C c x)
+unfoldable pub wrongIn : Code → (unerased : ℕ → Bool) (c : ℕ) (u x : ℕ → ℕ) → ℕ
+wrongIn C unerased c u x = distanceUnerased (chunkOf C c unerased) (chunkSize (C .D) (C .n) c) (chunkOf C c u) (chunkOf C c x)
 
-unfoldable pub lostIn : Code → (heard : ℕ → Bool) (c : ℕ) → ℕ
-lostIn C heard c = lostBelow (chunkOf C c heard) (chunkSize (C .D) (C .n) c)
+unfoldable pub erasedIn : Code → (unerased : ℕ → Bool) (c : ℕ) → ℕ
+erasedIn C unerased c = erasedBelow (chunkOf C c unerased) (chunkSize (C .D) (C .n) c)
 
 -- 2 × wrong + lost of chunk c is below D; and that of each of the five chunks is
-abbrev pub ChunkBelowD : Code → (heard : ℕ → Bool) (u x : ℕ → ℕ) (c : ℕ) → Type 0
-ChunkBelowD C heard u x c = 2 * wrongIn C heard c u x + lostIn C heard c < C .D
+abbrev pub ChunkBelowD : Code → (unerased : ℕ → Bool) (u x : ℕ → ℕ) (c : ℕ) → Type 0
+ChunkBelowD C unerased u x c = 2 * wrongIn C unerased c u x + erasedIn C unerased c < C .D
 
-unfoldable pub ChunksBelowD : Code → (heard : ℕ → Bool) (u x : ℕ → ℕ) → Type 0
-ChunksBelowD C heard u x = (c : ℕ) → c < 5 → ChunkBelowD C heard u x c
+unfoldable pub ChunksBelowD : Code → (unerased : ℕ → Bool) (u x : ℕ → ℕ) → Type 0
+ChunksBelowD C unerased u x = (c : ℕ) → c < 5 → ChunkBelowD C unerased u x c
 
 -- the number of bits that are wrong in all, and of those that are lost in all: the sums over the five chunks
-unfoldable pub wrongInAll : Code → (heard : ℕ → Bool) (u x : ℕ → ℕ) → ℕ
-wrongInAll C heard u x = sumBelow (λ c. wrongIn C heard c u x) 5
+unfoldable pub wrongInAll : Code → (unerased : ℕ → Bool) (u x : ℕ → ℕ) → ℕ
+wrongInAll C unerased u x = sumBelow (λ c. wrongIn C unerased c u x) 5
 
-unfoldable pub lostInAll : Code → (heard : ℕ → Bool) → ℕ
-lostInAll C heard = sumBelow (lostIn C heard) 5
+unfoldable pub erasedInAll : Code → (unerased : ℕ → Bool) → ℕ
+erasedInAll C unerased = sumBelow (erasedIn C unerased) 5
 
 -- in each of the five chunks at most e bits are turned
 unfoldable pub ChunksWithin : Code → (e : ℕ) (u x : ℕ → ℕ) → Type 0
-ChunksWithin C e u x = (c : ℕ) → c < 5 → turnedIn C c u x ≤ e
+ChunksWithin C e u x = (c : ℕ) → c < 5 → damagedIn C c u x ≤ e
 
 -- the number of bits turned in all: the sum over the five chunks
-unfoldable pub turnedInAll : Code → (u x : ℕ → ℕ) → ℕ
-turnedInAll C u x = sumBelow (λ c. turnedIn C c u x) 5
+unfoldable pub damagedInAll : Code → (u x : ℕ → ℕ) → ℕ
+damagedInAll C u x = sumBelow (λ c. damagedIn C c u x) 5
 
 -- the bits of the position's word that are turned in the received word
-unfoldable pub turned : Code → (position : ℕ) (received : List ℕ) → ℕ
-turned C position received = turnedInAll C (place (wordBytes C position)) (place received)
+unfoldable pub damaged : Code → (position : ℕ) (received : List ℕ) → ℕ
+damaged C position received = damagedInAll C (place (wordBytes C position)) (place received)
 
 -- the received bytes are a word with spare bits zero in which each chunk has at most t bits of the word sent turned; and of the word of a
 -- position
@@ -68,7 +68,7 @@ pub record UndividedWithinRadius (C : Code) (position : ℕ) (received : List �
   pub right-length : length received ≡ wordLength C
   pub spare-zero : spareSet C received ≡ false
   pub chunks : (c : ℕ) → c < 5 → divided C position c ≡ false
-      → turnedIn C c (place (wordBytes C position)) (place received) ≤ radius C
+      → damagedIn C c (place (wordBytes C position)) (place received) ≤ radius C
 
 -- an answer that is no refusal, whose position is at most e steps from this one
 unfoldable pub Near : ReadAnswer → (position e : ℕ) → Type 0

@@ -8,18 +8,18 @@ use Rattle.model.specs.Words.{chunk₁, chunk₂}
 use Rattle.model.specs.Reading.{Seen}
 use Rattle.model.specs.declared.Chunk.{Chunk}
 use Rattle.model.specs.declared.Chunk.the-variants.{Codeword}
-use Rattle.code_theory.specs.Promise.{ReadsHeard}
+use Rattle.code_theory.specs.Promise.{ReadsWithErasures}
 
 -- what is seen of a code chunk of which these places are heard is the answer of a reader, whichever, that keeps the promise over them
-pub record SeesChunk (C : Code) (heard : ℕ → Bool) (chunk : ℕ → ℕ) (answer : Chunk) : Type 0 where
+pub record SeesChunk (C : Code) (unerased : ℕ → Bool) (chunk : ℕ → ℕ) (answer : Chunk) : Type 0 where
   pub reader : (ℕ → ℕ) → Chunk
-  pub keeps : ReadsHeard C heard reader
+  pub keeps : ReadsWithErasures C unerased reader
   pub answers : answer ≡ reader chunk
 
 -- the code chunks of what is seen, s, are seen so in the word x of which these places are heard
-pub record SeesChunks (C : Code) (heard : ℕ → Bool) (x : ℕ → ℕ) (s : Seen) : Type 0 where
-  pub first : SeesChunk C (chunk₁ C heard) (chunk₁ C x) (s .read₁)
-  pub second : SeesChunk C (chunk₂ C heard) (chunk₂ C x) (s .read₂)
+pub record SeesChunks (C : Code) (unerased : ℕ → Bool) (x : ℕ → ℕ) (s : Seen) : Type 0 where
+  pub first : SeesChunk C (chunk₁ C unerased) (chunk₁ C x) (s .read₁)
+  pub second : SeesChunk C (chunk₂ C unerased) (chunk₂ C x) (s .read₂)
 
 -- a code chunk reads as codeword number p; and it does if the rule names it
 abbrev pub ReadsAs : Chunk → (p : ℕ) → Type 0

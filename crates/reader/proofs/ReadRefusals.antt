@@ -10,18 +10,18 @@ use lib.Dec.{eqb}
 use lib.ListN.{length}
 use Rattle.bits.specs.Sums.{marked}
 use Rattle.bits.specs.Places.{place}
-use Rattle.bits.proofs.Heard.{heard-ext}
+use Rattle.bits.proofs.Erasures.{unerased-ext}
 use Rattle.model.specs.Refusals.{firstRefusal, unlessRefused}
 use Rattle.model.specs.ReadWord.{spareSet, rowsOfWord, readWord}
 use Rattle.model.specs.Card.{Code}
 use Rattle.model.specs.Reading.{seen, ruleNamed, separatorBy, twoEnds, rows9To12, rowsSeen, residual}
-use Rattle.model.specs.Levels.{residualHeard}
+use Rattle.model.specs.Levels.{residualUnerased}
 use Rattle.model.specs.Words.{wordBits, wordLength}
 use Rattle.model.specs.declared.ReadAnswer.{ReadAnswer}
 use Rattle.model.specs.declared.ReadAnswer.the-variants.{Refused}
 use Rattle.code_theory.specs.Promise.{Sound}
 use Rattle.code_theory.proofs.Promise.{promise, plain-reading}
-use Rattle.code_theory.proofs.ChunkReading.{heard-reading-ext}
+use Rattle.code_theory.proofs.ChunkReading.{erasure-reading-ext}
 use Rattle.code_theory.proofs.Starts.{word-bits-bound}
 use Rattle.position_theory.proofs.PlainSeen.{plain-residual}
 use Rattle.position_theory.proofs.WordBytes.{readingOfSeen, read-if-whole}
@@ -33,8 +33,8 @@ use Rattle.nearest_position.specs.Way.{residualIn}
 
 -- a plain word, all of whose places are marked
 module _ (C : Code) (sound : Sound C) (received : List ℕ) (x : ReceivedWord) (plain : PlainWord received x) where
-  all-marked : (p : ℕ) → p < wordBits C → marked (place (x .heard)) p ≡ true
-  all-marked p b = eq-eqb (place (x .heard) p) 1 (plain .all-heard p (omega (arith, word-bits-bound C sound)))
+  all-marked : (p : ℕ) → p < wordBits C → marked (place (x .unerased)) p ≡ true
+  all-marked p b = eq-eqb (place (x .unerased) p) 1 (plain .all-unerased p (omega (arith, word-bits-bound C sound)))
 
   -- what is seen of it is what is seen of the places marked, and so is the residual
   plain-in-array : SeesIn C x (seen C (place (x .bits)))
@@ -42,19 +42,19 @@ module _ (C : Code) (sound : Sound C) (received : List ℕ) (x : ReceivedWord) (
   plain-in-array =
       let read = plain-reading C (promise C sound) in
       record {
-        first = read _ ∙ heard-reading-ext C (λ p b. sym (all-marked _ (omega arith))) (λ p b. refl);
-        second = read _ ∙ heard-reading-ext C (λ p b. sym (all-marked _ (omega arith))) (λ p b. refl);
+        first = read _ ∙ erasure-reading-ext C (λ p b. sym (all-marked _ (omega arith))) (λ p b. refl);
+        second = read _ ∙ erasure-reading-ext C (λ p b. sym (all-marked _ (omega arith))) (λ p b. refl);
       }
 
   plain-residual-in : residualIn C x ≡ residual C (place (x .bits))
-  unfolding residualHeard
+  unfolding residualUnerased
   plain-residual-in =
-      fun-ext (λ q. heard-ext (wordBits C) all-marked (λ p b. refl) (λ p b. refl))
+      fun-ext (λ q. unerased-ext (wordBits C) all-marked (λ p b. refl) (λ p b. refl))
       ∙ sym (plain-residual C (place (x .bits)))
 
 pub refused-6 : (C : Code) (received : List ℕ) → (length received ≡ wordLength C → ⊥) → Refused 6 ≡ readWord C received
 unfolding readWord rowsOfWord firstRefusal unlessRefused
-refused-6 C received unlike = rw (ne-eqb (length received) (wordLength C) unlike)
+refused-6 C received other-length = rw (ne-eqb (length received) (wordLength C) other-length)
 
 module _ (C : Code) (received : List ℕ) (whole : length received ≡ wordLength C)
     (ones : ℕ) (of-spare : not (eqb ones 0) ≡ spareSet C received) where

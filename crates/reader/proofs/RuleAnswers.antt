@@ -48,9 +48,9 @@ module _ (s : Seen) (R : Rules) (residual : ℕ → ℕ) where
     unfolding answerBy rowsSeen rows9To12 unreadable firstRefusal unlessRefused
     rule₃-second-unreadable r′ = rw (r, r′)
 
-    pub rule₃-unlike : (q f : ℕ) → s .read₂ ≡ Codeword q f → (p ≡ q → ⊥) → Refused 11 ≡ answerBy R s residual 3
+    pub rule₃-differs : (q f : ℕ) → s .read₂ ≡ Codeword q f → (p ≡ q → ⊥) → Refused 11 ≡ answerBy R s residual 3
     unfolding answerBy rowsSeen rows9To12 unreadable numberBy numberRead firstRefusal unlessRefused
-    rule₃-unlike q f r′ differ = rw (r, r′, ne-eqb p q differ)
+    rule₃-differs q f r′ differ = rw (r, r′, ne-eqb p q differ)
 
 module _ (s : Seen) (p e : ℕ) where
   pub rule₁-read : s .read₁ ≡ Codeword p e → ReadAs s 1 (record { number = p; chunk1 = Differing e; chunk2 = NotRead })

@@ -53,7 +53,7 @@ module _ (C : Code) (received : List ℕ) (x : ReceivedWord) (plain : PlainWord 
 
   pub nothing-spare : length received ≡ wordLength C → spareSet C received ≡ false → NothingSpare C x
   unfolding NothingSpare
-  nothing-spare whole none p l heard =
+  nothing-spare whole none p l unerased =
       ⊎-elim
       (λ (b : p < 8 * wordLength C). plain .bits-held p ∙ spare-bits-zero C received none p l b)
       (λ (b : 8 * wordLength C ≤ p). plain .bits-held p ∙ past-end received p (omega arith))

@@ -11,7 +11,7 @@ use Rattle.model.specs.Order.{lastCodeword}
 use Rattle.model.specs.Words.{chunk₁, chunk₂}
 use Rattle.model.specs.Reading.{Seen, namesFirst, namesSecond, numberBy, separatorBy, parityDiffers, Rules, rowsSeen, rangeSeen}
 use Rattle.model.specs.Reading.{bitsNeeded, nearest}
-use Rattle.model.specs.Levels.{heardReading}
+use Rattle.model.specs.Levels.{erasureReading}
 use Rattle.model.specs.declared.ReadAnswer.{ReadAnswer}
 use Rattle.model.specs.declared.ReadAnswer.the-variants.{At, Refused}
 use Rattle.reader.specs.declared.chunks.ChunksRead.{ChunksRead}
@@ -22,8 +22,8 @@ use Rattle.nearest_position.specs.declared.scan.Scan.{Scan}
 
 -- s is what is seen of the code chunks of x
 pub record SeesIn (C : Code) (x : ReceivedWord) (s : Seen) : Type 0 where
-  pub first : s .read₁ ≡ heardReading C (chunk₁ C (marked (place (x .heard)))) (chunk₁ C (place (x .bits)))
-  pub second : s .read₂ ≡ heardReading C (chunk₂ C (marked (place (x .heard)))) (chunk₂ C (place (x .bits)))
+  pub first : s .read₁ ≡ erasureReading C (chunk₁ C (marked (place (x .unerased)))) (chunk₁ C (place (x .bits)))
+  pub second : s .read₂ ≡ erasureReading C (chunk₂ C (marked (place (x .unerased)))) (chunk₂ C (place (x .bits)))
 
 -- what is answered of a search that has come to the last position that the rule allows, with the bits that either code chunk needed
 unfoldable pub foundAt : Scan → (rule : ℕ) → ChunksRead → ReadAnswer

@@ -6,7 +6,7 @@ ghost use Rattle.bits.specs.Sums.{fromPlace, marked};
 ghost use Rattle.bits.specs.Places.{place};
 ghost use Rattle.model.specs.Decoded.{meaning};
 ghost use Rattle.model.specs.Words.{wordBits};
-ghost use Rattle.model.specs.Levels.{heardReading};
+ghost use Rattle.model.specs.Levels.{erasureReading};
 ghost use Rattle.code_theory.specs.Promise.{Sound};
 ghost use Rattle.position.specs.LayoutOf.{LayoutOf};
 ghost use Rattle.reader.specs.RuleAnswers.{ReadsNamed};
@@ -34,12 +34,12 @@ pub enum NamedChunks {
 // The code chunk that starts at this place.
 fn chunk_reading(code: DecodedCode, x: ReceivedWord, at: u32) -> Chunk
     requires { ⌜ Sound (meaning code) × (at + code .n ≤ wordBits (meaning code)) ⌝ }
-    ensures { λ r. ⌜ r ≡ heardReading (meaning code) (fromPlace at (marked (place (x .heard)))) (fromPlace at (place (x .bits))) ⌝ }
+    ensures { λ r. ⌜ r ≡ erasureReading (meaning code) (fromPlace at (marked (place (x .unerased)))) (fromPlace at (place (x .bits))) ⌝ }
 {
     let bits = x.bits;
-    let heard = x.heard;
+    let unerased = x.unerased;
     let chunk = places::bits_at(bits, at, code.n);
-    search::read_chunk(code, chunk, places::bits_at(heard, at, code.n))
+    search::read_chunk(code, chunk, places::bits_at(unerased, at, code.n))
 }
 
 // The chunks that the rule names.
@@ -48,28 +48,28 @@ pub fn chunks_named(code: DecodedCode, at: Layout, x: ReceivedWord, rule: u32) -
     ensures { λ r. ⌜ ReadsNamed (meaning code) x rule r ⌝ }
 {
     if rule == 2 {
-        let Chunk::Codeword { number, unlike } = chunk_reading(code, x, at.chunk2) else {
+        let Chunk::Codeword { number, differing } = chunk_reading(code, x, at.chunk2) else {
             return NamedChunks::Refused(10);
         };
         return NamedChunks::Read(ChunksRead {
             number,
             chunk1: ChunkBits::NotRead,
-            chunk2: ChunkBits::Differing(unlike),
+            chunk2: ChunkBits::Differing(differing),
         });
     }
-    let Chunk::Codeword { number, unlike } = chunk_reading(code, x, at.chunk1) else {
+    let Chunk::Codeword { number, differing } = chunk_reading(code, x, at.chunk1) else {
         return NamedChunks::Refused(10);
     };
     if rule == 1 {
         return NamedChunks::Read(ChunksRead {
             number,
-            chunk1: ChunkBits::Differing(unlike),
+            chunk1: ChunkBits::Differing(differing),
             chunk2: ChunkBits::NotRead,
         });
     }
     let Chunk::Codeword {
         number: second,
-        unlike: bits2,
+        differing: bits2,
     } = chunk_reading(code, x, at.chunk2)
     else {
         return NamedChunks::Refused(10);
@@ -79,7 +79,7 @@ pub fn chunks_named(code: DecodedCode, at: Layout, x: ReceivedWord, rule: u32) -
     }
     NamedChunks::Read(ChunksRead {
         number,
-        chunk1: ChunkBits::Differing(unlike),
+        chunk1: ChunkBits::Differing(differing),
         chunk2: ChunkBits::Differing(bits2),
     })
 }

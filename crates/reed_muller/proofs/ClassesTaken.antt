@@ -10,7 +10,7 @@ use lib.Bits.{bitAnd, bitXor, and-le-l}
 use lib.Count.{trailingZeros}
 use lib.ListN.{getD}
 use lib.Pow.{pow-mono, pow-pos}
-use Rattle.bits.specs.Sums.{unlike}
+use Rattle.bits.specs.Sums.{difference}
 use Rattle.bits.specs.Places.{bit}
 use Rattle.bits.proofs.Numbers.{lt-or-le, eq-or-ne}
 use Rattle.bits.proofs.Binary.{bit-bit, bit-zero, bit-ext, bit-ext-below, bit-and, bit-xor, bit-set-here, bit-set-other, bit-cleared}
@@ -54,10 +54,10 @@ module _ (y set positions sums row rest others v : ℕ) (is : rest ≡ others + 
   new = omega (arith, before .parts v, here, bit-bit set v)
 
   -- the word added to itself, shifted by 2^v
-  shifted : (d : ℕ) → d + 2 ^ v < 64 → bit (bitXor sums (sums * 2 ^ 2 ^ v % 2 ^ 64)) (d + 2 ^ v) ≡ unlike (bit sums (d + 2 ^ v)) (bit sums d)
+  shifted : (d : ℕ) → d + 2 ^ v < 64 → bit (bitXor sums (sums * 2 ^ 2 ^ v % 2 ^ 64)) (d + 2 ^ v) ≡ difference (bit sums (d + 2 ^ v)) (bit sums d)
   shifted d l =
       bit-xor sums (sums * 2 ^ 2 ^ v % 2 ^ 64) (d + 2 ^ v)
-      ∙ ap (unlike (bit sums (d + 2 ^ v)))
+      ∙ ap (difference (bit sums (d + 2 ^ v)))
       (remainder-kept 64 (sums * 2 ^ 2 ^ v) (d + 2 ^ v) l
       ∙ ap (bit (sums * 2 ^ 2 ^ v)) (add-comm d (2 ^ v))
       ∙ moved-above (2 ^ v) sums d)
@@ -66,7 +66,7 @@ module _ (y set positions sums row rest others v : ℕ) (is : rest ≡ others + 
       → bit (bitXor sums (sums * 2 ^ 2 ^ v % 2 ^ 64)) (d + 2 ^ v) ≡ classSum 6 (before .done + 2 ^ v) (bit y) (d + 2 ^ v)
   sum-more d l none has =
       shifted d l
-      ∙ ap₂ unlike (before .summed (d + 2 ^ v) l (has-if-every (before .done) (d + 2 ^ v) (λ w. with-v w (eq-or-ne w v))))
+      ∙ ap₂ difference (before .summed (d + 2 ^ v) l (has-if-every (before .done) (d + 2 ^ v) (λ w. with-v w (eq-or-ne w v))))
       (before .summed d (omega arith) (has-if-every (before .done) d (λ w. without-v w (eq-or-ne w v))))
       ∙ sym (class-sum-joined (before .done) v d new none 6 (bit y))
     where

@@ -8,7 +8,7 @@ use lib.Bits.{bitAnd, bitXor, and-mask}
 use lib.Count.{ones}
 use lib.ListN.{getD}
 use lib.Pow.{pow-pos}
-use Rattle.bits.specs.Sums.{sumBelow, distance, unlike}
+use Rattle.bits.specs.Sums.{sumBelow, distance, difference}
 use Rattle.bits.specs.Places.{bit, weight}
 use Rattle.bits.specs.Counting.{those}
 use Rattle.bits.proofs.Sums.{sum-ext, sum-add, sum-of-ones}
@@ -18,7 +18,7 @@ use Rattle.model.specs.ReedMuller.{setsOf, setsUpTo, countOfSets, productRow, c
 use Rattle.reed_muller_theory.proofs.Classes.{count-of-classes}
 use Rattle.reed_muller_theory.proofs.ClassSums.{product-of-none, class-sum-alone}
 use Rattle.reed_muller.specs.Table.{setsBefore}
-use Rattle.reed_muller.proofs.Votes.{votes-counted}
+use Rattle.reed_muller.proofs.ClassVotes.{votes-counted}
 use Rattle.reed_muller.proofs.RoundSteps.{RoundAt, round-starts, round-ends, most-for-one, not-most-for-one, not-voted, voted-for}
 use Rattle.reed_muller.proofs.VotedDown.{VotedDown, voting-goes-on}
 
@@ -32,16 +32,16 @@ module _ (m left : ℕ) (six : m ≤ 6) (narrow : left < 2 ^ 2 ^ m) where
       ∙ ap ones (ap (bitAnd left) (product-of-none m) ∙ and-mask left (2 ^ m) ∙ mod-eq-of-lt narrow)
 
   -- with all positions turned, the ones are the others
-  pub ones-turned : ones (bitXor left (2 ^ 2 ^ m - 1)) ≡ 2 ^ m - ones left
+  pub ones-damaged : ones (bitXor left (2 ^ 2 ^ m - 1)) ≡ 2 ^ m - ones left
   unfolding distance weight
-  ones-turned =
-      let others : sumBelow (λ p. unlike (bit left p) (bit (2 ^ 2 ^ m - 1) p)) (2 ^ m) + sumBelow (bit left) (2 ^ m) ≡ 2 ^ m =
-      sym (sum-add (λ p. unlike (bit left p) (bit (2 ^ 2 ^ m - 1) p)) (bit left) (2 ^ m))
+  ones-damaged =
+      let others : sumBelow (λ p. difference (bit left p) (bit (2 ^ 2 ^ m - 1) p)) (2 ^ m) + sumBelow (bit left) (2 ^ m) ≡ 2 ^ m =
+      sym (sum-add (λ p. difference (bit left p) (bit (2 ^ 2 ^ m - 1) p)) (bit left) (2 ^ m))
       ∙ sum-ext (2 ^ m) (λ p l. one-of-two p l)
       ∙ sum-of-ones (2 ^ m) in
       omega (arith, others, ones-xor (2 ^ m) left (2 ^ 2 ^ m - 1) narrow (omega (arith, pow-pos (2 ^ m))), weight-ones (2 ^ m) left narrow)
     where
-      one-of-two : (p : ℕ) → p < 2 ^ m → unlike (bit left p) (bit (2 ^ 2 ^ m - 1) p) + bit left p ≡ 1
+      one-of-two : (p : ℕ) → p < 2 ^ m → difference (bit left p) (bit (2 ^ 2 ^ m - 1) p) + bit left p ≡ 1
       one-of-two p l = rw (bit-all-ones (2 ^ m) p l) (omega (arith, bit-bit left p))
 
 module _ (r m chunk left rows : ℕ) (six : m ≤ 6) (here : VotedDown r m chunk 1 left rows) where

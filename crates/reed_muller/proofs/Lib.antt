@@ -1,7 +1,7 @@
 pub mod Tables
 pub mod FilledRows
 pub mod ClassesTaken
-pub mod Votes
+pub mod ClassVotes
 pub mod RoundSteps
 pub mod VotedDown
 pub mod LastRound

@@ -13,19 +13,19 @@ use lib.ListN.{length, getD, drop, length-append}
 use lib.Pow.{pow-mono}
 use lib.Seq.{drop-cons, drop-length, drop-append-seam, getD-append-add}
 use borrow.Author.Tests.{lt-ltb, le-ltb, eqb-true}
-use Rattle.bits.specs.Sums.{sumOver, unlike}
+use Rattle.bits.specs.Sums.{sumOver, difference}
 use Rattle.bits.specs.Places.{bit, weight}
 use Rattle.bits.proofs.Sums.{sum-mono}
 use Rattle.bits.proofs.Binary.{bit-bit, bit-xor, weight-zero, weight-wider}
 use Rattle.bits.proofs.Counting.{those-pass, kept, kept-below, kept-above}
-use Rattle.model.specs.ReedMuller.{product, setsOf, setsUpTo, countOfSets, productRow, classSum, classes, votesForOne, coefficient, round}
+use Rattle.model.specs.ReedMuller.{product, setsOf, setsUpTo, countOfSets, productRow, classSum, classes, votesForOne, coefficient, voteRound}
 use Rattle.reed_muller_theory.proofs.OrderLimits.{count-grows}
 use Rattle.reed_muller_theory.proofs.Vote.{vote-bit}
-use Rattle.reed_muller_theory.proofs.LeastDistance.{classes-of-largest}
+use Rattle.reed_muller_theory.proofs.ReedMullerDistance.{classes-of-largest}
 use Rattle.reed_muller_theory.proofs.Polynomials.{product-row-bit, product-row-narrow}
 use Rattle.reed_muller_theory.proofs.FewerVariables.{kept-sets-of, kept-sets}
 use Rattle.reed_muller.specs.Table.{setsBefore}
-use Rattle.reed_muller.specs.Rounds.{bitsThen, rowsAfter, LeftBy}
+use Rattle.reed_muller.specs.RoundResult.{bitsThen, rowsAfter, LeftBy}
 use Rattle.reed_muller.proofs.FilledRows.{kept-last}
 
 -- ---- bits of the entries of a list
@@ -128,7 +128,7 @@ module _ (m s y rows : ℕ) where
   -- all at their start
   pub round-ends : (at left found : ℕ) → m ≤ 6 → RoundAt m s y rows at left found → at ≡ setsBefore s
       → LeftBy m s y left × (found ≡ rowsAfter m s y rows)
-  unfolding round
+  unfolding voteRound
   round-ends at left found six here done =
       let all : met m s at ≡ setsOf m s = rw done (ap (kept (2 ^ m)) (block s) ∙ kept-sets-of m 6 s six) in
       (record { narrow = here .narrow; bits = λ p l. rw all at (here .bits p l) }, rw all at (here .counted))
@@ -193,11 +193,11 @@ module _ (m s y rows : ℕ) where
             bits = λ p l.
                 rw (grown, one)
                 (bit-xor left row p
-                ∙ ap (unlike (bit left p)) (ap (λ (x : ℕ). bit x p) is ∙ product-row-bit m S p l)
-                ∙ ap (λ (x : ℕ). unlike x (product S p)) (here .bits p l)
+                ∙ ap (difference (bit left p)) (ap (λ (x : ℕ). bit x p) is ∙ product-row-bit m S p l)
+                ∙ ap (λ (x : ℕ). difference x (product S p)) (here .bits p l)
                 ∙ one-more (bit y p) (sumOver (met m s (at + 1)) (λ T. coefficient m (bit y) T * product T p)) (product S p));
             counted = rw (grown, one) (omega (arith, here .counted));
           }
         where
-          one-more : (a x q : ℕ) → unlike ((a + x) % 2) q ≡ (a + (1 * q + x)) % 2
+          one-more : (a x q : ℕ) → difference ((a + x) % 2) q ≡ (a + (1 * q + x)) % 2
           one-more a x q = omega arith

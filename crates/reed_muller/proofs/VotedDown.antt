@@ -20,14 +20,14 @@ use Rattle.bits.proofs.Counting.{those-pass}
 use Rattle.model.specs.Card.{radius}
 use Rattle.model.specs.Order.{gray}
 use Rattle.model.specs.Reading.{withinRadius}
-use Rattle.model.specs.ReedMuller.{setsOf, setsUpTo, countOfSets, reedMuller, classSum, classes, votesForOne, coefficient, round, afterRounds, voted}
+use Rattle.model.specs.ReedMuller.{setsOf, setsUpTo, countOfSets, reedMuller, classSum, classes, votesForOne, coefficient, voteRound, afterRounds, voted}
 use Rattle.model.specs.ReedMuller.{product, votedRows, votedNumber, votedDistance, votedWithin, votedReading}
 use Rattle.model.specs.declared.Chunk.the-variants.{Codeword, Unreadable}
 use Rattle.reed_muller_theory.proofs.Vote.{vote-bit}
-use Rattle.reed_muller_theory.proofs.LeastDistance.{least-distance}
+use Rattle.reed_muller_theory.proofs.ReedMullerDistance.{least-distance}
 use Rattle.reed_muller_theory.proofs.VotedReading.{rows-below, number-is, tied-is-unreadable}
 use Rattle.reed_muller_theory.proofs.LeftOver.{left-count}
-use Rattle.reed_muller.specs.Rounds.{bitsThen, rowsAfter, Tied, LeftBy}
+use Rattle.reed_muller.specs.RoundResult.{bitsThen, rowsAfter, Tied, LeftBy}
 use Rattle.reed_muller.proofs.RoundSteps.{bits-bound}
 
 -- ---- a round goes by the positions
@@ -45,8 +45,8 @@ module _ (m : ℕ) (y x : ℕ → ℕ) (alike : (p : ℕ) → p < 2 ^ m → y p 
   unfolding coefficient
   coefficient-alike S = ap (λ (v : ℕ). cond (ltb (classes m S) (2 * v)) 1 0) (votes-alike S)
 
-  round-alike : (s p : ℕ) → p < 2 ^ m → round m s y p ≡ round m s x p
-  unfolding round
+  round-alike : (s p : ℕ) → p < 2 ^ m → voteRound m s y p ≡ voteRound m s x p
+  unfolding voteRound
   round-alike s p l =
       ap₂ (λ (a b : ℕ). (a + b) % 2) (alike p l) (ap (sumOver (setsOf m s)) (fun-ext (λ S. ap (λ (c : ℕ). c * product S p) (coefficient-alike S))))
 
@@ -130,7 +130,7 @@ module _ (r m chunk s left rows : ℕ) (here : VotedDown r m chunk (suc s) left 
   next-bits left′ by p l =
       let later : suc r - s ≡ suc (r - s) = omega (arith, here .started) in
       let now : s ≡ r - (r - s) = omega (arith, here .started) in
-      rw later (by .bits p l ∙ round-alike m (bit left) done alike s p l ∙ ap (λ (t : ℕ). round m t done p) now)
+      rw later (by .bits p l ∙ round-alike m (bit left) done alike s p l ∙ ap (λ (t : ℕ). voteRound m t done p) now)
 
   next-counted : bitsThen (setsBelow m s) (voted r m (bit chunk)) (rowsAfter m s left rows) ≡ votedRows r m (bit chunk)
   unfolding setsBelow setsOf
@@ -186,15 +186,15 @@ module _ (r m chunk left rows : ℕ) (order : r ≤ m) (here : VotedDown r m chu
   t-is : (t : ℕ) → t ≡ (2 ^ (m - r) - 1) / 2 → radius (reedMuller r m) ≡ t
   t-is t is = ap (λ (d : ℕ). (d - 1) / 2) (least-distance r m order) ∙ sym is
 
-  pub not-accepted : (t unlike : ℕ) → t ≡ (2 ^ (m - r) - 1) / 2 → unlike ≡ ones left → t < unlike → Unreadable ≡ votedReading r m (bit chunk)
+  pub not-accepted : (t differing : ℕ) → t ≡ (2 ^ (m - r) - 1) / 2 → differing ≡ ones left → t < differing → Unreadable ≡ votedReading r m (bit chunk)
   unfolding votedReading votedWithin votedDistance withinRadius
-  not-accepted t unlike is count far =
+  not-accepted t differing is count far =
       rw (lt-leb (votedDistance r m (bit chunk)) (radius (reedMuller r m)) (omega (arith, left-ones, t-is t is)))
 
-  pub accepted : (t unlike number : ℕ) → t ≡ (2 ^ (m - r) - 1) / 2 → unlike ≡ ones left → unlike ≤ t → gray number ≡ rows
-      → ((k : ℕ) → rows < 2 ^ k → number < 2 ^ k) → Codeword number unlike ≡ votedReading r m (bit chunk)
+  pub accepted : (t differing number : ℕ) → t ≡ (2 ^ (m - r) - 1) / 2 → differing ≡ ones left → differing ≤ t → gray number ≡ rows
+      → ((k : ℕ) → rows < 2 ^ k → number < 2 ^ k) → Codeword number differing ≡ votedReading r m (bit chunk)
   unfolding votedReading votedWithin withinRadius votedDistance setsBelow bitsThen
-  accepted t unlike number is count near named below =
+  accepted t differing number is count near named below =
       let found : rows ≡ votedRows r m (bit chunk) = here .counted in
       let is-number : votedNumber r m (bit chunk) ≡ number =
       number-is r m (bit chunk) number (below (countOfSets r m) (rw found (rows-below r m (bit chunk)))) (named ∙ found) in

@@ -1,2 +1,2 @@
 pub mod Table
-pub mod Rounds
+pub mod RoundResult

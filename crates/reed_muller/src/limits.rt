@@ -6,7 +6,7 @@ ghost use Rattle.model.specs.ReedMuller.{orderWithinLimits};
 const GREATEST_ORDER: [u8; 7] = [0, 1, 2, 3, 2, 1, 1];
 
 // Are r and m within the limits? m is tested before anything is taken from the table by it.
-pub fn within_limits(r: u32, m: u32) -> bool
+pub fn order_within_limits(r: u32, m: u32) -> bool
     ensures { λ a. ⌜ a ≡ orderWithinLimits r m ⌝ }
 {
     if m < 1 {

@@ -10,7 +10,7 @@ pub fn made_card(track: u16, r: u32, m: u32) -> [u8; 512]
     requires { ⌜ orderWithinLimits r m ≡ true ⌝ }
     ensures { λ a. ⌜ a ≡ reedMullerCard track r m ⌝ }
 {
-    let made = rows::rows_of(r, m);
+    let made = rows::product_rows(r, m);
     let rows = made.rows;
     card_writer::write_card(powers::two_to(m), made.count, track, rows)
 }

@@ -24,7 +24,7 @@ pub fn all_positions(m: u32) -> u64
 
 // The rows, by the table of sets: those that are not sets of the m variables are left out. The empty set comes first, whose product is a
 // one at each position. A row is the product of its set, whatever word is summed over the classes.
-pub fn rows_of(r: u32, m: u32) -> Rows
+pub fn product_rows(r: u32, m: u32) -> Rows
     requires { ⌜ orderWithinLimits r m ≡ true ⌝ }
     ensures { λ a. ⌜ (a .count ≡ countOfSets r m) × ((λ z. getD (a .rows) z 0) ≡ productOf r m) ⌝ }
 {

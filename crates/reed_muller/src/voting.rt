@@ -6,7 +6,7 @@ ghost use Rattle.bits.specs.Places.{bit};
 ghost use Rattle.model.specs.Order.{gray};
 ghost use Rattle.model.specs.ReedMuller.{setsUpTo, countOfSets, orderWithinLimits, votedReading};
 ghost use Rattle.reed_muller.specs.Table.{variableRows};
-ghost use Rattle.reed_muller.specs.Rounds.{rowsAfter, Tied, LeftBy};
+ghost use Rattle.reed_muller.specs.RoundResult.{rowsAfter, Tied, LeftBy};
 use super::products;
 use super::rows;
 use super::sets;
@@ -48,7 +48,7 @@ fn tie() -> Voted
 
 // One round, step 2 of document 004: the coefficient of each product of `size` variables is what most class sums of y are, and the
 // products with coefficient 1 are taken off. The table is gone through downwards, as the rounds are.
-fn round(m: u32, size: u32, y: u64, rows: u32, sets: &[u8; 42], variables: &[u64; 6]) -> Voted
+fn vote_round(m: u32, size: u32, y: u64, rows: u32, sets: &[u8; 42], variables: &[u64; 6]) -> Voted
     requires { ⌜ (m ≤ 6) × (size ≤ m) × (size ≤ 3) × (y < 2 ^ 2 ^ m) × ((rows + 1) * 2 ^ countOfSets size m ≤ 4096) × (0 < size) ⌝ }
     requires { ⌜ (now sets ≡ setsUpTo 6 3) × (now variables ≡ variableRows) ⌝ }
     ensures tied { λ a. ⌜ (a .tied ≡ true → Tied m size y) ⌝ }
@@ -98,7 +98,7 @@ pub fn vote(r: u32, m: u32, chunk: u64) -> Chunk
     let mut rows: u32 = 0;
     let mut size = r;
     while size > 0 {
-        let voted = round(m, size, left, rows, &sets, &variables);
+        let voted = vote_round(m, size, left, rows, &sets, &variables);
         if voted.tied {
             return Chunk::Unreadable;
         }
@@ -107,17 +107,17 @@ pub fn vote(r: u32, m: u32, chunk: u64) -> Chunk
         size -= 1;
     }
     let n = powers::two_to(m);
-    let mut unlike = u64::count_ones(left);
+    let mut differing = u64::count_ones(left);
     rows *= 2;
-    if n < 2 * unlike {
-        unlike = n - unlike;
+    if n < 2 * differing {
+        differing = n - differing;
         rows += 1;
     }
-    if (powers::two_to(m - r) - 1) / 2 < unlike {
+    if (powers::two_to(m - r) - 1) / 2 < differing {
         return Chunk::Unreadable;
     }
     Chunk::Codeword {
         number: number_of(rows),
-        unlike,
+        differing,
     }
 }

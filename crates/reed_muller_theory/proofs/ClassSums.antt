@@ -11,7 +11,7 @@ use lib.Bits.{bitAnd, bitOr, or-zero-r, or-add-and, and-le-r}
 use lib.Dec.{eqb}
 use lib.Pow.{pow-mono, pow-pos}
 use borrow.Author.Tests.{eq-eqb, ne-eqb}
-use Rattle.bits.specs.Sums.{sumBelow, unlike}
+use Rattle.bits.specs.Sums.{sumBelow, difference}
 use Rattle.bits.specs.Places.{bit}
 use Rattle.bits.proofs.Numbers.{eq-or-ne}
 use Rattle.bits.proofs.Sums.{sum-ext, sum-add, sum-zero, sum-split, sum-one-odd}
@@ -119,7 +119,7 @@ module _ (A v d : ℕ) (new : bit A v ≡ 0) (clear : bit d v ≡ 0) where
       (eq-or-ne (bit p v) 1)
 
   pub class-sum-joined : (m : ℕ) (y : ℕ → ℕ)
-      → classSum m (A + 2 ^ v) y (d + 2 ^ v) ≡ unlike (classSum m A y (d + 2 ^ v)) (classSum m A y d)
+      → classSum m (A + 2 ^ v) y (d + 2 ^ v) ≡ difference (classSum m A y (d + 2 ^ v)) (classSum m A y d)
   unfolding classSum
   class-sum-joined m y =
       ap (λ (x : ℕ). x % 2)
@@ -127,7 +127,7 @@ module _ (A v d : ℕ) (new : bit A v ≡ 0) (clear : bit d v ≡ 0) where
       ∙ sum-add (λ p. cond (eqb (bitOr p A) (d + 2 ^ v)) (y p) 0) (λ p. cond (eqb (bitOr p A) d) (y p) 0) (2 ^ m))
       ∙ digits (sumBelow (λ p. cond (eqb (bitOr p A) (d + 2 ^ v)) (y p) 0) (2 ^ m)) (sumBelow (λ p. cond (eqb (bitOr p A) d) (y p) 0) (2 ^ m))
     where
-      digits : (a b : ℕ) → (a + b) % 2 ≡ unlike (a % 2) (b % 2)
+      digits : (a b : ℕ) → (a + b) % 2 ≡ difference (a % 2) (b % 2)
       digits a b = omega arith
 
       counted : (t : Bool) (a : ℕ) → cond t a 0 ≡ cond t 1 0 * a

@@ -7,14 +7,14 @@ use native.Mathlib.Nat.{sub-zero, sub-self}
 use native.Mathlib.Omega.{arith}
 use lib.Dec.{eqb}
 use borrow.Author.Tests.{eq-eqb, ne-eqb}
-use Rattle.bits.specs.Sums.{sumBelow, sumOver, distance, unlike}
+use Rattle.bits.specs.Sums.{sumBelow, sumOver, distance, difference}
 use Rattle.bits.specs.Places.{bit, weight}
 use Rattle.bits.proofs.Numbers.{eq-or-ne}
 use Rattle.bits.proofs.Sums.{sum-ext, sum-over-append, sum-over-entries}
 use Rattle.bits.proofs.Counting.{where-true}
 use Rattle.model.specs.Order.{codeword}
 use Rattle.model.specs.Reading.{chunkDistance}
-use Rattle.model.specs.ReedMuller.{product, setsOf, setsUpTo, setOf, countOfSets, productOf, reedMuller, coefficient, round, afterRounds, voted}
+use Rattle.model.specs.ReedMuller.{product, setsOf, setsUpTo, setOf, countOfSets, productOf, reedMuller, coefficient, voteRound, afterRounds, voted}
 use Rattle.model.specs.ReedMuller.{votedRows, votedNumber, votedDistance}
 use Rattle.reed_muller_theory.proofs.Sets.{sum-over-sets-of}
 use Rattle.reed_muller_theory.proofs.Polynomials.{bit-of-rows, product-row-bit, row-is-product}
@@ -50,7 +50,7 @@ module _ (r m : ℕ) (y : ℕ → ℕ) (p : ℕ) where
 
   -- what is left, and the shares that are still to be taken off, make up the chunk and all shares
   so-far : (j : ℕ) → j ≤ r → (afterRounds r m y j p + sumOver (setsUpTo m (r - j)) share) % 2 ≡ (y p + sumOver (setsUpTo m r) share) % 2
-  unfolding afterRounds round
+  unfolding afterRounds voteRound
   so-far zero l = rw (sub-zero r)
   so-far (suc j) l =
       let still : ℕ = sumOver (setsUpTo m (r - suc j)) share in
@@ -63,7 +63,7 @@ module _ (r m : ℕ) (y : ℕ → ℕ) (p : ℕ) where
       ∙ so-far j (omega arith)
 
   after-all : afterRounds r m y (suc r) p ≡ (y p + sumOver (setsUpTo m r) share) % 2
-  unfolding afterRounds round setsUpTo
+  unfolding afterRounds voteRound setsUpTo
   after-all =
       ap (λ (x : ℕ). (afterRounds r m y r p + x) % 2) (round-shares r (omega arith))
       ∙ ap (λ (s : ℕ). (afterRounds r m y r p + sumOver (setsOf m s) share) % 2) (sub-self r)
@@ -80,11 +80,11 @@ module _ (r m : ℕ) (y : ℕ → ℕ) (p : ℕ) where
       by-row : (z : ℕ) → z < countOfSets r m → bit (votedRows r m y) z * bit (productOf r m z) p ≡ share (setOf r m z)
       by-row z l = rw (row-voted r m y z l, row-is-product r m z l, product-row-bit m (setOf r m z) p h)
 
-  turned-off : (a s : ℕ) → (a + s) % 2 ≡ unlike (s % 2) a
-  turned-off a s = omega arith
+  flipped-off : (a s : ℕ) → (a + s) % 2 ≡ difference (s % 2) a
+  flipped-off a s = omega arith
 
-  pub left-over : p < 2 ^ m → afterRounds r m y (suc r) p ≡ unlike (bit (codeword (reedMuller r m) (votedNumber r m y)) p) (y p)
-  left-over h = after-all ∙ turned-off (y p) (sumOver (setsUpTo m r) share) ∙ ap (λ (x : ℕ). unlike x (y p)) (sym (voted-codeword h))
+  pub left-over : p < 2 ^ m → afterRounds r m y (suc r) p ≡ difference (bit (codeword (reedMuller r m) (votedNumber r m y)) p) (y p)
+  left-over h = after-all ∙ flipped-off (y p) (sumOver (setsUpTo m r) share) ∙ ap (λ (x : ℕ). difference x (y p)) (sym (voted-codeword h))
 
 -- so the ones that are left count the places in which the two differ
 pub left-count : (r m : ℕ) (y : ℕ → ℕ) → sumBelow (afterRounds r m y (suc r)) (2 ^ m) ≡ votedDistance r m y

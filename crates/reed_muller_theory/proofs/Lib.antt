@@ -3,7 +3,7 @@ pub mod Classes
 pub mod Sets
 pub mod OrderLimits
 pub mod Polynomials
-pub mod LeastDistance
+pub mod ReedMullerDistance
 pub mod Vote
 pub mod Rounds
 pub mod VotedReading
@@ -12,4 +12,4 @@ pub mod ClassSums
 pub mod FewerVariables
 pub mod MadeCards
 pub mod VoteAnswers
-pub mod Witnesses
+pub mod ReedMullerWitnesses

@@ -12,7 +12,7 @@ use Rattle.code_theory.proofs.CardFields.{written-card-sound, code-of-written}
 use Rattle.reed_muller_theory.specs.MadeCards.{IsReedMullerCard}
 use Rattle.reed_muller_theory.proofs.OrderLimits.{limits-of-test}
 use Rattle.reed_muller_theory.proofs.Polynomials.{no-row}
-use Rattle.reed_muller_theory.proofs.LeastDistance.{least-distance, sound-code}
+use Rattle.reed_muller_theory.proofs.ReedMullerDistance.{least-distance, sound-code}
 
 module _ (track r m : ℕ) (within : orderWithinLimits r m ≡ true) where
   sound : Sound (reedMuller r m)

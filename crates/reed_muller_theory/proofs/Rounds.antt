@@ -14,11 +14,11 @@ use Rattle.bits.specs.Places.{weight}
 use Rattle.bits.proofs.Numbers.{lt-or-le, eq-or-ne}
 use Rattle.bits.proofs.Sums.{sum-ext, sum-add}
 use Rattle.bits.proofs.Counting.{where-true}
-use Rattle.model.specs.ReedMuller.{product, setsOf, classes, votesForOne, coefficient, round, afterRounds, voted}
+use Rattle.model.specs.ReedMuller.{product, setsOf, classes, votesForOne, coefficient, voteRound, afterRounds, voted}
 use Rattle.reed_muller_theory.proofs.Sets.{sum-over-sets-of}
 use Rattle.reed_muller_theory.proofs.Polynomials.{valueAt, DegreeAtMost}
-use Rattle.reed_muller_theory.proofs.LeastDistance.{classes-at-least}
-use Rattle.reed_muller_theory.proofs.Vote.{Turned, no-tie, vote-right}
+use Rattle.reed_muller_theory.proofs.ReedMullerDistance.{classes-at-least}
+use Rattle.reed_muller_theory.proofs.Vote.{Damaged, no-tie, vote-right}
 
 -- the coefficients of the products of fewer than s variables
 abbrev lower : (m s : ℕ) (H : ℕ → ℕ) (T : ℕ) → ℕ
@@ -47,7 +47,7 @@ module _ (r m : ℕ) (order : r ≤ m) (H e : ℕ → ℕ) (bits : (T : ℕ) →
   lower-none s T l = rw (le-ltb (weight m T) s l)
 
   -- a vote on what is left before the round of S's size
-  module _ (S : ℕ) (below : S < 2 ^ m) (size : weight m S ≤ r) (y : ℕ → ℕ) (turned : Turned m (lower m (suc (weight m S)) H) e y) where
+  module _ (S : ℕ) (below : S < 2 ^ m) (size : weight m S ≤ r) (y : ℕ → ℕ) (damaged : Damaged m (lower m (suc (weight m S)) H) e y) where
     abbrev left : ℕ → ℕ
     left = lower m (suc (weight m S)) H
 
@@ -61,10 +61,10 @@ module _ (r m : ℕ) (order : r ≤ m) (H e : ℕ → ℕ) (bits : (T : ℕ) →
     enough = omega (arith, few, classes-at-least r m order S below size)
 
     round-right : coefficient m y S ≡ H S
-    round-right = vote-right m S left e y below no-larger turned (rw own (bits S)) enough ∙ own
+    round-right = vote-right m S left e y below no-larger damaged (rw own (bits S)) enough ∙ own
 
     round-clear : 2 * votesForOne m S y ≡ classes m S → ⊥
-    round-clear = no-tie m S left e y below no-larger turned (rw own (bits S)) enough
+    round-clear = no-tie m S left e y below no-larger damaged (rw own (bits S)) enough
 
   -- the products of s variables, with their coefficients
   abbrev ofSize : (s p : ℕ) → ℕ
@@ -86,30 +86,30 @@ module _ (r m : ℕ) (order : r ≤ m) (H e : ℕ → ℕ) (bits : (T : ℕ) →
           (lt-or-le (weight m T) s))
 
   -- what the votes of a round find
-  round-finds : (s : ℕ) → s ≤ r → (y : ℕ → ℕ) → Turned m (lower m (suc s) H) e y
+  round-finds : (s : ℕ) → s ≤ r → (y : ℕ → ℕ) → Damaged m (lower m (suc s) H) e y
       → (p : ℕ) → sumOver (setsOf m s) (λ S. coefficient m y S * product S p) ≡ ofSize s p
-  round-finds s l y turned p =
+  round-finds s l y damaged p =
       sum-over-sets-of m s (λ S. coefficient m y S * product S p) ∙ sum-ext (2 ^ m) (λ S k. right S k (eq-or-ne (weight m S) s))
     where
       right : (S : ℕ) → S < 2 ^ m → (weight m S ≡ s) ⊎ (weight m S ≡ s → ⊥)
           → where-true (λ S. eqb (weight m S) s) (λ S. coefficient m y S * product S p) S
           ≡ where-true (λ S. eqb (weight m S) s) (λ S. H S * product S p) S
-      right S k (inl is) = rw (eq-eqb (weight m S) s is, round-right S k (omega arith) y (rw is turned))
+      right S k (inl is) = rw (eq-eqb (weight m S) s is, round-right S k (omega arith) y (rw is damaged))
       right S k (inr other) = rw (ne-eqb (weight m S) s other)
 
   -- one round takes the products of s variables off
-  one-round : (s : ℕ) → s ≤ r → (y : ℕ → ℕ) → Turned m (lower m (suc s) H) e y → Turned m (lower m s H) e (round m s y)
-  unfolding round
-  one-round s l y turned p h =
+  one-round : (s : ℕ) → s ≤ r → (y : ℕ → ℕ) → Damaged m (lower m (suc s) H) e y → Damaged m (lower m s H) e (voteRound m s y)
+  unfolding voteRound
+  one-round s l y damaged p h =
       taken-off (y p) _ (valueAt m (lower m (suc s) H) p) (valueAt m (lower m s H) p) (ofSize s p) (e p)
-      (turned p h) (size-more s p) (round-finds s l y turned p)
+      (damaged p h) (size-more s p) (round-finds s l y damaged p)
 
-  module _ (y : ℕ → ℕ) (turned : Turned m H e y) where
-    pub after-rounds : (j : ℕ) → j ≤ suc r → Turned m (lower m (suc r - j) H) e (afterRounds r m y j)
+  module _ (y : ℕ → ℕ) (damaged : Damaged m H e y) where
+    pub after-rounds : (j : ℕ) → j ≤ suc r → Damaged m (lower m (suc r - j) H) e (afterRounds r m y j)
     unfolding afterRounds
     after-rounds zero l =
         rw (sub-zero (suc r))
-        (λ p h. turned p h ∙ ap (λ (x : ℕ). (x + e p) % 2) (sum-ext (2 ^ m) (λ T k. sym (ap (λ (x : ℕ). x * product T p) (all T k)))))
+        (λ p h. damaged p h ∙ ap (λ (x : ℕ). (x + e p) % 2) (sum-ext (2 ^ m) (λ T k. sym (ap (λ (x : ℕ). x * product T p) (all T k)))))
       where
         all : (T : ℕ) → T < 2 ^ m → lower m (suc r) H T ≡ H T
         all T k =
@@ -123,7 +123,7 @@ module _ (r m : ℕ) (order : r ≤ m) (H e : ℕ → ℕ) (bits : (T : ℕ) →
 
     -- so every vote is right, and none is tied
     module _ (S : ℕ) (below : S < 2 ^ m) (size : weight m S ≤ r) where
-      before : Turned m (lower m (suc (weight m S)) H) e (afterRounds r m y (r - weight m S))
+      before : Damaged m (lower m (suc (weight m S)) H) e (afterRounds r m y (r - weight m S))
       before =
           let left : suc r - (r - weight m S) ≡ suc (weight m S) = omega arith in
           rw (← left) (after-rounds (r - weight m S) (omega arith))

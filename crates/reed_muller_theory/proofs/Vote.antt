@@ -25,16 +25,16 @@ unfolding coefficient
 vote-bit m y S = by-test (λ (b : ℕ). b < 2) (ltb (classes m S) (2 * votesForOne m S y)) (λ e. omega arith) (λ e. omega arith)
 
 -- y is the polynomial with coefficients H, turned where e is 1
-abbrev pub Turned : (m : ℕ) (H e y : ℕ → ℕ) → Type 0
-Turned m H e y = (p : ℕ) → p < 2 ^ m → y p % 2 ≡ (valueAt m H p + e p) % 2
+abbrev pub Damaged : (m : ℕ) (H e y : ℕ → ℕ) → Type 0
+Damaged m H e y = (p : ℕ) → p < 2 ^ m → y p % 2 ≡ (valueAt m H p + e p) % 2
 
-module _ (m S : ℕ) (H e y : ℕ → ℕ) (below : S < 2 ^ m) (degree : DegreeAtMost m (weight m S) H) (turned : Turned m H e y) where
+module _ (m S : ℕ) (H e y : ℕ → ℕ) (below : S < 2 ^ m) (degree : DegreeAtMost m (weight m S) H) (damaged : Damaged m H e y) where
   -- how many positions of class c are turned
-  abbrev turnedIn : ℕ → ℕ
-  turnedIn c = sumBelow (λ p. member S c p * e p) (2 ^ m)
+  abbrev damagedIn : ℕ → ℕ
+  damagedIn c = sumBelow (λ p. member S c p * e p) (2 ^ m)
 
   -- a class sums to the coefficient, unless an odd number of its positions is turned
-  class-sum : (c : ℕ) → c < 2 ^ m → product S c ≡ 1 → classSum m S y c ≡ (H S + turnedIn c) % 2
+  class-sum : (c : ℕ) → c < 2 ^ m → product S c ≡ 1 → classSum m S y c ≡ (H S + damagedIn c) % 2
   unfolding classSum
   class-sum c l named =
       ap (λ (x : ℕ). x % 2) (sum-ext (2 ^ m) (λ p k. counted (eqb (bitOr p S) c) (y p)))
@@ -49,7 +49,7 @@ module _ (m S : ℕ) (H e y : ℕ → ℕ) (below : S < 2 ^ m) (degree : DegreeA
       by-parts : (p : ℕ) → p < 2 ^ m → member S c p * y p % 2 ≡ (member S c p * valueAt m H p + member S c p * e p) % 2
       by-parts p k =
           sym (times-parity (member S c p) (y p))
-          ∙ ap (λ (x : ℕ). member S c p * x % 2) (turned p k)
+          ∙ ap (λ (x : ℕ). member S c p * x % 2) (damaged p k)
           ∙ times-parity (member S c p) (valueAt m H p + e p)
           ∙ ap (λ (x : ℕ). x % 2) (omega arith)
 
@@ -58,7 +58,7 @@ module _ (m S : ℕ) (H e y : ℕ → ℕ) (below : S < 2 ^ m) (degree : DegreeA
   unfolding votesForOne
   few-for-one none = le-trans (sum-mono (2 ^ m) wrong) (classes-apart (2 ^ m) S e)
     where
-      wrong : (c : ℕ) → c < 2 ^ m → product S c * classSum m S y c ≤ turnedIn c
+      wrong : (c : ℕ) → c < 2 ^ m → product S c * classSum m S y c ≤ damagedIn c
       wrong c l =
           ⊎-elim
           (λ (named : product S c ≡ 1). rw (named, class-sum c l named, none) (omega arith))
@@ -69,9 +69,9 @@ module _ (m S : ℕ) (H e y : ℕ → ℕ) (below : S < 2 ^ m) (degree : DegreeA
   unfolding classes votesForOne
   few-for-zero one =
       le-trans (sum-mono (2 ^ m) wrong)
-      (rw (sum-add (λ c. product S c * classSum m S y c) turnedIn (2 ^ m)) (omega (arith, classes-apart (2 ^ m) S e)))
+      (rw (sum-add (λ c. product S c * classSum m S y c) damagedIn (2 ^ m)) (omega (arith, classes-apart (2 ^ m) S e)))
     where
-      wrong : (c : ℕ) → c < 2 ^ m → product S c ≤ product S c * classSum m S y c + turnedIn c
+      wrong : (c : ℕ) → c < 2 ^ m → product S c ≤ product S c * classSum m S y c + damagedIn c
       wrong c l =
           ⊎-elim
           (λ (named : product S c ≡ 1). rw (named, class-sum c l named, one) (omega arith))

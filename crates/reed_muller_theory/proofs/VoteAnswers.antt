@@ -18,7 +18,7 @@ use Rattle.model.specs.declared.VoteAnswer.{VoteAnswer}
 use Rattle.model.specs.declared.VoteAnswer.the-variants.{Voted, Refused}
 use Rattle.reed_muller_theory.specs.Votes.{ReadAsPromised, KeepsPromise, AnswersAsSearch, VotePromises}
 use Rattle.reed_muller_theory.proofs.OrderLimits.{limits-of-test}
-use Rattle.reed_muller_theory.proofs.LeastDistance.{sound-code}
+use Rattle.reed_muller_theory.proofs.ReedMullerDistance.{sound-code}
 use Rattle.reed_muller_theory.proofs.MadeCards.{code-of-made}
 use Rattle.reed_muller_theory.proofs.VotedReading.{voting-keeps, votes-as-search}
 
@@ -54,10 +54,10 @@ module _ (r m chunk : ℕ) (within : orderWithinLimits r m ≡ true) (narrow : c
         within = λ p e is. keeps .within (bit chunk) p e (reading-of (votedReading r m (bit chunk)) p e (sym answer-is ∙ is));
       }
 
-  told : (read : Chunk) → (voteStatus (answerFor read) ≡ chunkStatus read) × (voteValues (answerFor read) ≡ chunkValues read)
+  answered : (read : Chunk) → (voteStatus (answerFor read) ≡ chunkStatus read) × (voteValues (answerFor read) ≡ chunkValues read)
   unfolding answerFor voteStatus voteValues chunkStatus chunkValues
-  told (Codeword p e) = (refl, refl)
-  told Unreadable = (refl, refl)
+  answered (Codeword p e) = (refl, refl)
+  answered Unreadable = (refl, refl)
 
   alike : (track : ℕ) → voteAnswer r m chunk ≡ answerFor (chunkReading (codeOf (reedMullerCard track r m)) (bit chunk))
   alike track =
@@ -72,7 +72,7 @@ vote-keeps-promise r m chunk within narrow = promised r m chunk within narrow
 
 pub vote-as-search : (r m chunk : ℕ) → AnswersAsSearch r m chunk (voteAnswer r m chunk)
 vote-as-search r m chunk track within narrow =
-    rw (alike r m chunk within narrow track) (told r m chunk within narrow (chunkReading (codeOf (reedMullerCard track r m)) (bit chunk)))
+    rw (alike r m chunk within narrow track) (answered r m chunk within narrow (chunkReading (codeOf (reedMullerCard track r m)) (bit chunk)))
 
 pub vote-promises : (r m chunk : ℕ) → VotePromises r m chunk (voteAnswer r m chunk)
 vote-promises r m chunk = record { promised = vote-keeps-promise r m chunk; as-search = vote-as-search r m chunk }

@@ -9,7 +9,7 @@ use native.Mathlib.Omega.{arith}
 use lib.Dec.{eqb}
 use lib.Pow.{pow-pos, le-ones, lt-of-le-ones}
 use borrow.Author.Tests.{leb-true, eq-eqb, ne-eqb}
-use Rattle.bits.specs.Sums.{sumBelow, distance, unlike}
+use Rattle.bits.specs.Sums.{sumBelow, distance, difference}
 use Rattle.bits.specs.Places.{bit, weight}
 use Rattle.bits.proofs.Numbers.{not-true}
 use Rattle.bits.proofs.Binary.{bit-ext-below}
@@ -26,8 +26,8 @@ use Rattle.code_theory.proofs.Gray.{gray-below, gray-injective, gray-onto}
 use Rattle.code_theory.proofs.Promise.{promise, readers-agree}
 use Rattle.reed_muller_theory.proofs.Sets.{set-below, set-size}
 use Rattle.reed_muller_theory.proofs.Polynomials.{valueAt, coefficientOf, degree-of-codeword, codeword-is-polynomial}
-use Rattle.reed_muller_theory.proofs.LeastDistance.{coefficient-bit, coefficient-of-row, least-distance}
-use Rattle.reed_muller_theory.proofs.Vote.{vote-bit, Turned}
+use Rattle.reed_muller_theory.proofs.ReedMullerDistance.{coefficient-bit, coefficient-of-row, least-distance}
+use Rattle.reed_muller_theory.proofs.Vote.{vote-bit, Damaged}
 use Rattle.reed_muller_theory.proofs.Rounds.{voted-right, voted-clear}
 
 -- ---- the codeword that is voted for
@@ -61,8 +61,8 @@ module _ (r m : ℕ) (y : ℕ → ℕ) where
 
 -- ---- a chunk with a codeword within t
 
-turned-back : (v x : ℕ) → x % 2 ≡ (v + unlike (v % 2) x) % 2
-turned-back v x = simp (mod-add-mod, add-mod-mod) (omega arith)
+damaged-value : (v x : ℕ) → x % 2 ≡ (v + difference (v % 2) x) % 2
+damaged-value v x = simp (mod-add-mod, add-mod-mod) (omega arith)
 
 module _ (r m : ℕ) (order : r ≤ m) (x : ℕ → ℕ) (p : ℕ) (last : p ≤ lastCodeword (reedMuller r m))
     (near : withinRadius (reedMuller r m) x p ≡ true) where
@@ -70,17 +70,17 @@ module _ (r m : ℕ) (order : r ≤ m) (x : ℕ → ℕ) (p : ℕ) (last : p ≤
   abbrev H : ℕ → ℕ
   H = coefficientOf r m (gray p)
 
-  abbrev unlikeAt : ℕ → ℕ
-  unlikeAt q = unlike (bit (codeword (reedMuller r m) p) q) (x q)
+  abbrev differenceAt : ℕ → ℕ
+  differenceAt q = difference (bit (codeword (reedMuller r m) p) q) (x q)
 
-  turned : Turned m H unlikeAt x
+  damaged : Damaged m H differenceAt x
   unfolding codeword
-  turned q l = rw (codeword-is-polynomial r m (gray p) q l) (turned-back (valueAt m H q) (x q))
+  damaged q l = rw (codeword-is-polynomial r m (gray p) q l) (damaged-value (valueAt m H q) (x q))
 
-  few : 2 * sumBelow unlikeAt (2 ^ m) < 2 ^ (m - r)
+  few : 2 * sumBelow differenceAt (2 ^ m) < 2 ^ (m - r)
   unfolding withinRadius chunkDistance distance
   few =
-      let within : sumBelow unlikeAt (2 ^ m) ≤ radius (reedMuller r m) = leb-true (sumBelow unlikeAt (2 ^ m)) (radius (reedMuller r m)) near in
+      let within : sumBelow differenceAt (2 ^ m) ≤ radius (reedMuller r m) = leb-true (sumBelow differenceAt (2 ^ m)) (radius (reedMuller r m)) near in
       omega (arith, least-distance r m order, pow-pos (m - r))
 
   below : p < 2 ^ countOfSets r m
@@ -93,7 +93,7 @@ module _ (r m : ℕ) (order : r ≤ m) (x : ℕ → ℕ) (p : ℕ) (last : p ≤
       bit-ext-below (countOfSets r m) (votedRows r m x) (gray p) (rows-below r m x) (gray-below (countOfSets r m) p below)
       (λ z l.
       row-voted r m x z l
-      ∙ voted-right r m order H unlikeAt (coefficient-bit r m order (gray p)) (degree-of-codeword r m (gray p)) few x turned
+      ∙ voted-right r m order H differenceAt (coefficient-bit r m order (gray p)) (degree-of-codeword r m (gray p)) few x damaged
       (setOf r m z) (set-below r m z l) (set-size r m z l)
       ∙ coefficient-of-row r m order (gray p) z l)
 
@@ -107,7 +107,7 @@ module _ (r m : ℕ) (order : r ≤ m) (x : ℕ → ℕ) (p : ℕ) (last : p ≤
   -- ... and none is tied
   near-is-clear : (S : ℕ) → S < 2 ^ m → weight m S ≤ r → 2 * votesForOne m S (afterRounds r m x (r - weight m S)) ≡ classes m S → ⊥
   near-is-clear =
-      voted-clear r m order H unlikeAt (coefficient-bit r m order (gray p)) (degree-of-codeword r m (gray p)) few x turned
+      voted-clear r m order H differenceAt (coefficient-bit r m order (gray p)) (degree-of-codeword r m (gray p)) few x damaged
 
 -- ---- the promise of plain chunks
 

@@ -1,3 +1,3 @@
 pub mod MadeCards
 pub mod Votes
-pub mod Witnesses
+pub mod ReedMullerWitnesses

@@ -34,10 +34,10 @@ impl Received {
 }
 
 // A read that failed brought nothing.
-fn read_failed(told: &[u8]) -> Received
+fn read_failed(message: &[u8]) -> Received
     ensures { λ r. ⌜ r .count ≡ 0 ⌝ }
 {
-    os::fail(told);
+    os::fail(message);
     Received {
         count: 0,
         failed: true,
@@ -45,14 +45,14 @@ fn read_failed(told: &[u8]) -> Received
 }
 
 // A write that failed.
-fn write_failed(told: &[u8]) -> bool {
-    os::fail(told);
+fn write_failed(message: &[u8]) -> bool {
+    os::fail(message);
     false
 }
 
 // Reads once, into the buffer's bytes from place `held` up to `full`. There is room for one, so that nothing comes only where the input
 // has ended or the system failed. What is held stays as it is.
-pub fn receive(buffer: &mut [u8], held: usize, full: usize, told: &[u8]) -> Received
+pub fn receive(buffer: &mut [u8], held: usize, full: usize, message: &[u8]) -> Received
     requires { ⌜ (held < full) × (full ≤ length (now buffer)) ⌝ }
     ensures { λ r. ⌜ held + r .count ≤ full ⌝ }
     ensures { λ r. ⌜ take held (now (buffer .exit)) ≡ take held (now (buffer .entry)) ⌝ }
@@ -67,22 +67,22 @@ pub fn receive(buffer: &mut [u8], held: usize, full: usize, told: &[u8]) -> Rece
             };
         }
         if os::errno() != EINTR {
-            return read_failed(told);
+            return read_failed(message);
         }
         tries -= 1;
     }
-    read_failed(told)
+    read_failed(message)
 }
 
 // Reads until the buffer, which has room, is full or the input ends.
-pub fn receive_all(buffer: &mut [u8], told: &[u8]) -> Received
+pub fn receive_all(buffer: &mut [u8], message: &[u8]) -> Received
     requires { ⌜ 0 < length (now buffer) ⌝ }
     ensures { λ r. ⌜ r .count ≤ length (now (buffer .exit)) ⌝ }
 {
     let full = buffer.len();
     let mut held: usize = 0;
     while held < full {
-        let came = receive(buffer, held, full, told);
+        let came = receive(buffer, held, full, message);
         if came.count == 0 {
             return Received {
                 count: held,
@@ -98,20 +98,20 @@ pub fn receive_all(buffer: &mut [u8], told: &[u8]) -> Received
 }
 
 // Writes the first `end` bytes of the buffer, and answers whether all of them were taken.
-pub fn put_all(buffer: &[u8], end: usize, told: &[u8]) -> bool
+pub fn put_all(buffer: &[u8], end: usize, message: &[u8]) -> bool
     requires { ⌜ end ≤ length (now buffer) ⌝ }
 {
     let mut done: usize = 0;
     let mut tries = TRIES;
     while done < end {
         if tries == 0 {
-            return write_failed(told);
+            return write_failed(message);
         }
         let got = libc::write(STDOUT_FILENO, &buffer[done..end]);
         if got > 0 {
             done += io::count(got, &buffer[done..end]);
         } else if os::errno() != EINTR {
-            return write_failed(told);
+            return write_failed(message);
         }
         tries -= 1;
     }

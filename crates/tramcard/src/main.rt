@@ -5,11 +5,11 @@
 ghost use mathlib.Core.Path.{_≡_};
 ghost use lib.ListN.{length};
 ghost use Rattle.card_request.specs.Request.{requestAnswer};
-ghost use Rattle.card_request.specs.declared.Told.the-variants.{Made};
+ghost use Rattle.card_request.specs.declared.Outcome.the-variants.{Made};
 use card_request::NO_ORDER;
 use card_request::NO_TRACK;
 use card_request::NO_VARIABLES;
-use card_request::Told;
+use card_request::Outcome;
 use libc::STDERR_FILENO;
 
 // A buffer for an argument: the system hands a program none of more bytes.
@@ -19,25 +19,27 @@ fn argument_buffer() -> [u8; 131072]
     [0; 131072]
 }
 
-// Tells a line on standard error.
-fn tell(line: &[u8]) {
+// ChunkReads a line on standard error.
+fn print_error(line: &[u8]) {
     io::write_all(STDERR_FILENO, line);
 }
 
-// Tells why no card is made, by the number of the refusal.
-fn tell_refusal(refusal: u32) {
+// ChunkReads why no card is made, by the number of the refusal.
+fn print_refusal(refusal: u32) {
     match refusal {
-        NO_TRACK => tell(b"tramcard: TRACK is not a number from 0 to 65535\n"),
-        NO_ORDER => tell(b"tramcard: R is not a number from 0 to 4294967295\n"),
-        NO_VARIABLES => tell(b"tramcard: M is not a number from 0 to 4294967295\n"),
-        _ => tell(b"tramcard: refused 13: M is not 1 to 6, R is above M, or k is above 12\n"),
+        NO_TRACK => print_error(b"tramcard: TRACK is not a number from 0 to 65535\n"),
+        NO_ORDER => print_error(b"tramcard: R is not a number from 0 to 4294967295\n"),
+        NO_VARIABLES => print_error(b"tramcard: M is not a number from 0 to 4294967295\n"),
+        _ => print_error(
+            b"tramcard: refused 13: M is not 1 to 6, R is above M, or k is above 12\n",
+        ),
     }
 }
 
 // Puts out the card that these three texts are answered: it is told to be made, and these are its bytes. Nothing else goes to standard
 // output.
-fn put_out(track: &[u8], r: &[u8], m: &[u8], card: &[u8])
-    requires made { ⌜ requestAnswer (now track) (now r) (now m) .told ≡ Made ⌝ }
+fn put_out_card(track: &[u8], r: &[u8], m: &[u8], card: &[u8])
+    requires made { ⌜ requestAnswer (now track) (now r) (now m) .outcome ≡ Made ⌝ }
     requires its_bytes { ⌜ now card ≡ requestAnswer (now track) (now r) (now m) .card ⌝ }
 {
     standard_io::put_all(card, 512, b"tramcard: writing standard output");
@@ -46,7 +48,7 @@ fn put_out(track: &[u8], r: &[u8], m: &[u8], card: &[u8])
 // An argument that is missing, or has no room in its buffer, counts as an empty one, which is no number.
 fn main() {
     if os::arg_count() != 4 {
-        tell(
+        print_error(
             b"usage: tramcard TRACK R M > CARD   (three numbers in decimal; a card of 512 bytes)\n",
         );
         return;
@@ -58,10 +60,10 @@ fn main() {
     let r_end = os::arg(2, &mut r);
     let m_end = os::arg(3, &mut m);
     let answer = card_request::card_for(&track[..track_end], &r[..r_end], &m[..m_end]);
-    let told = answer.told;
+    let outcome = answer.outcome;
     let card = answer.card;
-    match told {
-        Told::Made => put_out(&track[..track_end], &r[..r_end], &m[..m_end], &card),
-        Told::Refused(refusal) => tell_refusal(refusal),
+    match outcome {
+        Outcome::Made => put_out_card(&track[..track_end], &r[..r_end], &m[..m_end], &card),
+        Outcome::Refused(refusal) => print_refusal(refusal),
     }
 }

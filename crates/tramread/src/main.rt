@@ -17,8 +17,8 @@ use report::lines;
 use standard_io::Received;
 use word_loop::Ended;
 
-// Tells on standard error how the program is used.
-fn tell_usage() {
+// ChunkReads on standard error how the program is used.
+fn print_usage() {
     io::write_all(
         STDERR_FILENO,
         b"usage: tramread < INPUT   (a card of 512 bytes, then words)\n",
@@ -70,7 +70,7 @@ fn report_on(came: Received, input: &mut [u8], out: &mut [u8]) -> Ended
 // The program takes no argument. Fewer than 512 bytes of input are a card of that many bytes.
 fn main() {
     if os::arg_count() > 1 {
-        tell_usage();
+        print_usage();
         return;
     }
     let mut input = input_buffer();

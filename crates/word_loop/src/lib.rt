@@ -33,7 +33,7 @@ pub enum Ended {
 }
 
 // Reads once, behind the bytes that the buffer holds, and up to place `full`.
-fn receive(buffer: &mut [u8], held: usize, full: usize) -> Received
+fn receive_words(buffer: &mut [u8], held: usize, full: usize) -> Received
     requires { ⌜ (held < full) × (full ≤ length (now buffer)) ⌝ }
     ensures { λ r. ⌜ held + r .count ≤ full ⌝ }
     ensures { λ r. ⌜ take held (now (buffer .exit)) ≡ take held (now (buffer .entry)) ⌝ }
@@ -41,7 +41,7 @@ fn receive(buffer: &mut [u8], held: usize, full: usize) -> Received
     standard_io::receive(buffer, held, full, b"tramread: reading standard input")
 }
 
-// Tells that the turns have run out, which is no end of the input.
+// ChunkReads that the turns have run out, which is no end of the input.
 fn out_of_turns() -> Ended
     ensures { λ r. ⌜ r ≡ Ended.Failed ⌝ }
 {
@@ -75,7 +75,7 @@ pub fn read_words(code: DecodedCode, input: &mut [u8], out: &mut [u8]) -> Ended
     while turns > 0 {
         let held = progress.held;
         let at = START + held;
-        let came = receive(input, at, full);
+        let came = receive_words(input, at, full);
         if came.failed() {
             return Ended::Failed;
         }

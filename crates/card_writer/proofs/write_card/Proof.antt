@@ -19,13 +19,13 @@ abbrev μ-loop : tie.MeasureT-loop
 loop-holds : tie.Need-loop-holds Inv-loop μ-loop
 loop-holds c =
     let args = c .before .before .before .args in
-    let header = c .before .put-number .ensures ∙ no-rows-yet (args .n) (args .k) (args .track) (λ y. getD (args .t4) y 0) in
+    let header = c .before .put-high-first .ensures ∙ no-rows-yet (args .n) (args .k) (args .track) (λ y. getD (args .t4) y 0) in
     (omega arith, rw header (length-so-far _ _ _ _ 0 (omega arith)), header)
 
 loop-again : tie.Need-loop-again Inv-loop μ-loop
 loop-again c =
     let loop = c .before .before .before .before .loop in
-    let row = (rw (loop .inv .2) at (c .before .put-number2 .ensures)) ∙ one-row-more _ _ _ _ (loop .z) (omega arith) in
+    let row = (rw (loop .inv .2) at (c .before .put-high-first2 .ensures)) ∙ one-row-more _ _ _ _ (loop .z) (omega arith) in
     (omega arith, rw row (length-so-far _ _ _ _ (loop .z + 1) (omega arith)), row)
 
 -- past the loop
@@ -40,7 +40,7 @@ computed-check-requires c κs =
 returns : tie.Need-returns Inv-loop μ-loop
 returns c =
     let all = all-rows (c .before .before .before .before .before) in
-    c .before .put-number3 .ensures ∙ rw (c .before .before .before .computed-check .ensures, all) (with-check _ _ _ _)
+    c .before .put-high-first3 .ensures ∙ rw (c .before .before .before .computed-check .ensures, all) (with-check _ _ _ _)
 
 pub write-card-spec : {M : Type 1} → statement M
 write-card-spec =

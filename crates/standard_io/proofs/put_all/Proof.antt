@@ -9,10 +9,10 @@ use Rattle.standard_io.proofs.put_all.Statement.{statement}
 use Rattle.standard_io.proofs.put_all.Tie as tie
 
 abbrev Inv-loop : tie.InvT-loop
-Inv-loop buffer end told done₀ tries₀ done tries = done ≤ end
+Inv-loop buffer end message done₀ tries₀ done tries = done ≤ end
 
 abbrev μ-loop : tie.MeasureT-loop
-μ-loop buffer end told done₀ tries₀ done tries = tries
+μ-loop buffer end message done₀ tries₀ done tries = tries
 
 loop-again : tie.Need-loop-again Inv-loop μ-loop
 loop-again c =

@@ -11,10 +11,10 @@ use Rattle.standard_io.proofs.receive.Statement.{statement}
 use Rattle.standard_io.proofs.receive.Tie as tie
 
 abbrev Inv-loop : tie.InvT-loop
-Inv-loop buffer₀ held full told tries₀ buffer tries = (length buffer ≡ length buffer₀) × (take held buffer ≡ take held buffer₀)
+Inv-loop buffer₀ held full message tries₀ buffer tries = (length buffer ≡ length buffer₀) × (take held buffer ≡ take held buffer₀)
 
 abbrev μ-loop : tie.MeasureT-loop
-μ-loop buffer₀ held full told tries₀ buffer tries = tries
+μ-loop buffer₀ held full message tries₀ buffer tries = tries
 
 -- a read keeps the invariant
 kept : (c : tie.After-read Inv-loop μ-loop)

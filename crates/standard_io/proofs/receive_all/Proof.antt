@@ -8,10 +8,10 @@ use Rattle.standard_io.proofs.receive_all.Statement.{statement}
 use Rattle.standard_io.proofs.receive_all.Tie as tie
 
 abbrev Inv-loop : tie.InvT-loop
-Inv-loop buffer₀ told full held₀ buffer held = (length buffer ≡ length buffer₀) × (held ≤ full)
+Inv-loop buffer₀ message full held₀ buffer held = (length buffer ≡ length buffer₀) × (held ≤ full)
 
 abbrev μ-loop : tie.MeasureT-loop
-μ-loop buffer₀ told full held₀ buffer held = full - held
+μ-loop buffer₀ message full held₀ buffer held = full - held
 
 pub receive-all-spec : {M : Type 1} → statement M
 receive-all-spec =

@@ -4,8 +4,8 @@ use borrow.Author.Needs.{needs}
 use Rattle.tramcard.proofs.main.Statement.{statement}
 use Rattle.tramcard.proofs.main.Tie as tie
 
-put-out-requires : tie.Need-put-out-requires
-put-out-requires c κs =
+put-out-card-requires : tie.Need-put-out-card-requires
+put-out-card-requires c κs =
     let matched = c .before .before .before .before in
     let answered = matched .before .before .before .card-for .ensures in
     rw (← answered .0) (matched .enum-told .given .1, refl)
@@ -42,7 +42,7 @@ main-spec =
     (λ c. search needs)
     (λ c. search needs)
     (λ c. search needs)
-    put-out-requires
+    put-out-card-requires
     (λ c. search needs)
     (λ c κs. search needs)
     (λ c. search needs)

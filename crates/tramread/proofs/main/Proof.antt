@@ -5,7 +5,7 @@ use native.Mathlib.Omega.{arith}
 use borrow.Author.Needs.{needs}
 use lib.ListN.{take}
 use Rattle.word_loop.specs.Parts.{LastPart}
-use Rattle.tramread.proofs.Parts.{last-part}
+use Rattle.tramread.proofs.PartsPutOut.{last-part}
 use Rattle.tramread.proofs.main.Statement.{statement}
 use Rattle.tramread.proofs.main.Tie as tie
 

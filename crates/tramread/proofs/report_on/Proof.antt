@@ -13,7 +13,7 @@ use Rattle.card_reader.specs.DecodedFrom.{DecodedFrom}
 use Rattle.report.specs.Lines.{cardLine}
 use Rattle.stream.proofs.Streaming.{text-at-front}
 use Rattle.word_loop.specs.Parts.{LastPart, OnlyAtEnd}
-use Rattle.tramread.proofs.Parts.{card-line-part, refused-card-line, words-behind-card}
+use Rattle.tramread.proofs.PartsPutOut.{card-line-part, refused-card-line, words-behind-card}
 use Rattle.tramread.proofs.report_on.Statement.{statement}
 use Rattle.tramread.proofs.report_on.Tie as tie
 

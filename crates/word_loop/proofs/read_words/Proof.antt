@@ -31,10 +31,10 @@ abbrev μ-loop : tie.MeasureT-loop
 abbrev counted : tie.After-take-in Inv-loop μ-loop → tie.After-count Inv-loop μ-loop
 counted c = c .before .before .before .before
 
-abbrev received : tie.After-count Inv-loop μ-loop → tie.After-receive Inv-loop μ-loop
+abbrev received : tie.After-count Inv-loop μ-loop → tie.After-receive-words Inv-loop μ-loop
 received c = c .before .before .before .before .before
 
-abbrev head : tie.After-receive Inv-loop μ-loop → tie.At-loop Inv-loop μ-loop
+abbrev head : tie.After-receive-words Inv-loop μ-loop → tie.At-loop Inv-loop μ-loop
 head c = c .before .before .before
 
 abbrev measured : tie.At-loop Inv-loop μ-loop → tie.After-word-length Inv-loop μ-loop
@@ -58,30 +58,30 @@ held-short c =
 add-at : tie.Need-add-at Inv-loop μ-loop
 add-at c = let short = held-short (c .before) in omega arith
 
-receive-requires : tie.Need-receive-requires Inv-loop μ-loop
-receive-requires c κs = let short = held-short (c .before .before) in (omega arith, omega arith)
+receive-words-requires : tie.Need-receive-words-requires Inv-loop μ-loop
+receive-words-requires c κs = let short = held-short (c .before .before) in (omega arith, omega arith)
 
 -- what is held is still there, with what was received behind it
-reached-again : (c : tie.After-receive Inv-loop μ-loop)
+reached-again : (c : tie.After-receive-words Inv-loop μ-loop)
     → let loop = head c .loop in
-    Reached (meaning (first (head c) .args .code)) (drop 512 (c .receive .last .0)) (loop .progress) (9007199254740992 - loop .turns)
+    Reached (meaning (first (head c) .args .code)) (drop 512 (c .receive-words .last .0)) (loop .progress) (9007199254740992 - loop .turns)
 reached-again c =
     let loop = head c .loop in
-    reached-still 512 (loop .input) (c .receive .last .0) (omega arith) (omega (arith, c .receive .kept .0)) (c .receive .ensures .1) (loop .inv .4)
+    reached-still 512 (loop .input) (c .receive-words .last .0) (omega arith) (omega (arith, c .receive-words .kept .0)) (c .receive-words .ensures .1) (loop .inv .4)
 
 -- the bytes that a turn takes in: those held, and those that came
 abbrev arrived : tie.After-count Inv-loop μ-loop → ℕ
 arrived c = head (received c) .loop .progress .held + c .count .result
 
 -- they stand within the buffer, behind the card
-inside : (c : tie.After-count Inv-loop μ-loop) → arrived c ≤ length (drop 512 (received c .receive .last .0))
-inside c = rw length-drop (omega (arith, received c .receive .ensures .0, received c .receive .kept .0))
+inside : (c : tie.After-count Inv-loop μ-loop) → arrived c ≤ length (drop 512 (received c .receive-words .last .0))
+inside c = rw length-drop (omega (arith, received c .receive-words .ensures .0, received c .receive-words .kept .0))
 
 -- they have no more than 1,600 whole words
 few : (c : tie.After-count Inv-loop μ-loop) → arrived c / wordLength (meaning (first (head (received c)) .args .code)) ≤ 1600
 few c =
     let length-of = measured (head (received c)) .word-length in
-    rw (← (length-of .ensures .0)) (div-le-of-le-mul (length-of .result) (omega (arith, received c .receive .ensures .0)))
+    rw (← (length-of .ensures .0)) (div-le-of-le-mul (length-of .result) (omega (arith, received c .receive-words .ensures .0)))
 
 returns : tie.Need-returns Inv-loop μ-loop
 unfolding LastPart OnlyAtEnd
@@ -90,7 +90,7 @@ returns c = (tt, tt)
 same-length-3 : tie.Need-same-length-3 Inv-loop μ-loop
 same-length-3 c =
     let come = received (c .before .before .before .before .before) in
-    come .receive .kept .0 ∙ head come .loop .inv .0 ∙ sym (first (head come) .pre .1 .1 .0)
+    come .receive-words .kept .0 ∙ head come .loop .inv .0 ∙ sym (first (head come) .pre .1 .1 .0)
 
 same-length-4 : tie.Need-same-length-4 Inv-loop μ-loop
 same-length-4 c =
@@ -115,7 +115,7 @@ returns-2 c =
     )
 
 add-take-in : tie.Need-add-take-in Inv-loop μ-loop
-add-take-in c = omega (arith, received (c .before .before .before) .receive .ensures .0)
+add-take-in c = omega (arith, received (c .before .before .before) .receive-words .ensures .0)
 
 take-in-requires : tie.Need-take-in-requires Inv-loop μ-loop
 take-in-requires c κs =
@@ -124,7 +124,7 @@ take-in-requires c κs =
     let words = few count in (
       first (head come) .pre .0,
       (
-        (omega arith, omega (arith, come .receive .ensures .0, come .receive .kept .0), few-read _ (head come .loop .inv .4 .streamed)),
+        (omega arith, omega (arith, come .receive-words .ensures .0, come .receive-words .kept .0), few-read _ (head come .loop .inv .4 .streamed)),
         (omega arith, omega arith),
       ),
     )
@@ -138,7 +138,7 @@ turned c =
     let come = received count in
     let taken = c .take-in .ensures .0 in
     let words = few count in
-    let arrive : length (take (arrived count) (drop 512 (come .receive .last .0))) ≡ arrived count =
+    let arrive : length (take (arrived count) (drop 512 (come .receive-words .last .0))) ≡ arrived count =
     length-take-le _ _ (inside count) in
     (omega (arith, rw arrive at (taken .met)), omega (arith, rw arrive at (taken .room)))
 
@@ -147,7 +147,7 @@ still-long : (c : tie.After-take-in Inv-loop μ-loop) → (length (c .take-in .l
 still-long c =
     let come = received (counted c) in
     let inv = head come .loop .inv in
-    (c .take-in .kept .1 .1 .0 ∙ come .receive .kept .0 ∙ inv .0, c .take-in .kept .0 ∙ inv .1)
+    (c .take-in .kept .1 .1 .0 ∙ come .receive-words .kept .0 ∙ inv .0, c .take-in .kept .0 ∙ inv .1)
 
 put-out-requires : tie.Need-put-out-requires Inv-loop μ-loop
 unfolding Follows
@@ -208,7 +208,7 @@ read-words-spec =
     (λ c κs. search needs)
     loop-holds
     add-at
-    receive-requires
+    receive-words-requires
     (λ c κs. search needs)
     (λ c. search needs)
     (λ c. search needs)

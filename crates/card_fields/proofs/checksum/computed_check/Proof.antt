@@ -4,7 +4,7 @@ use mathlib.Core.Path.{sym, _∙_}
 use mathlib.Core.Logic.{⊎-elim}
 use borrow.Author.Needs.{needs}
 use Rattle.model.specs.Card.{computedCheck}
-use Rattle.card_fields.proofs.CardBytes.{ends-at-used}
+use Rattle.card_fields.proofs.BytesRead.{ends-at-used}
 use Rattle.card_fields.proofs.checksum.computed_check.Statement.{statement}
 use Rattle.card_fields.proofs.checksum.computed_check.Tie as tie
 

@@ -7,7 +7,7 @@ use native.Mathlib.Omega.{arith}
 use Rattle.bits.specs.Sums.{sumBelow}
 use Rattle.bits.proofs.Sums.{sum-more}
 use Rattle.model.specs.Card.{checkShare}
-use Rattle.card_fields.proofs.CardBytes.{share-most}
+use Rattle.card_fields.proofs.BytesRead.{share-most}
 use Rattle.card_fields.proofs.checksum.weighted_sum.Statement.{statement}
 use Rattle.card_fields.proofs.checksum.weighted_sum.Tie as tie
 

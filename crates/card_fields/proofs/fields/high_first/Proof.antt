@@ -6,7 +6,7 @@ use borrow.Author.Needs.{needs}
 use native.Mathlib.Nat.{sub-self}
 use native.Mathlib.Omega.{arith}
 use Rattle.model.specs.Card.{highFirst}
-use Rattle.card_fields.proofs.CardBytes.{high-first-more, byte-more, bytes-fit}
+use Rattle.card_fields.proofs.BytesRead.{high-first-more, byte-more, bytes-fit}
 use Rattle.card_fields.proofs.fields.high_first.Statement.{statement}
 use Rattle.card_fields.proofs.fields.high_first.Tie as tie
 

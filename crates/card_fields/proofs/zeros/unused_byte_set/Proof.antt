@@ -8,7 +8,7 @@ use native.Mathlib.Omega.{arith}
 use lib.Dec.{eqb}
 use Rattle.bits.specs.Searches.{anyBelow}
 use Rattle.model.specs.Card.{byte, unusedByteSet}
-use Rattle.card_fields.proofs.CardBytes.{join-more}
+use Rattle.card_fields.proofs.BytesRead.{join-more}
 use Rattle.card_fields.proofs.zeros.unused_byte_set.Statement.{statement}
 use Rattle.card_fields.proofs.zeros.unused_byte_set.Tie as tie
 

@@ -15,10 +15,10 @@ use mir.Syntax.{w32}
 use mir.Val.{toZ, ofZ}
 use Rattle.model.specs.Card.{lengthOf, rowCountOf, rowOf, offsetOf, storedCheck, computedCheck, withinLimits, misplaced, offsetOutside}
 use Rattle.code_theory.proofs.SoundCard.{limits-of-test}
-use Rattle.card_reader.proofs.Decoding.{least, least-of-card, refusal-4, refusal-14, refusal-5, not-refused, code-of-least}
-use Rattle.card_reader.proofs.Decoding.{refused-from, decoded-from}
+use Rattle.card_reader.proofs.CardDecoding.{least, least-of-card, refusal-4, refusal-14, refusal-5, not-refused, code-of-least}
+use Rattle.card_reader.proofs.CardDecoding.{refused-from, decoded-from}
 use Rattle.card_reader.proofs.SplitRows.{Narrow}
-use Rattle.card_reader.proofs.Refusals.{refusal-1, refusal-2, refusal-3, misplaced-of-card}
+use Rattle.card_reader.proofs.CardRefusals.{refusal-1, refusal-2, refusal-3, misplaced-of-card}
 use Rattle.card_reader.proofs.decode.decode.Statement.{statement}
 use Rattle.card_reader.proofs.decode.decode.Tie as tie
 
@@ -84,12 +84,12 @@ offset c = toZ w32 (ofZ w32 (c .offset-of .result))
 is-offset : (c : tie.After-offset-of) → offset c ≡ offsetOf (card₄ (c .before))
 is-offset c = toZ-ofZ (record { sfits = c .offset-of .ok }) ∙ c .offset-of .ensures
 
-is-outside : (c : tie.After-is-outside) → c .is-outside .result ≡ offsetOutside (offsetOf (card₄ (c .before .before)))
-is-outside c = rw (is-offset (c .before)) at (c .is-outside .ensures)
+offset-is-outside : (c : tie.After-offset-is-outside) → c .offset-is-outside .result ≡ offsetOutside (offsetOf (card₄ (c .before .before)))
+offset-is-outside c = rw (is-offset (c .before)) at (c .offset-is-outside .ensures)
 
 -- past the fifth test: the offset is in its range, and the least weight of the card's rows
 in-range : (c : tie.Else5) → offsetOutside (offsetOf (card₄ (fourth-passed c))) ≡ false
-in-range c = sym (is-outside (c .before)) ∙ c .if5 .left
+in-range c = sym (offset-is-outside (c .before)) ∙ c .if5 .left
 
 is-least : (c : tie.After-least-weight)
     → let b = card₄ (fourth-passed (c .before)) in Narrow (lengthOf b) (rowCountOf b) (rowOf b) → c .least-weight .result ≡ least b
@@ -132,11 +132,11 @@ least-weight-requires c κs =
 
 returns-5 : tie.Need-returns-5
 returns-5 c =
-    let told = c .before .before in
-    let fourth = told .before .before in
+    let tested = c .before .before in
+    let fourth = tested .before .before in
     let third = third-passed fourth in
     let second = second-passed third in
-    let test = sym (is-outside told) ∙ c .before .if5 .taken in
+    let test = sym (offset-is-outside tested) ∙ c .before .if5 .taken in
     refused-from _ _ 14 (c .refused5 .ensures)
     (refusal-14 _ (within third) (whole second) (checked second) (placed fourth) test)
     (λ e. omega arith)

@@ -2,7 +2,7 @@
 -- so its figures are those of the card. Assumes nothing.
 use Rattle.model.specs.Decoded.{meaning}
 use Rattle.code_theory.specs.Promise.{Sound}
-use Rattle.depot.proofs.Checking.{card-refused, card-sound}
+use Rattle.depot.proofs.CheckContract.{card-refused, card-sound}
 use Rattle.depot.proofs.cards.card_answer.Statement.{statement}
 use Rattle.depot.proofs.cards.card_answer.Tie as tie
 

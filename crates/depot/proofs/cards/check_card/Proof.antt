@@ -1,7 +1,7 @@
 -- `depot::cards::check_card` meets its contract: `card_answer` answers for every card that decodes to its argument, and this card does.
 -- Assumes nothing.
 use borrow.Author.Needs.{needs}
-use Rattle.depot.proofs.Checking.{card-checked}
+use Rattle.depot.proofs.CheckContract.{card-checked}
 use Rattle.depot.proofs.cards.check_card.Statement.{statement}
 use Rattle.depot.proofs.cards.check_card.Tie as tie
 

@@ -7,16 +7,16 @@ use borrow.Author.Needs.{needs}
 use borrow.Author.Tests.{not-true, not-false}
 use Rattle.model.specs.ReedMuller.{orderWithinLimits}
 use Rattle.reed_muller_theory.proofs.OrderLimits.{limits-of-test}
-use Rattle.depot.proofs.Voting.{vote-outside, vote-too-wide, narrow-enough, vote-unreadable, vote-read}
+use Rattle.depot.proofs.VoteContract.{vote-outside, vote-too-wide, narrow-enough, vote-unreadable, vote-read}
 use Rattle.depot.proofs.codes.vote_chunk.Statement.{statement}
 use Rattle.depot.proofs.codes.vote_chunk.Tie as tie
 
 returns : tie.Need-returns
-returns c = vote-outside _ _ _ (sym (c .before .within-limits .ensures) ∙ not-true _ (c .if1 .taken))
+returns c = vote-outside _ _ _ (sym (c .before .order-within-limits .ensures) ∙ not-true _ (c .if1 .taken))
 
 -- past the limits
 within : (c : tie.Else1) → orderWithinLimits (c .before .before .args .r) (c .before .before .args .m) ≡ true
-within c = sym (c .before .within-limits .ensures) ∙ not-false _ (c .if1 .left)
+within c = sym (c .before .order-within-limits .ensures) ∙ not-false _ (c .if1 .left)
 
 all-positions-requires : tie.Need-all-positions-requires
 all-positions-requires c κs = limits-of-test _ _ (within c) .1

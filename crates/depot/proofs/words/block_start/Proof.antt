@@ -3,7 +3,7 @@
 use borrow.Author.Needs.{needs}
 use Rattle.model.specs.Decoded.{meaning}
 use Rattle.code_theory.specs.Promise.{Sound}
-use Rattle.depot.proofs.BlockStarts.{start-refused, start-above, start-within}
+use Rattle.depot.proofs.StartContract.{start-refused, start-above, start-within}
 use Rattle.depot.proofs.words.block_start.Statement.{statement}
 use Rattle.depot.proofs.words.block_start.Tie as tie
 
@@ -22,8 +22,8 @@ returns-2 c =
     let passed = c .before .before .before in
     start-above _ _ (passed .before .before .decode .ensures) (passed .if1 .left) _ _ (c .before .last-codeword .ensures) (c .if2 .taken)
 
-block-start-requires : tie.Need-block-start-requires
-block-start-requires c κs =
+start-of-block-requires : tie.Need-start-of-block-requires
+start-of-block-requires c κs =
     let passed = c .before .before .before in
     (sound passed, rw (c .before .last-codeword .ensures) at (c .if2 .left))
 
@@ -32,7 +32,7 @@ returns-3 c =
     let within = c .before in
     let passed = within .before .before .before in
     start-within _ _ (passed .before .before .decode .ensures) (passed .if1 .left) _ _ _
-    (within .before .last-codeword .ensures) (within .if2 .left) (c .block-start .ensures)
+    (within .before .last-codeword .ensures) (within .if2 .left) (c .start-of-block .ensures)
 
 pub block-start-spec : {M : Type 1} → statement M
 block-start-spec =
@@ -42,5 +42,5 @@ block-start-spec =
     returns
     last-codeword-requires
     returns-2
-    block-start-requires
+    start-of-block-requires
     returns-3)

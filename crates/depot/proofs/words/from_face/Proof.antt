@@ -9,7 +9,7 @@ use mir.Facts.{toZ-ofZ, toZ-pos}
 use mir.Syntax.{w32}
 use mir.Val.{SFits, toZ, ofZ}
 use Rattle.model.specs.Words.{millimetresOf}
-use Rattle.depot.proofs.Distances.{sum-fits}
+use Rattle.depot.proofs.MillimetresContract.{sum-fits}
 use Rattle.depot.proofs.words.from_face.Statement.{statement}
 use Rattle.depot.proofs.words.from_face.Tie as tie
 

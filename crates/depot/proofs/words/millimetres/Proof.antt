@@ -10,7 +10,7 @@ use mir.Val.{toZ, ofZ}
 use Rattle.model.specs.Decoded.{meaning}
 use Rattle.code_theory.specs.Promise.{Sound}
 use Rattle.code_theory.proofs.Starts.{last-position-bound}
-use Rattle.depot.proofs.Distances.{offset-fits, offset-within, millimetres-refused, millimetres-above, millimetres-within}
+use Rattle.depot.proofs.MillimetresContract.{offset-fits, offset-within, millimetres-refused, millimetres-above, millimetres-within}
 use Rattle.depot.proofs.words.millimetres.Statement.{statement}
 use Rattle.depot.proofs.words.millimetres.Tie as tie
 

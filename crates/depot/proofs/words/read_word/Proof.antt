@@ -2,7 +2,7 @@
 -- is sound, as the reader asks; either answer is the one that the definition gives, of which the clauses are theorems. Assumes
 -- nothing.
 use borrow.Author.Needs.{needs}
-use Rattle.depot.proofs.Reading.{read-card-refused, word-read}
+use Rattle.depot.proofs.ReadContract.{read-card-refused, word-read}
 use Rattle.depot.proofs.words.read_word.Statement.{statement}
 use Rattle.depot.proofs.words.read_word.Tie as tie
 

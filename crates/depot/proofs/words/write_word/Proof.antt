@@ -9,7 +9,7 @@ use Rattle.model.specs.Decoded.{meaning}
 use Rattle.model.specs.Order.{lastPosition}
 use Rattle.model.specs.Words.{wordLength}
 use Rattle.code_theory.specs.Promise.{Sound}
-use Rattle.depot.proofs.Writing.{Passed, write-card-refused, refused-6, refused-7, written}
+use Rattle.depot.proofs.WriteContract.{Passed, write-card-refused, refused-6, refused-7, written}
 use Rattle.depot.proofs.words.write_word.Statement.{statement}
 use Rattle.depot.proofs.words.write_word.Tie as tie
 

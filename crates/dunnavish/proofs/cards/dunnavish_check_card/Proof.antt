@@ -3,7 +3,7 @@ use mathlib.Core.Path.{refl}
 use native.Mathlib.Omega.{arith}
 use borrow.Author.Needs.{needs}
 use lib.ListN.{length-set}
-use Rattle.model.specs.CheckCard.{cardStatus, cardValues, cardFigures}
+use Rattle.model.specs.CheckCard.{cardStatus, cardValues, cardExpected}
 use Rattle.model.specs.declared.CardAnswer.the-variants.{Refused}
 use Rattle.code_theory.specs.Offsets.{CheckPromises}
 use Rattle.dunnavish.specs.Decoding.{cardLeft}
@@ -15,7 +15,7 @@ returns : tie.Need-returns
 returns c = wrong-count cardStatus cardValues Refused cardLeft (CheckPromises _) _ _ (c .if1 .taken)
 
 returns-2 : tie.Need-returns-2
-unfolding cardStatus cardValues cardFigures cardLeft
+unfolding cardStatus cardValues cardExpected cardLeft
 returns-2 c =
     let asked = c .before .before .before in
     refused cardStatus cardValues Refused cardLeft (CheckPromises _) _ _ (asked .before .if1 .left) _ (asked .check-card .ensures) refl _

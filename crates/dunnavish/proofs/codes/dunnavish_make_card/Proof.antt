@@ -1,7 +1,7 @@
 -- `dunnavish::codes::dunnavish_make_card` meets its contract: the count of the lent bytes, then what the library made, which is
 -- sound, so that it has the 512 bytes that are lent. Assumes nothing.
 use borrow.Author.Needs.{needs}
-use Rattle.dunnavish.proofs.MadeCards.{make-miscounted, make-refused, whole-card, make-put}
+use Rattle.dunnavish.proofs.MadeCardCrossing.{make-miscounted, make-refused, whole-card, make-put}
 use Rattle.dunnavish.proofs.codes.dunnavish_make_card.Statement.{statement}
 use Rattle.dunnavish.proofs.codes.dunnavish_make_card.Tie as tie
 

@@ -1,7 +1,7 @@
 -- `dunnavish::codes::dunnavish_vote_chunk` meets its contract: the count of the lent numbers, then the library's answer. Assumes nothing.
 use mathlib.Core.Path.{refl}
 use borrow.Author.Needs.{needs}
-use Rattle.model.specs.VoteChunk.{voteStatus, voteValues, voteFigures}
+use Rattle.model.specs.VoteChunk.{voteStatus, voteValues, voteExpected}
 use Rattle.model.specs.declared.VoteAnswer.the-variants.{Refused}
 use Rattle.reed_muller_theory.specs.Votes.{VotePromises}
 use Rattle.dunnavish.specs.Decoding.{voteLeft}
@@ -13,7 +13,7 @@ returns : tie.Need-returns
 returns c = wrong-count voteStatus voteValues Refused voteLeft (VotePromises _ _ _) _ _ (c .if1 .taken)
 
 returns-2 : tie.Need-returns-2
-unfolding voteStatus voteValues voteFigures voteLeft
+unfolding voteStatus voteValues voteExpected voteLeft
 returns-2 c =
     let asked = c .before .before .before in
     refused voteStatus voteValues Refused voteLeft (VotePromises _ _ _) _ _ (asked .before .if1 .left) _ (asked .vote-chunk .ensures) refl _

@@ -7,7 +7,7 @@ use borrow.Author.Needs.{needs}
 use borrow.Author.Tests.{ne-eqb}
 use lib.ListN.{length-set}
 use Rattle.model.specs.ReadWord.{readStatus, readValues}
-use Rattle.model.specs.ReadLevels.{positionAnswer, strengthValues, levelsFigures}
+use Rattle.model.specs.ReadLevels.{positionAnswer, strengthValues, levelsExpected}
 use Rattle.model.specs.declared.ReadAnswer.the-variants.{Refused}
 use Rattle.dunnavish.specs.Crossing.{readCount, strengthCount, leftBy}
 use Rattle.dunnavish.specs.Decoding.{readLeft}
@@ -34,7 +34,7 @@ slice-write-strength-2 : tie.Need-slice-write-strength-2
 slice-write-strength-2 c = simp length-set (omega (arith, c .before .before .before .before .before .before .before .before .if2 .left))
 
 returns-3 : tie.Need-returns-3
-unfolding positionAnswer readStatus readValues levelsFigures readLeft leftBy
+unfolding positionAnswer readStatus readValues levelsExpected readLeft leftBy
 returns-3 c =
     let asked = c .before .before .before in
     let (is, (number, (serves, (_, promised)))) = asked .read-levels .ensures in

@@ -1,7 +1,7 @@
 -- `dunnavish::words::dunnavish_read_word` meets its contract: the count of the lent numbers, then the library's answer. Assumes nothing.
 use mathlib.Core.Path.{refl}
 use borrow.Author.Needs.{needs}
-use Rattle.model.specs.ReadWord.{readStatus, readValues, readFigures}
+use Rattle.model.specs.ReadWord.{readStatus, readValues, readExpected}
 use Rattle.model.specs.declared.ReadAnswer.the-variants.{Refused}
 use Rattle.dunnavish.specs.Decoding.{readLeft}
 use Rattle.dunnavish.proofs.Inherited.{wrong-count, refused, served}
@@ -14,7 +14,7 @@ returns : tie.Need-returns
 returns c = read-crosses _ _ _ _ _ (wrong-count readStatus readValues Refused readLeft (PromisedOfRead _ _) _ _ (c .if1 .taken))
 
 returns-2 : tie.Need-returns-2
-unfolding readStatus readValues readFigures readLeft
+unfolding readStatus readValues readExpected readLeft
 returns-2 c =
     let asked = c .before .before .before in
     read-crosses _ _ _ _ _

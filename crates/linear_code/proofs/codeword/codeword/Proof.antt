@@ -28,10 +28,10 @@ mul-word : tie.Need-mul-word Inv-loop μ-loop
 mul-word c =
     let turn = c .before .before in
     let sound = turn .before .before .before .pre in
-    record { fits = row-fits (c .bit-of .result) _ _ (c .bit-of .ensures .1) (sound .narrow (turn .loop .z) (omega arith)) (sound .n-high) }
+    record { fits = row-fits (c .gray-bit .result) _ _ (c .gray-bit .ensures .1) (sound .narrow (turn .loop .z) (omega arith)) (sound .n-high) }
 
 loop-again : tie.Need-loop-again Inv-loop μ-loop
-loop-again c = (omega arith, rw (rows-more, ← (c .before .before .loop .inv .1), c .bit-of .ensures .0))
+loop-again c = (omega arith, rw (rows-more, ← (c .before .before .loop .inv .1), c .gray-bit .ensures .0))
 
 returns : tie.Need-returns Inv-loop μ-loop
 unfolding codeword

@@ -20,10 +20,10 @@ use Rattle.linear_code.proofs.search.search.Statement.{statement}
 use Rattle.linear_code.proofs.search.search.Tie as tie
 
 abbrev Inv-bits : tie.InvT-bits
-Inv-bits k x limit rows size apart i rest₀ unlike₀ rest unlike = (unlike ≤ limit) × (unlike + ones rest ≡ ones apart)
+Inv-bits k x limit rows size apart i rest₀ differing₀ rest differing = (differing ≤ limit) × (differing + ones rest ≡ ones apart)
 
 abbrev μ-bits : tie.MeasureT-bits
-μ-bits k x limit rows size apart i rest₀ unlike₀ rest unlike = rest
+μ-bits k x limit rows size apart i rest₀ differing₀ rest differing = rest
 
 abbrev Inv-loop : tie.InvT-loop
 Inv-loop k x limit rows size apart₀ i₀ apart i =
@@ -47,7 +47,7 @@ bits-again c = (omega arith, one-counted _ _ _ (c .before .before .bits .inv .1)
 -- the two ways out of the loop over bits
 counted : (c : tie.Left-bits Inv-bits μ-bits Inv-loop μ-loop)
     → let at = c .before .before in
-    Counted (at .before .before .args .limit) (at .loop .apart) (c .bits-test .unlike)
+    Counted (at .before .before .args .limit) (at .loop .apart) (c .bits-test .differing)
 counted c =
     let all = c .before .bits .inv .1 in
     ⊎-elim (λ w. rw (w .1) (counted-all _ _ _ _ all (w .0 .left))) (λ w. rw (w .2) (counted-past _ _ _ _ all (w .0 .taken) (w .1 .taken)))
@@ -57,7 +57,7 @@ counted c =
 far : (c : tie.Left-bits Inv-bits μ-bits Inv-loop μ-loop)
     → let at = c .before .before in
     let args = at .before .before .args in
-    args .limit < c .bits-test .unlike → nearBits (args .k) (λ z. getD (args .t2) z 0) (args .x) (args .limit) (at .loop .i) ≡ false
+    args .limit < c .bits-test .differing → nearBits (args .k) (λ z. getD (args .t2) z 0) (args .x) (args .limit) (at .loop .i) ≡ false
 far c past =
     let at = c .before .before in lt-leb _ _ (rw (bits-apart (at .loop .inv)) at (counted c .past past))
 
@@ -92,9 +92,9 @@ returns : tie.Need-returns Inv-bits μ-bits Inv-loop μ-loop
 unfolding firstWithin
 returns c =
     let at = c .before .before .before in
-    let unlike = bits-apart (at .loop .inv) in
-    let whole = counted (c .before) .whole (c .if2 .taken) ∙ unlike in
-    search-found _ _ _ _ _ _ _ (at .loop .inv) _ _ unlike (le-leb _ _ (rw whole at (c .if2 .taken)))
+    let differing = bits-apart (at .loop .inv) in
+    let whole = counted (c .before) .whole (c .if2 .taken) ∙ differing in
+    search-found _ _ _ _ _ _ _ (at .loop .inv) _ _ differing (le-leb _ _ (rw whole at (c .if2 .taken)))
 
 returns-2 : tie.Need-returns-2 Inv-bits μ-bits Inv-loop μ-loop
 unfolding firstWithin

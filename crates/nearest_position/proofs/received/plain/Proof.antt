@@ -11,7 +11,7 @@ use Rattle.nearest_position.proofs.received.plain.Statement.{statement}
 use Rattle.nearest_position.proofs.received.plain.Tie as tie
 
 abbrev Inv-loop : tie.InvT-loop
-Inv-loop word x₀ j₀ x j = (j ≤ length word) × (length (x .bits) ≡ 40) × CopiedBelow word (x .bits) j × (x .heard ≡ replicate 40 255)
+Inv-loop word x₀ j₀ x j = (j ≤ length word) × (length (x .bits) ≡ 40) × CopiedBelow word (x .bits) j × (x .unerased ≡ replicate 40 255)
 
 abbrev μ-loop : tie.MeasureT-loop
 μ-loop word x₀ j₀ x j = length word - j
@@ -35,7 +35,7 @@ returns c =
     let word = c .before .before .args .word .now in
     record {
       bits-held = all-copied word (loop .x .bits) (loop .j) (omega arith) (loop .inv .2);
-      all-heard = λ p l. rw (loop .inv .3) (ones-place 40 p l);
+      all-unerased = λ p l. rw (loop .inv .3) (ones-place 40 p l);
     }
 
 pub plain-spec : {M : Type 1} → statement M

@@ -11,19 +11,19 @@ use Rattle.nearest_position.proofs.scan.next_residual.Tie as tie
 sub-result : tie.Need-sub-result
 sub-result c =
     let pre = c .before .pre in
-    ⊎-elim (λ (lost : c .before .args .heard ≡ 0). omega arith)
-    (λ (heard : c .before .args .heard ≡ 1). omega (arith, pre .4 heard (c .if1 .taken))) (zero-or-one _ (pre .3))
+    ⊎-elim (λ (erased : c .before .args .unerased ≡ 0). omega arith)
+    (λ (unerased : c .before .args .unerased ≡ 1). omega (arith, pre .4 unerased (c .if1 .taken))) (zero-or-one _ (pre .3))
 
 returns : tie.Need-returns
 returns c old bit differs =
     let pre = c .before .pre in
-    ⊎-elim (λ (lost : c .before .args .heard ≡ 0). rw lost (omega arith))
-    (λ (heard : c .before .args .heard ≡ 1). rw heard (omega (arith, pre .4 heard (c .if1 .taken)))) (zero-or-one _ (pre .3))
+    ⊎-elim (λ (erased : c .before .args .unerased ≡ 0). rw erased (omega arith))
+    (λ (unerased : c .before .args .unerased ≡ 1). rw unerased (omega (arith, pre .4 unerased (c .if1 .taken)))) (zero-or-one _ (pre .3))
 
 returns-2 : tie.Need-returns-2
 returns-2 c old bit differs =
-    ⊎-elim (λ (lost : c .before .args .heard ≡ 0). rw lost (omega arith))
-    (λ (heard : c .before .args .heard ≡ 1). rw heard (omega (arith, c .if1 .left))) (zero-or-one _ (c .before .pre .3))
+    ⊎-elim (λ (erased : c .before .args .unerased ≡ 0). rw erased (omega arith))
+    (λ (unerased : c .before .args .unerased ≡ 1). rw unerased (omega (arith, c .if1 .left))) (zero-or-one _ (c .before .pre .3))
 
 pub next-residual-spec : {M : Type 1} → statement M
 next-residual-spec = tie.close (tie.spec sub-result (λ c. search needs) returns returns-2)

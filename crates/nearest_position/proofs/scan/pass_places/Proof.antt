@@ -5,10 +5,10 @@ use mathlib.Core.Logic.{⊎-elim}
 use Prim.Native.Nat.{_-_, _≤_}
 use borrow.Author.Needs.{needs}
 use native.Mathlib.Omega.{arith}
-use Rattle.bits.specs.Sums.{unlike, marked}
+use Rattle.bits.specs.Sums.{difference, marked}
 use Rattle.bits.specs.Places.{place}
 use Rattle.bits.proofs.Distance.{distance-le}
-use Rattle.bits.proofs.Heard.{heard-le}
+use Rattle.bits.proofs.Erasures.{unerased-le}
 use Rattle.bits.proofs.Places.{place-bit}
 use Rattle.nearest_position.specs.Passing.{passedTo, Passes}
 use Rattle.nearest_position.proofs.Passing.{passes-none, joined-bit, residual-positive, pass-alike, pass-differing}
@@ -28,7 +28,7 @@ loop-holds c = (omega arith, c .pre .0, passes-none _ _ _ _ _ (c .pre .3))
 joined : (c : tie.After-bit-of Inv-loop μ-loop)
     → let loop = c .before .before .loop in
     let args = c .before .before .before .args in
-    c .bit-of .result ≡ unlike (place (args .t1) (loop .q)) (place (args .t2) (loop .q))
+    c .bit-of .result ≡ difference (place (args .t1) (loop .q)) (place (args .t2) (loop .q))
 joined c = joined-bit _ _ _ _ (c .bit-of .ensures .0)
 
 next-residual-requires : tie.Need-next-residual-requires Inv-loop μ-loop
@@ -42,18 +42,18 @@ next-residual-requires c κs =
     let args = first .args in
     let is-new = new .bit-of2 .ensures .0 (args .t2) refl in
     let received = third .bit-of3 .ensures .0 (args .t3 .bits) refl in
-    let known = c .bit-of4 .ensures .0 (args .t3 .heard) refl in
+    let known = c .bit-of4 .ensures .0 (args .t3 .unerased) refl in
     let differ : place (args .t1) (loop .q) ≡ place (args .t2) (loop .q) → ⊥ = λ same. new .before .if1 .taken (joined met ∙ rw same (omega arith)) in (
       omega (
         arith,
         loop .inv .2 .residual,
-        heard-le (marked (place (args .t3 .heard))) 320 (passedTo (place (args .t1)) (place (args .t2)) (loop .q)) (place (args .t3 .bits)),
+        unerased-le (marked (place (args .t3 .unerased))) 320 (passedTo (place (args .t1)) (place (args .t2)) (loop .q)) (place (args .t3 .bits)),
       ),
       new .bit-of2 .ensures .1,
       third .bit-of3 .ensures .1,
       c .bit-of4 .ensures .1,
-      λ heard e.
-          residual-positive _ _ _ _ _ _ _ (loop .inv .0) (omega arith) (loop .inv .2) differ (rw known at heard) (rw (received, is-new) at e),
+      λ unerased e.
+          residual-positive _ _ _ _ _ _ _ (loop .inv .0) (omega arith) (loop .inv .2) differ (rw known at unerased) (rw (received, is-new) at e),
     )
 
 advance-requires : tie.Need-advance-requires Inv-loop μ-loop
@@ -71,14 +71,14 @@ loop-again c =
     let loop = in-loop .before .loop in
     let args = in-loop .before .before .args in
     ⊎-elim
-    (λ turned.
-    let differ : place (args .t1) (loop .q) ≡ place (args .t2) (loop .q) → ⊥ = λ same. turned .0 .taken (joined met ∙ rw same (omega arith)) in
-    let new = turned .1 .ensures .0 (args .t2) refl in
-    let received = turned .3 .ensures .0 (args .t3 .bits) refl in
-    let known = turned .5 .ensures .0 (args .t3 .heard) refl in
-    let residual = turned .6 in
-    let advanced = turned .7 in
-    rw (turned .8) (
+    (λ passing.
+    let differ : place (args .t1) (loop .q) ≡ place (args .t2) (loop .q) → ⊥ = λ same. passing .0 .taken (joined met ∙ rw same (omega arith)) in
+    let new = passing .1 .ensures .0 (args .t2) refl in
+    let received = passing .3 .ensures .0 (args .t3 .bits) refl in
+    let known = passing .5 .ensures .0 (args .t3 .unerased) refl in
+    let residual = passing .6 in
+    let advanced = passing .7 in
+    rw (passing .8) (
       omega arith,
       omega arith,
       pass-differing _ _ _ _ _ _ _ (loop .inv .0) (omega arith) (loop .inv .2) differ (residual .result)

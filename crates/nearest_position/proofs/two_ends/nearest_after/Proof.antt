@@ -22,7 +22,7 @@ search-block-requires c κs =
       (sound, spare),
       (
         omega (arith, inside),
-        c .block-start .ensures ∙ sym (at-start _ sound _ _ refl inside),
+        c .start-of-block .ensures ∙ sym (at-start _ sound _ _ refl inside),
         omega arith,
         omega (arith, laid .chunk₂-at),
       ),
@@ -35,7 +35,7 @@ returns c =
     let ((sound, laid, spare), inside) = first .pre in
     let ((low, position), scanned) = c .search-block .ensures in
     record {
-      low-is = low ∙ c .before .block-start .ensures;
+      low-is = low ∙ c .before .start-of-block .ensures;
       high-is = position ∙ ap (positionAt C (first .args .p) (first .args .p + 1)) (laid .chunk₂-at) ∙ at-chunk₂ C sound _ _ refl inside;
       scanned = scanned _ (residuals-of-block C sound _ _ _ refl inside);
     }

@@ -43,14 +43,14 @@ module _ (first : tie.Start) where
 
 add-low : tie.Need-add-low
 add-low c =
-    let first = c .before .before in omega (arith, c .before .block-start .ensures, start-bound first, laid first .separator-fits)
+    let first = c .before .before in omega (arith, c .before .start-of-block .ensures, start-bound first, laid first .separator-fits)
 
 add-low-2 : tie.Need-add-low-2
 add-low-2 c =
     let first = c .before .before .before in
     omega (
       arith,
-      c .before .before .block-start .ensures,
+      c .before .before .start-of-block .ensures,
       start-bound first,
       laid first .separator-fits,
       c .changed-weight .ensures .1,
@@ -59,7 +59,7 @@ add-low-2 c =
 search-block-requires : tie.Need-search-block-requires
 search-block-requires c κs =
     let first = c .before .before .before in
-    let started = c .before .before .block-start in
+    let started = c .before .before .start-of-block in
     let begins : started .result + C first .D + c .changed-weight .result ≡ positionAt (C first) (i first) (first .args .p) (C first .D + C first .n) =
     rw (started .ensures, c .changed-weight .ensures .0) (sym (at-separator₂ (C first) (sound first) _ _ (after first) (inside first))) in (
       (sound first, first .pre .0 .2),
@@ -76,7 +76,7 @@ returns c =
     let first = c .before .before .before .before in
     let ((low, position), scanned) = c .search-block .ensures in
     record {
-      low-is = low ∙ rw (c .before .before .before .block-start .ensures, c .before .changed-weight .ensures .0);
+      low-is = low ∙ rw (c .before .before .before .start-of-block .ensures, c .before .changed-weight .ensures .0);
       high-is =
           position
           ∙ ap (positionAt (C first) (i first) (first .args .p)) (laid first .bits-are)

@@ -12,7 +12,7 @@ use Rattle.code_theory.proofs.Promise.{promise}
 use Rattle.code_theory.proofs.Starts.{start-zero}
 use Rattle.position.specs.LayoutOf.{LayoutOf}
 use Rattle.nearest_position.specs.Way.{positionAt, residualIn}
-use Rattle.nearest_position.proofs.BlockResiduals.{residual-of-start, residuals-of-block, unlike-held}
+use Rattle.nearest_position.proofs.BlockResiduals.{residual-of-start, residuals-of-block, distance-held}
 use Rattle.nearest_position.proofs.RuleRanges.{at-separator₃, at-end}
 use Rattle.nearest_position.proofs.Scanning.{scanned-first}
 use Rattle.nearest_position.proofs.two_ends.search_before_start.Statement.{statement}
@@ -25,7 +25,7 @@ returns c =
     let ((sound, laid, spare), inside) = first .pre in
     let zero-start : start C (first .args .p) ≡ 0 = rw (c .before .before .if1 .taken) (start-zero C) in
     let counted =
-    unlike-held C sound _ spare _ _ (c .before .word-of .ensures)
+    distance-held C sound _ spare _ _ (c .before .word-of .ensures)
     ∙ sym (residual-of-start C sound (first .args .x) 0 (omega arith))
     ∙ ap (residualIn C (first .args .x)) (start-zero C) in
     rw (c .begin .ensures) (omega arith, sym zero-start, scanned-first _ 0 _ counted)
@@ -57,7 +57,7 @@ sub-low : tie.Need-sub-low
 sub-low c =
     let later = c .before .before in
     let started = promise (C later) (sound later) .start-next (i later) (inside later) in
-    rw (c .before .block-start .ensures, after later) (omega (arith, started))
+    rw (c .before .start-of-block .ensures, after later) (omega (arith, started))
 
 search-block-requires : tie.Need-search-block-requires
 search-block-requires c κs =
@@ -65,7 +65,7 @@ search-block-requires c κs =
       (sound later, first later .pre .0 .2),
       (
         omega (arith, inside later),
-        rw (laid later .separator₃-at, c .before .block-start .ensures) (sym (at-separator₃ (C later) (sound later) _ _ (after later) (inside later))),
+        rw (laid later .separator₃-at, c .before .start-of-block .ensures) (sym (at-separator₃ (C later) (sound later) _ _ (after later) (inside later))),
         omega (arith, laid later .separator₃-at, laid later .bits-are),
         omega (arith, laid later .bits-are),
       ),
@@ -75,7 +75,7 @@ returns-2 : tie.Need-returns-2
 returns-2 c =
     let later = c .before .before .before in
     let ((low, position), scanned) = c .search-block .ensures in (
-      low ∙ rw (c .before .before .block-start .ensures),
+      low ∙ rw (c .before .before .start-of-block .ensures),
       position
           ∙ ap (positionAt (C later) (i later) (first later .args .p)) (laid later .bits-are)
           ∙ at-end (C later) (sound later) _ _ (after later) (inside later),

@@ -6,7 +6,7 @@ use Rattle.position.proofs.blocks.last_position.Tie as tie
 
 returns : tie.Need-returns
 unfolding lastPosition
-returns c = rw (← (c .before .last-codeword .ensures)) (c .block-start .ensures)
+returns c = rw (← (c .before .last-codeword .ensures)) (c .start-of-block .ensures)
 
 pub last-position-spec : {M : Type 1} → statement M
 last-position-spec = tie.close (tie.spec (λ c κs. search needs) (λ c κs. search needs) returns)

@@ -32,8 +32,8 @@ returns c =
     let all : loop .j ≡ at / 8 = omega arith in
     let here : 8 * (at / 8) + at % 8 ≡ at = omega arith in
     rw here at
-    (spliced-more _ _ (loop .word) (at / 8) (at % 8) (c .mixed .result) (omega arith) (omega arith)
-    (rw all at (loop .inv .2)) (c .mixed .ensures))
+    (spliced-more _ _ (loop .word) (at / 8) (at % 8) (c .spliced-byte .result) (omega arith) (omega arith)
+    (rw all at (loop .inv .2)) (c .spliced-byte .ensures))
 
 returns-2 : tie.Need-returns-2 Inv-loop μ-loop
 returns-2 c =

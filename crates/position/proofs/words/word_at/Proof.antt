@@ -24,26 +24,26 @@ add-word-in-block : tie.Need-add-word-in-block
 add-word-in-block c =
     let (sound, inside) = on-track c in omega (arith, inside, last-codeword-bound _ sound)
 
-block-start-requires : tie.Need-block-start-requires
-block-start-requires c κs = on-track c
+start-of-block-requires : tie.Need-start-of-block-requires
+start-of-block-requires c κs = on-track c
 
 sub-word-in-block : tie.Need-sub-word-in-block
 sub-word-in-block c =
     let first = c .before .before in
-    rw (c .block-start .ensures, c .before .block-of .ensures) (block-low _ (promise _ (first .pre .0)) (first .args .position))
+    rw (c .start-of-block .ensures, c .before .block-of .ensures) (block-low _ (promise _ (first .pre .0)) (first .args .position))
 
 word-in-block-requires : tie.Need-word-in-block-requires
 word-in-block-requires c κs =
     let first = c .before .before in (
       first .pre .0,
-      rw (c .block-start .ensures, c .before .block-of .ensures)
+      rw (c .start-of-block .ensures, c .before .block-of .ensures)
           (steps-in-block _ (promise _ (first .pre .0)) (first .args .position) (first .pre .1)),
     )
 
 returns : tie.Need-returns
 unfolding wordAt
 returns c =
-    rw (← (c .before .before .block-of .ensures), ← (c .before .block-start .ensures)) (c .word-in-block .ensures)
+    rw (← (c .before .before .block-of .ensures), ← (c .before .start-of-block .ensures)) (c .word-in-block .ensures)
 
 pub word-at-spec : {M : Type 1} → statement M
 word-at-spec =
@@ -51,7 +51,7 @@ word-at-spec =
     (tie.spec
     (λ c κs. search needs)
     add-word-in-block
-    block-start-requires
+    start-of-block-requires
     sub-word-in-block
     word-in-block-requires
     returns)

@@ -6,7 +6,7 @@ use native.Mathlib.Omega.{arith}
 use borrow.Author.Needs.{needs}
 use lib.Dec.{eqb}
 use Rattle.model.specs.Decoded.{meaning}
-use Rattle.code_theory.proofs.ChunkReading.{heard-reading-ext}
+use Rattle.code_theory.proofs.ChunkReading.{erasure-reading-ext}
 use Rattle.code_theory.proofs.Starts.{word-bits-bound}
 use Rattle.reader.proofs.chunks.chunk_reading.Statement.{statement}
 use Rattle.reader.proofs.chunks.chunk_reading.Tie as tie
@@ -27,7 +27,7 @@ returns : tie.Need-returns
 returns c =
     let marks = c .before .bits-at2 .ensures .1 in
     c .read-chunk .ensures .0
-    ∙ heard-reading-ext (meaning (c .before .before .before .before .before .args .code)) (λ p b. ap (λ (m : ℕ). eqb m 1) (marks p b))
+    ∙ erasure-reading-ext (meaning (c .before .before .before .before .before .args .code)) (λ p b. ap (λ (m : ℕ). eqb m 1) (marks p b))
     (c .before .before .bits-at .ensures .1)
 
 pub chunk-reading-spec : {M : Type 1} → statement M

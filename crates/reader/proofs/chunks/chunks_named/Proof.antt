@@ -9,12 +9,12 @@ use Rattle.bits.specs.Places.{place}
 use Rattle.model.specs.Card.{Code}
 use Rattle.model.specs.Decoded.{meaning}
 use Rattle.model.specs.Order.{lastCodeword}
-use Rattle.model.specs.Levels.{heardReading}
+use Rattle.model.specs.Levels.{erasureReading}
 use Rattle.model.specs.declared.Chunk.{Chunk}
 use Rattle.model.specs.declared.Chunk.the-variants.{Codeword}
 use Rattle.code_theory.proofs.Promise.{promise}
 use Rattle.reader.specs.RuleAnswers.{ReadsNamed}
-use Rattle.reader.proofs.RuleAnswers.{rule₂-unreadable, first-unreadable, rule₃-second-unreadable, rule₃-unlike}
+use Rattle.reader.proofs.RuleAnswers.{rule₂-unreadable, first-unreadable, rule₃-second-unreadable, rule₃-differs}
 use Rattle.reader.proofs.RuleAnswers.{rule₁-read, rule₂-read, rule₃-read}
 use Rattle.reader.proofs.chunks.chunks_named.Statement.{statement}
 use Rattle.reader.proofs.chunks.chunks_named.Tie as tie
@@ -25,7 +25,7 @@ module _ (first : tie.Start) where
   C = meaning (first .args .code)
 
   abbrev readingAt : (at : ℕ) → Chunk
-  readingAt at = heardReading C (fromPlace at (marked (place (first .args .x .heard)))) (fromPlace at (place (first .args .x .bits)))
+  readingAt at = erasureReading C (fromPlace at (marked (place (first .args .x .unerased)))) (fromPlace at (place (first .args .x .bits)))
 
   chunk₁-read : (read : Chunk) → read ≡ readingAt (first .args .at .chunk1) → readingAt (C .D) ≡ read
   chunk₁-read read is = ap readingAt (sym (first .pre .1 .chunk₁-at)) ∙ sym is
@@ -120,7 +120,7 @@ returns-6 c s sees R residual =
     let second = c .before .before in
     let both = second .before .before in
     rw (third both)
-    (rule₃-unlike s R residual _ _ (sees .first ∙ codeword₁ (known₁ both)) _ _ (sees .second ∙ read₂ both ∙ second .second .given .1) (c .if3 .taken))
+    (rule₃-differs s R residual _ _ (sees .first ∙ codeword₁ (known₁ both)) _ _ (sees .second ∙ read₂ both ∙ second .second .given .1) (c .if3 .taken))
 
 returns-7 : tie.Need-returns-7
 unfolding ReadsNamed

@@ -19,13 +19,13 @@ write-card-requires : tie.Need-write-card-requires
 write-card-requires c κs =
     let first = c .before .before .before in (
       omega (arith, c .two-to .ensures, pow-mono {i = first .args .m} {j = 6} (limits first .0)),
-      omega (arith, c .before .before .rows-of .ensures .0, limits first .1),
+      omega (arith, c .before .before .product-rows .ensures .0, limits first .1),
     )
 
 returns : tie.Need-returns
 unfolding reedMullerCard
 returns c =
-    let made = c .before .before .before .rows-of in
+    let made = c .before .before .before .product-rows in
     rw (c .write-card .ensures, c .before .two-to .ensures, made .ensures .0, made .ensures .1)
 
 pub made-card-spec : {M : Type 1} → statement M

@@ -11,7 +11,7 @@ use lib.Pow.{pow-mono, pow-pos}
 use Rattle.model.specs.ReedMuller.{countOfSets}
 use Rattle.reed_muller_theory.proofs.OrderLimits.{limits-of-test, order-at-most-three}
 use Rattle.reed_muller.proofs.VotedDown.{VotedDown, few-rows, voting-starts, voting-goes-on, voting-tied, setsBelow, not-accepted, accepted}
-use Rattle.reed_muller.proofs.LastRound.{taken-off, not-taken-off, ones-turned}
+use Rattle.reed_muller.proofs.LastRound.{taken-off, not-taken-off, ones-damaged}
 use Rattle.reed_muller.proofs.voting.vote.Statement.{statement}
 use Rattle.reed_muller.proofs.voting.vote.Tie as tie
 
@@ -43,9 +43,9 @@ loop-holds c =
 abbrev start : tie.In-loop Inv-loop μ-loop → tie.Start Inv-loop μ-loop
 start c = c .before .before .before .before
 
-round-requires : tie.Need-round-requires Inv-loop μ-loop
+vote-round-requires : tie.Need-vote-round-requires Inv-loop μ-loop
 unfolding setsBelow countOfSets
-round-requires c κs =
+vote-round-requires c κs =
     let before = c .before .before in
     let within = limits (start before) in
     let made = before .before .before in
@@ -65,14 +65,14 @@ returns : tie.Need-returns Inv-loop μ-loop
 returns c =
     let before = c .before .before .before .before in
     voting-tied _ _ _ (before .before .loop .size) _ _ (before .before .loop .inv) (limits (start before) .order)
-    (c .before .round .ensures .0 (c .if1 .taken))
+    (c .before .vote-round .ensures .0 (c .if1 .taken))
 
 loop-again : tie.Need-loop-again Inv-loop μ-loop
 loop-again c =
     let before = c .before .before .before .before in
-    let round = c .before .round .ensures .1 in
+    let round-by = c .before .vote-round .ensures .1 in
     let next : suc (before .before .loop .size - 1) ≡ before .before .loop .size = omega (arith, before .loop-test .taken) in
-    rw next (voting-goes-on _ _ _ (before .before .loop .size) _ _ (before .before .loop .inv) _ _ (round .0 (c .if1 .left)) (round .1 (c .if1 .left)))
+    rw next (voting-goes-on _ _ _ (before .before .loop .size) _ _ (before .before .loop .inv) _ _ (round-by .0 (c .if1 .left)) (round-by .1 (c .if1 .left)))
 
 -- ---- the last round
 
@@ -101,20 +101,20 @@ mul-rows c = record { fits = omega (arith, few-rows (here c)) }
 mul-if2 : tie.Need-mul-if2 Inv-loop μ-loop
 mul-if2 c = record { fits = omega (arith, few-ones c, pow-mono {i = begun c .args .m} {j = 6} (limits (begun c) .six)) }
 
-sub-unlike : tie.Need-sub-unlike Inv-loop μ-loop
-sub-unlike c = omega (arith, few-ones (c .before), n-is (c .before))
+sub-differing : tie.Need-sub-differing Inv-loop μ-loop
+sub-differing c = omega (arith, few-ones (c .before), n-is (c .before))
 
 add-rows : tie.Need-add-rows Inv-loop μ-loop
 add-rows c = record { fits = omega (arith, few-rows (here (c .before))) }
 
 -- what it leaves, whether or not the product of no variable is taken off
-record Ended (r m chunk unlike rows : ℕ) : Type 0 where
+record Ended (r m chunk differing rows : ℕ) : Type 0 where
   left-over : ℕ
   voted : VotedDown r m chunk 0 left-over rows
-  count : unlike ≡ ones left-over
+  count : differing ≡ ones left-over
 
 ended : (c : tie.Joined2 Inv-loop μ-loop)
-    → Ended (begun (c .before) .args .r) (begun (c .before) .args .m) (begun (c .before) .args .chunk) (c .if2 .unlike) (c .if2 .rows)
+    → Ended (begun (c .before) .args .r) (begun (c .before) .args .m) (begun (c .before) .args .chunk) (c .if2 .differing) (c .if2 .rows)
 ended c =
     let last = c .before in
     let first = begun last in
@@ -124,7 +124,7 @@ ended c =
     record {
       left-over = bitXor (left last) (2 ^ 2 ^ first .args .m - 1);
       voted = rw (w .1) (taken-off _ _ _ _ _ six (here last) (omega (arith, w .0 .taken, n-is last)));
-      count = w .2 ∙ ap (λ (n : ℕ). n - ones (left last)) (n-is last) ∙ sym (ones-turned (first .args .m) (left last) six (here last .narrow));
+      count = w .2 ∙ ap (λ (n : ℕ). n - ones (left last)) (n-is last) ∙ sym (ones-damaged (first .args .m) (left last) six (here last .narrow));
     })
     (λ w.
     record {
@@ -167,7 +167,7 @@ vote-spec =
     (λ c κs. search needs)
     (λ c κs. search needs)
     loop-holds
-    round-requires
+    vote-round-requires
     returns
     (λ c. search needs)
     (λ c. search needs)
@@ -175,7 +175,7 @@ vote-spec =
     two-to-requires
     mul-rows
     mul-if2
-    sub-unlike
+    sub-differing
     add-rows
     sub-two-to
     two-to-requires-2

@@ -90,8 +90,8 @@ loop-less c = search needs
 loop-again : tie.Need-loop-again Inv-loop μ-loop
 loop-again c =
     let line = c .before .before .before in
-    let heard = line .before .before in
-    let turn = heard .before .before in
+    let unerased = line .before .before in
+    let turn = unerased .before .before in
     let loop = turn .before .loop in
     let measured = turn .before .before in
     let args = measured .before .before .before .args in
@@ -99,8 +99,8 @@ loop-again c =
     let i = loop .i in
     let C = meaning (args .code) in
     let bytes = drop (args .start) (args .bytes .now) in
-    let answer : heard .read .result ≡ answerAt C bytes i =
-    heard .read .ensures
+    let answer : unerased .read .result ≡ answerAt C bytes i =
+    unerased .read .ensures
     ∙ part-is-word C (args .bytes .now) i (args .start) (loop .from) (length-of .result) (length-of .ensures .0) (loop .inv .start) in
     record {
       within = omega arith;
