@@ -170,7 +170,7 @@ pub trait Order {
     fn block_of(&self, position: usize) -> usize;
     /// The codeword within the radius of a chunk.
     fn find(&self, chunk: u64) -> Option<Found>;
-    /// The codeword that differs from a chunk in at most `most` of the bits that were heard.
+    /// The codeword that differs from a chunk in at most `most` of the bits that were unerased.
     fn find_heard(&self, chunk: u64, heard: u64, most: u32) -> Option<Found>;
     /// The last position.
     fn last(&self) -> usize {
@@ -289,13 +289,13 @@ impl Near {
 trait Received {
     /// Numbers 0 to 4 of its bits.
     fn bits(&self, part: usize) -> u64;
-    /// In the same numbers, which of the bits are lost.
+    /// In the same numbers, which of the bits are erased.
     fn lost(&self, part: usize) -> u64;
     /// The codeword that the n bits from place `at` on read as.
     fn find(&self, order: &impl Order, at: usize) -> Option<Found>;
 }
 
-/// A plain word: no bit is lost.
+/// A plain word: no bit is erased.
 impl Received for Word {
     fn bits(&self, part: usize) -> u64 {
         self[part]
@@ -321,7 +321,7 @@ impl Received for Told {
     fn lost(&self, part: usize) -> u64 {
         self.lost[part]
     }
-    /// 2 × wrong + lost is below D, so that wrong is at most half of D - 1 - lost.
+    /// 2 × wrong + erased is below D, so that wrong is at most half of D - 1 - erased.
     fn find(&self, order: &impl Order, at: usize) -> Option<Found> {
         let Code { n, distance, .. } = *order.code();
         let lost = get(&self.lost, at, n);

@@ -33,7 +33,7 @@
 //! assert_eq!(reading.rule, dunnavish::Rule::FirstDiffers);
 //! assert_eq!((reading.chunk1_bits, reading.chunk2_bits), (None, Some(0)));
 //!
-//! // The bar about this answer, where at most one bit is assumed turned: it holds 7, where the tram stands.
+//! // The bar about this answer, where at most one bit is assumed damaged: it holds 7, where the tram stands.
 //! let reach = reading.residual + 1;
 //! let bar = reading.position.saturating_sub(reach)..=summary.last.min(reading.position + reach);
 //! assert_eq!(bar, 3..=7);
@@ -43,11 +43,11 @@
 //!
 //! assert_eq!(dunnavish::write_word(&card, 16, &mut word), Err(dunnavish::Refusal::OffTheTrack));
 //!
-//! // Both code chunks hold codeword 1, and the separators 0: pasted from two telegrams.
+//! // Both code chunks hold codeword 1, and the separators 0: mixed from two telegrams.
 //! assert_eq!(dunnavish::read_word(&card, &[0x38, 0x0e]), Err(dunnavish::Refusal::ParityDiffers));
 //!
 //! // The word of position 7 from a receiver that gives levels: its seven ones are negative, the last level is faint, and code
-//! // chunk 2, places 9 to 11, has one bit lost.
+//! // chunk 2, places 9 to 11, has one bit erased.
 //! let mut levels = [1.0; 15];
 //! levels[..7].fill(-1.0);
 //! (levels[10], levels[14]) = (0.0, 0.25);
@@ -217,7 +217,7 @@ impl Rule {
     }
 }
 
-/// What a received word was read as. Of a word of levels, bits that are lost are in none of its counts.
+/// What a received word was read as. Of a word of levels, bits that are erased are in none of its counts.
 #[derive(Clone, Copy, Debug, PartialEq, Eq, Hash)]
 pub struct Reading {
     /// The position, from 0 to the card's last.
@@ -330,20 +330,20 @@ pub fn write_word(card: &[u8], position: u32, word: &mut [u8]) -> Result<(), Ref
 /// Reads a received word: the nearest of the positions that its separators and code chunks allow, and in how many bits each code
 /// chunk that was read differs from its codeword.
 ///
-/// If each of the word's five chunks has at most [`CardSummary::radius`] bits turned, the answer is a reading, and its position
-/// is off by at most twice the bits turned in all, and by at most the bits turned and [`Reading::residual`] together; and each
-/// chunk that was read differs from its codeword in as many bits as are turned in it. The word is also read, and both distances
-/// hold, where the divided chunk of the position's word is turned at will and each other one has at most that many bits turned. A
+/// If each of the word's five chunks has at most [`CardSummary::radius`] bits damaged, the answer is a reading, and its position
+/// is off by at most twice the bits damaged in all, and by at most the bits damaged and [`Reading::residual`] together; and each
+/// chunk that was read differs from its codeword in as many bits as are damaged in it. The word is also read, and both distances
+/// hold, where the divided chunk of the position's word is damaged arbitrarily and each other one has at most that many bits damaged. A
 /// chunk is divided if some, but not all, of the places in which w(i) and w(i+1), the words of codewords i and i+1, differ in it
 /// are taken from w(i+1), i being the position's block: at most one chunk is, and none at a block's start or at the last position.
 ///
-/// To draw a bar about the answer: decide on the greatest number of bits that you are ready to assume turned in all. On either side
+/// To draw a bar about the answer: decide on the greatest number of bits that you are ready to assume damaged in all. On either side
 /// of the position the bar reaches as many steps as this number and the residual together, and it ends where the track does. It
-/// holds the tram's position if no more bits were turned, and no more than the radius in any chunk that is not divided. A residual
+/// holds the tram's position if no more bits were damaged, and no more than the radius in any chunk that is not divided. A residual
 /// above that number shows that one or the other is not so.
 ///
 /// Of a word that is read, separator 1, by [`Rule::FirstDiffers`] separator 3, has the parity of the number of its codeword. So a
-/// word pasted from two telegrams, with that separator from one and the codeword from another whose number has the other parity, is
+/// word mixed from two telegrams, with that separator from one and the codeword from another whose number has the other parity, is
 /// never read.
 ///
 /// Refused: the card, [`Refusal::WordLength`], [`Refusal::SpareBit`] to [`Refusal::NoBlock`], and [`Refusal::ParityDiffers`].
@@ -356,21 +356,21 @@ pub fn read_word(card: &[u8], word: &[u8]) -> Result<Reading, Refusal> {
 }
 
 /// Reads a received word whose bits came as levels, [`CardSummary::word_bits`] of them, and tells the receiver's strength beside
-/// the answer. A level below zero is a 1, one above zero a 0, and a zero of either sign a bit that is lost.
+/// the answer. A level below zero is a 1, one above zero a 0, and a zero of either sign a bit that is erased.
 ///
 /// A separator reads 1 if its levels, added in order from zero in single precision, each sum rounded to the nearest, ties to even,
-/// sum below zero. A code chunk reads as the codeword for which 2 × wrong + lost is below D, the card's [`CardSummary::distance`]:
-/// wrong counts the bits that differ from it, lost those that are lost. Only bits that aren't lost count, in the residual, by
+/// sum below zero. A code chunk reads as the codeword for which 2 × wrong + erased is below D, the card's [`CardSummary::distance`]:
+/// wrong counts the bits that differ from it, erased those that are erased. Only bits that aren't erased count, in the residual, by
 /// which the nearest position is found, and in the bits of the chunks.
 ///
 /// If there are as many levels as a word has bits, each 1 or -1, the reading, or the refusal, is that of [`read_word`] for these
-/// bits. If there are as many, each 1, -1 or 0, and, against the word of a position, each of the five chunks has 2 × wrong + lost
-/// below D, the answer is a reading, and its position is off by at most 2 × wrong + lost, counted over the whole word. What
+/// bits. If there are as many, each 1, -1 or 0, and, against the word of a position, each of the five chunks has 2 × wrong + erased
+/// below D, the answer is a reading, and its position is off by at most 2 × wrong + erased, counted over the whole word. What
 /// [`read_word`] says of the separators and the codeword's number holds here too, a separator being what its levels sum to.
 ///
 /// All of this is asked under the processor's default floating-point settings: rounding to the nearest, ties to even, subnormal
 /// numbers kept. Rust code never changes them, but a program that is linked by a C compiler with `-ffast-math` or `-Ofast` starts
-/// with others: subnormal levels, 1e-40 say, then count as zeros and are lost. The call may set the thread's floating-point
+/// with others: subnormal levels, 1e-40 say, then count as zeros and are erased. The call may set the thread's floating-point
 /// exception flags, by its comparisons too.
 ///
 /// Refused, in this order: the card; [`Refusal::LevelCount`]; [`Refusal::LevelLimits`], for any of the levels (1,000,000 itself

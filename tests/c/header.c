@@ -104,7 +104,7 @@ static void read_as(const uint8_t card[DUNNAVISH_CARD_BYTES], uint8_t low, uint8
 }
 
 /*
- * Words of card B, place 0 leftmost, with one bit turned in a code chunk: by rule 1 111 101 111 111 100, position 13 with place
+ * Words of card B, place 0 leftmost, with one bit damaged in a code chunk: by rule 1 111 101 111 111 100, position 13 with place
  * 4; by rule 2 111 111 100 100 000, position 7 with place 9; by rule 3 000 100 000 000 000 and 000 000 000 010 000, position 0
  * with place 3 or place 10. Each has one bit unlike there, and more unlike at every other position that is allowed.
  */
@@ -138,8 +138,8 @@ static void contradicted(const uint8_t card[DUNNAVISH_CARD_BYTES])
 
 /*
  * The word of position m on card B has ones in its first m places, three a chunk. So the chunk of place m - 1 is divided where m is
- * no multiple of 3. With this chunk turned in every way the word is read, off by at most the bits turned and the residual, and by at
- * most twice the bits turned; so the bar for that many bits holds m.
+ * no multiple of 3. With this chunk damaged in every way the word is read, off by at most the bits damaged and the residual, and by at
+ * most twice the bits damaged; so the bar for that many bits holds m.
  */
 static void divided_at_will(const uint8_t card[DUNNAVISH_CARD_BYTES])
 {
@@ -159,8 +159,8 @@ static void divided_at_will(const uint8_t card[DUNNAVISH_CARD_BYTES])
 }
 
 /*
- * The word of position 10 on card B as levels, 111 111 111 100 000, with place 4 lost, in code chunk 1, and place 5 turned there or
- * not; the last level is 2.5. Chunk 1 with one bit lost is read, and with one turned besides, 2 * 1 + 1 = 3 = D, it is not.
+ * The word of position 10 on card B as levels, 111 111 111 100 000, with place 4 erased, in code chunk 1, and place 5 damaged there or
+ * not; the last level is 2.5. Chunk 1 with one bit erased is read, and with one damaged besides, 2 * 1 + 1 = 3 = D, it is not.
  */
 static void levels_read(const uint8_t card[DUNNAVISH_CARD_BYTES])
 {

@@ -21,7 +21,7 @@ static uint8_t card[DUNNAVISH_CARD_BYTES];
 static int failed = 0;
 
 /*
- * A word of card B, of which `count` levels are lent, the others being 1: -1 for 1, 1 for 0, and for a lost bit 0 (?) or -0 (-).
+ * A word of card B, of which `count` levels are lent, the others being 1: -1 for 1, 1 for 0, and for an erased bit 0 (?) or -0 (-).
  * One level of it is another, at a place.
  */
 struct trial {
@@ -35,7 +35,7 @@ struct trial {
 };
 
 static const struct trial trials[] = {
-    /* positions 10, 7 and 0, by rules 1, 2 and 3; a strong level, a bit lost, and a code chunk that bears one wrong or two lost */
+    /* positions 10, 7 and 0, by rules 1, 2 and 3; a strong level, a bit erased, and a code chunk that bears one wrong or two erased */
     {"111111111100000", 14, 1, 512, 15, 0, {10, 0, 1, 0, NOT_READ}, {15, 1}},
     {"111111111100000", 0, -2.5f, 512, 15, 0, {10, 0, 1, 0, NOT_READ}, {16.5f, 2.5f}},
     {"111111100000000", 14, 1e6f, 512, 15, 0, {7, 0, 2, NOT_READ, 0}, {1000014, 1e6f}},

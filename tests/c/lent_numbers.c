@@ -55,8 +55,8 @@ static const struct trial trials[] = {
     {START, 512, 20000, 0, 0, 0, 0, {15}},
     {START, 512, INT32_MIN, 0, 0, 0, 14, {0}},
     /*
-     * Rule 1: 111 111 111 111 100, place 0 leftmost, position 13, and with place 4 turned, in chunk 1. Rule 2: position 7 with
-     * place 9 turned, in chunk 2. Rule 3: position 0, and with place 3 turned, in chunk 1, place 10, in chunk 2, and both.
+     * Rule 1: 111 111 111 111 100, place 0 leftmost, position 13, and with place 4 damaged, in chunk 1. Rule 2: position 7 with
+     * place 9 damaged, in chunk 2. Rule 3: position 0, and with place 3 damaged, in chunk 1, place 10, in chunk 2, and both.
      */
     {READ, 512, 0, 0, 0, 0x1FFF, 0, {13, 0, 1, 0, DUNNAVISH_NOT_READ}},
     {READ, 512, 0, 0, 0, 0x1FEF, 0, {13, 1, 1, 1, DUNNAVISH_NOT_READ}},
@@ -66,8 +66,8 @@ static const struct trial trials[] = {
     {READ, 512, 0, 0, 0, 0x0400, 0, {0, 1, 3, 0, 1}},
     {READ, 512, 0, 0, 0, 0x0408, 0, {0, 2, 3, 1, 1}},
     /*
-     * Positions 7 and 5 with their divided chunk turned whole: 111 111 011 000 000 is read as 9, and 111 001 000 000 000, with one bit
-     * turned in each other chunk besides, 011 001 100 100 100, as 3.
+     * Positions 7 and 5 with their divided chunk damaged whole: 111 111 011 000 000 is read as 9, and 111 001 000 000 000, with one bit
+     * damaged in each other chunk besides, 011 001 100 100 100, as 3.
      */
     {READ, 512, 0, 0, 0, 0x01BF, 0, {9, 1, 1, 0, DUNNAVISH_NOT_READ}},
     {READ, 512, 0, 0, 0, 0x1266, 0, {3, 5, 2, DUNNAVISH_NOT_READ, 1}},

@@ -150,7 +150,7 @@ static void damage_chunks(void)
     }
 }
 
-/* The word as levels: 1 and -1, but 0 for the first t places of both code chunks if these are lost. It is read all the same. */
+/* The word as levels: 1 and -1, but 0 for the first t places of both code chunks if these are erased. It is read all the same. */
 static void make_levels(int lost)
 {
     uint32_t n = values[DUNNAVISH_CARD_N], width = values[DUNNAVISH_CARD_DISTANCE], p;
@@ -194,7 +194,7 @@ static void calls_on_cards(void)
         }
 }
 
-/* Votes are on codeword 0, undamaged and with the first t places turned. */
+/* Votes are on codeword 0, undamaged and with the first t places damaged. */
 static void calls_on_codes(void)
 {
     for (m = 1; m <= 6; m++)

@@ -159,9 +159,9 @@ static void document_cases(void)
 /*
  * Words with damage in their code chunks, worked by hand; place 0 stands leftmost. On card B t is 1, the code chunks are places 3
  * to 5 and 9 to 11, c(0) is 000 and c(1) 111, and position m has ones in its first m places. Rule 1 is that of position 13,
- * 111 111 111 111 100: with place 4 turned, with place 10, which is in the other chunk, and with both. Rule 2 is that of position
- * 7 with place 9 turned, rule 3 that of position 0 with place 3, with place 10, and with both. The widest card has chunks of eight
- * bytes, and t is 31: position 0 with 31 bits of code chunk 1 and ten of code chunk 2 turned.
+ * 111 111 111 111 100: with place 4 damaged, with place 10, which is in the other chunk, and with both. Rule 2 is that of position
+ * 7 with place 9 damaged, rule 3 that of position 0 with place 3, with place 10, and with both. The widest card has chunks of eight
+ * bytes, and t is 31: position 0 with 31 bits of code chunk 1 and ten of code chunk 2 damaged.
  */
 static void damaged_chunks(void)
 {

@@ -75,7 +75,7 @@ uint8_t *word_of(const struct track *t, size_t number);
 
 /*
  * Makes every word: of random bits, a position's, a position's a little damaged, and chunks put together with no position; of
- * these some with up to t + 1 bits turned in each code chunk.
+ * these some with up to t + 1 bits damaged in each code chunk.
  */
 void make_words(struct track *t);
 

@@ -61,7 +61,7 @@ distance-byte a b j =
       distance-ext 8 (places-of-byte a j) (places-of-byte b j),
     )
 
--- over the places that a third one marks as heard
+-- over the places that a third one marks as unerased
 pub unerased-byte : (a b h : List ℕ) (j : ℕ)
     → distanceUnerased (marked (place h)) (8 * (j + 1)) (place a) (place b)
     ≡ distanceUnerased (marked (place h)) (8 * j) (place a) (place b)

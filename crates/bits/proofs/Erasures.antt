@@ -1,5 +1,5 @@
--- The Hamming distance over the places that are heard. Each law is one of sums, place by place, where a lost place counts nothing; with
--- nothing lost it is the Hamming distance. The triangle inequality loses as much as there are lost places. Assumes nothing.
+-- The Hamming distance over the unerased places. Each law is one of sums, place by place, where an erased place counts nothing; with
+-- nothing erased it is the Hamming distance. The triangle inequality loses as much as there are erased places. Assumes nothing.
 use mathlib.Core.Path.{_≡_, refl, _∙_}
 use mathlib.Core.Bool.{Bool, true, false, cond}
 use Prim.Native.Nat.{ℕ, _+_, _≤_, _<_}
@@ -8,7 +8,7 @@ use native.Mathlib.Omega.{arith}
 use Rattle.bits.specs.Sums.{sumBelow, distance, difference, distanceUnerased, erasedBelow, everywhere, fromPlace}
 use Rattle.bits.proofs.Sums.{sum-ext, sum-mono, sum-add, sum-split, sum-zero, sum-of-bits, sum-one-place}
 
--- with nothing lost
+-- with nothing erased
 pub all-unerased : (d : ℕ) (u v : ℕ → ℕ) → distanceUnerased everywhere d u v ≡ distance d u v
 unfolding distanceUnerased distance
 all-unerased d u v = refl
@@ -17,7 +17,7 @@ pub none-erased : (unerased : ℕ → Bool) (d : ℕ) → ((p : ℕ) → p < d �
 unfolding erasedBelow
 none-erased unerased d all = sum-zero d (λ p b. rw (all p b))
 
--- they are fixed by what is heard below d, and the bits there
+-- they are fixed by what is not erased below d, and the bits there
 pub unerased-ext : {unerased unerased′ : ℕ → Bool} {u u′ v v′ : ℕ → ℕ} (d : ℕ) → ((p : ℕ) → p < d → unerased p ≡ unerased′ p)
     → ((p : ℕ) → p < d → u p ≡ u′ p) → ((p : ℕ) → p < d → v p ≡ v′ p) → distanceUnerased unerased d u v ≡ distanceUnerased unerased′ d u′ v′
 unfolding distanceUnerased
@@ -37,7 +37,7 @@ pub unerased-split : (unerased : ℕ → Bool) (a b : ℕ) (u v : ℕ → ℕ)
 unfolding distanceUnerased
 unerased-split unerased a b u v = sum-split (λ p. cond (unerased p) (difference (u p) (v p)) 0) a b
 
--- where u and v are alike at each place heard from place a on, it is the distance of the places before a
+-- where u and v are alike at each place unerased from place a on, it is the distance of the places before a
 pub unerased-alike-after : (unerased : ℕ → Bool) (a d : ℕ) (u v : ℕ → ℕ) → a ≤ d
     → ((p : ℕ) → a ≤ p → p < d → unerased p ≡ true → u p ≡ v p) → distanceUnerased unerased d u v ≡ distanceUnerased unerased a u v
 unfolding distanceUnerased
@@ -68,7 +68,7 @@ unerased-le unerased d u v = sum-of-bits (λ p. cond (unerased p) (difference (u
     at-place true i j = omega arith
     at-place false i j = omega arith
 
--- two words are no further apart than each from a third one where it is heard, and the lost places
+-- two words are no further apart than each from a third one where it is not erased, and the erased places
 pub unerased-triangle : (unerased : ℕ → Bool) (d : ℕ) (u w x : ℕ → ℕ)
     → distance d u w ≤ distanceUnerased unerased d u x + distanceUnerased unerased d w x + erasedBelow unerased d
 unfolding distance distanceUnerased erasedBelow

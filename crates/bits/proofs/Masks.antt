@@ -1,5 +1,5 @@
--- Numbers cut to the places of a mask, which marks the places that are heard: a sum cut is the sum of the cut numbers, the ones of two cut
--- numbers joined are the places heard in which the numbers differ, and the places that are not marked are lost. Assumes nothing.
+-- Numbers cut to the places of a mask, which marks the unerased places: a sum cut is the sum of the cut numbers, the ones of two cut
+-- numbers joined are the unerased places in which the numbers differ, and the places that are not marked are erased. Assumes nothing.
 use mathlib.Core.Path.{_≡_, _∙_}
 use mathlib.Core.Bool.{cond}
 use Prim.Native.Nat.{ℕ, zero, suc, _+_, _^_, min, _<_}
@@ -36,7 +36,7 @@ cut-distance n a b h ha hb hh =
     at-place i j (suc zero) hi hj hc = omega arith
     at-place i j (suc (suc c)) hi hj hc = absurd (omega arith)
 
--- the places of h, and those that are lost
+-- the places of h, and those that are erased
 pub ones-and-erased : (n h : ℕ) → h < 2 ^ n → erasedBelow (marked (bit h)) n + ones h ≡ n
 unfolding erasedBelow weight
 ones-and-erased n h hh =

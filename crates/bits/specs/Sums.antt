@@ -23,11 +23,11 @@ difference a b = (a + b) % 2
 unfoldable pub distance : (d : ℕ) (u v : ℕ → ℕ) → ℕ
 distance d u v = sumBelow (λ p. difference (u p) (v p)) d
 
--- Hamming distance over the places that are heard: in how many of them, of the places 0 to d - 1, two bit functions differ
+-- Hamming distance over the unerased places: in how many of them, of the places 0 to d - 1, two bit functions differ
 unfoldable pub distanceUnerased : (unerased : ℕ → Bool) (d : ℕ) (u v : ℕ → ℕ) → ℕ
 distanceUnerased unerased d u v = sumBelow (λ p. cond (unerased p) (difference (u p) (v p)) 0) d
 
--- how many of the places 0 to d - 1 are lost, so not heard
+-- how many of the places 0 to d - 1 are erased, so not unerased
 unfoldable pub erasedBelow : (unerased : ℕ → Bool) (d : ℕ) → ℕ
 erasedBelow unerased d = sumBelow (λ p. cond (unerased p) 0 1) d
 
@@ -35,7 +35,7 @@ erasedBelow unerased d = sumBelow (λ p. cond (unerased p) 0 1) d
 abbrev pub marked : (m : ℕ → ℕ) (p : ℕ) → Bool
 marked m p = eqb (m p) 1
 
--- every place is heard: nothing is lost
+-- every place is not erased: nothing is erased
 abbrev pub everywhere : ℕ → Bool
 everywhere p = true
 

@@ -60,7 +60,7 @@ module _ (near : ℕ → Bool) (count : ℕ → ℕ) (many : ℕ) where
       let no : _≡_ {A = ℕ} 0 1 = cc in absurd (omega arith))
       (lt-or-le found many)
 
--- chunks of which the same places are heard and agree below n read alike
+-- chunks of which the same places are not erased and agree below n read alike
 pub erasure-reading-ext : (C : Code) {unerased unerased′ : ℕ → Bool} {x y : ℕ → ℕ} → ((p : ℕ) → p < C .n → unerased p ≡ unerased′ p)
     → ((p : ℕ) → p < C .n → x p ≡ y p) → erasureReading C unerased x ≡ erasureReading C unerased′ y
 unfolding erasureReading withinErasures chunkWrong
@@ -68,7 +68,7 @@ erasure-reading-ext C {unerased} same-unerased same =
     ap₂ (λ (wrong : ℕ → ℕ) (erased : ℕ). readFirst (λ i. ltb (2 * wrong i + erased) (C .D)) wrong (2 ^ C .k))
     (fun-ext (λ i. unerased-ext (C .n) same-unerased (λ p b. refl) same)) (erased-ext (C .n) same-unerased)
 
--- where nothing is lost, 2 × wrong + lost is below D within the radius, and only there
+-- where nothing is erased, 2 × wrong + erased is below D within the radius, and only there
 module _ (C : Code) where
   pub plain-count : (x : ℕ → ℕ) → chunkDistance C x ≡ chunkWrong C everywhere x
   unfolding chunkDistance chunkWrong

@@ -1,5 +1,5 @@
 -- D is the least distance of two different codewords. The exclusive-or of two codewords is a codeword, whose weight is their
--- distance, and a nonzero one has weight D at least. So of a chunk at most one codeword has 2 × wrong + lost below D; where nothing is lost,
+-- distance, and a nonzero one has weight D at least. So of a chunk at most one codeword has 2 × wrong + erased below D; where nothing is erased,
 -- it lies within the radius, less than half of D.
 -- Assumes nothing.
 use mathlib.Core.Path.{_≡_, refl, sym, ap, _∙_}
@@ -128,14 +128,14 @@ module _ (C : Code) (S : Sound C) where
             ∙ light,
       )
 
-  -- two codewords never both have 2 × wrong + lost below D of a chunk
+  -- two codewords never both have 2 × wrong + erased below D of a chunk
   pub one-within-erasures : (unerased : ℕ → Bool) (x : ℕ → ℕ) (i j : ℕ) → i ≤ lastCodeword C → j ≤ lastCodeword C
       → 2 * chunkWrong C unerased x i + erasedBelow unerased (C .n) < C .D → 2 * chunkWrong C unerased x j + erasedBelow unerased (C .n) < C .D → i ≡ j
   unfolding chunkWrong
   one-within-erasures unerased x i j li lj hi hj =
       same-if-nearer i j li lj (omega (arith, unerased-triangle unerased (C .n) (bit (codeword C i)) (bit (codeword C j)) x))
 
-  -- so, where nothing is lost, they never both lie within the radius
+  -- so, where nothing is erased, they never both lie within the radius
   pub one-within-radius : (x : ℕ → ℕ) (i j : ℕ) → i ≤ lastCodeword C → j ≤ lastCodeword C
       → chunkDistance C x i ≤ radius C → chunkDistance C x j ≤ radius C → i ≡ j
   unfolding chunkDistance chunkWrong

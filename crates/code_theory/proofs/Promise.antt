@@ -1,6 +1,6 @@
--- A sound card's code keeps the chunk promise: the first codeword within the radius, or for which 2 × wrong + lost is below D, is the only
+-- A sound card's code keeps the chunk promise: the first codeword within the radius, or for which 2 × wrong + erased is below D, is the only
 -- one, blocks follow one another, and consecutive codewords differ in one row. Two readers that keep a promise answer alike, so where
--- nothing is lost a chunk reads by either half of it as by the other. Assumes nothing.
+-- nothing is erased a chunk reads by either half of it as by the other. Assumes nothing.
 use mathlib.Core.Path.{_∙_, _≡_, refl, sym, fun-ext}
 use mathlib.Core.Bool.{Bool, true}
 use Prim.Native.Nat.{ℕ, _+_, _^_, _≤_}
@@ -34,7 +34,7 @@ first-reads {near = near} {count = count} one many all =
           let is = reading-near (near x) (count x) many p e r in (omega arith, is .1, is .2);
     }
 
--- no chunk has two codewords for which 2 × wrong + lost is below D
+-- no chunk has two codewords for which 2 × wrong + erased is below D
 pub one-near : (C : Code) → Sound C → (unerased : ℕ → Bool) (x : ℕ → ℕ) (i j : ℕ) → i ≤ lastCodeword C → j ≤ lastCodeword C
     → withinErasures C unerased x i ≡ true → withinErasures C unerased x j ≡ true → i ≡ j
 unfolding withinErasures
@@ -80,11 +80,11 @@ readers-agree f g F G x = by-answer (f x) refl (g x) refl
         let is = G .within x p e k in F .reads x p (is .0) (is .1) ∙ rw (← (is .2)) (sym k)
     by-answer Unreadable h Unreadable k = h ∙ sym k
 
--- where every place is heard, a reader that promises to read plain chunks promises just what one over the places heard does
+-- where every place is not erased, a reader that promises to read plain chunks promises just what one over the unerased places does
 pub plain-as-unerased : (C : Code) → 1 ≤ C .D → {read : (ℕ → ℕ) → Chunk} → ReadsChunks C read → ReadsWithErasures C everywhere read
 plain-as-unerased C D-pos keeps = rw (fun-ext (plain-near C D-pos), fun-ext (plain-count C)) at keeps
 
--- so a plain chunk reads by the promise of plain chunks as it does where nothing is lost
+-- so a plain chunk reads by the promise of plain chunks as it does where nothing is erased
 pub plain-reading : (C : Code) → ChunkPromise C → (x : ℕ → ℕ) → chunkReading C x ≡ erasureReading C everywhere x
 plain-reading C P =
     readers-agree (chunkReading C) (erasureReading C everywhere) (plain-as-unerased C (P .D-pos) (P .plain)) (P .chunks everywhere)

@@ -1,4 +1,4 @@
--- The definitions give the figures that no call answers as document 02 says: computed, all at once. Assumes nothing.
+-- The definitions give the values that no call answers as document 02 says: computed, all at once. Assumes nothing.
 use mathlib.Core.Path.{_≡_, refl}
 use mathlib.Core.List.{map}
 use Rattle.bits.specs.Sums.{sumBelow, distance, joinAt}

@@ -35,7 +35,7 @@ rowShares card i = map pos (listOf (codeOf card .k) (rowShare (codeOf card) i))
 abbrev rowSums : (card : List ℕ) (block : ℕ) → List ℤ
 rowSums card i = map pos (sumBeforeRow (codeOf card) i 0 ∷ listOf (codeOf card .k) (sumAfterRow (codeOf card) i))
 
--- figures of the definitions, and what the document says
+-- values of the definitions, and what the document says
 pub record Value : Type 0 where
   pub given : List ℤ
   pub expected : List ℤ

@@ -68,7 +68,7 @@ starredCases =
     ∷ case (write cardB 15 (0xaa ∷ 0xaa ∷ [])) (0 ∷ 0xff ∷ 0x7f ∷ [])
     -- writing 16: refusal 7, and no byte of the lent word is changed
     ∷ case (write cardB 16 (0xaa ∷ 0xaa ∷ [])) (7 ∷ 0xaa ∷ 0xaa ∷ [])
-    -- `5F 00` reads 5; it is 7 with one bit turned, off by two (the residual is 1, by rule 2, which names chunk 2)
+    -- `5F 00` reads 5; it is 7 with one bit damaged, off by two (the residual is 1, by rule 2, which names chunk 2)
     ∷ case (read cardB (0x5f ∷ 0x00 ∷ [])) (0 ∷ 5 ∷ 1 ∷ 2 ∷ notRead ∷ 0 ∷ [])
     ∷ case (bitsDiffering cardB 7 (0x5f ∷ 0x00 ∷ [])) (1 ∷ [])
     -- `00 70`: 12

@@ -59,14 +59,14 @@ pub fn write_word(card: &[u8], position: u32, word: &mut [u8]) -> WriteAnswer
 // to 5 or 14; a word that has not exactly the bytes of a word, 6; a spare bit set, 8; separators that name no rule, 9; a chunk that
 // the rule names with no codeword within the radius, 10; two chunks that read differently, 11; a block before the first or after the
 // last, 12; separator 1, by rule 2 separator 3, that differs from the parity of the codeword's number, 17.
-// Of the word of any position on the track, with at most t bits turned in each chunk, the answer is a position, and it is at most
-// twice as many steps off as bits are turned (`bounded`), and at most as many as bits are turned and the residual together (`sharper`).
-// The promises: a chunk that is read needed as many bits as are turned in it; both distances hold also where the divided chunk of that
-// position's word (`divided`, model/specs/Words.antt; at most one is, by the theorem `at-most-one-divided`) is turned at will and each other
-// one has at most t bits turned, and if then at most e bits are turned in all, the residual plus e on either side of the answer, the bar,
+// Of the word of any position on the track, with at most t bits damaged in each chunk, the answer is a position, and it is at most
+// twice as many steps off as bits are damaged (`bounded`), and at most as many as bits are damaged and the residual together (`sharper`).
+// The promises: a chunk that is read needed as many bits as are damaged in it; both distances hold also where the divided chunk of that
+// position's word (`divided`, model/specs/Words.antt; at most one is, by the theorem `at-most-one-divided`) is damaged arbitrarily and each other
+// one has at most t bits damaged, and if then at most e bits are damaged in all, the residual plus e on either side of the answer, the bar,
 // holds the position, and the residual is at most e. Of any word that is read, the answer is the nearest of the positions that the rule
 // allows, a chunk's count is that of the places in which it differs from its codeword, at most t, and separator 1, by rule 2 separator 3, has
-// the parity of the codeword's number: a word pasted from two telegrams whose parities differ is never read. 17 changes no other answer.
+// the parity of the codeword's number: a word mixed from two telegrams whose parities differ is never read. 17 changes no other answer.
 pub fn read_word(card: &[u8], word: &[u8]) -> ReadAnswer
     ensures answer { λ r. ⌜ r ≡ readAnswer (now (card .entry)) (now (word .entry)) ⌝ }
     ensures status { λ r. ⌜ readStatus r ≡ readRefusal (now (card .entry)) (now (word .entry)) ⌝ }

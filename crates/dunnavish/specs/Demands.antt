@@ -24,15 +24,15 @@ unfoldable pub ServedNear : (status : ℕ) (left : List ℕ) (position e : ℕ) 
 ServedNear status left position e = (status ≡ 0) × (positionLeft left ≤ position + e) × (position ≤ positionLeft left + e)
 
 -- Demand 3, where five numbers are lent: for a sound card, every position on its track and whichever bits of that position's
--- word are turned, at most t in each of the five chunks: the status is 0, and the position left is no further off than twice the
--- bits turned
+-- word are damaged, at most t in each of the five chunks: the status is 0, and the position left is no further off than twice the
+-- bits damaged
 unfoldable pub ServedWithinTwiceDamaged : (card received lent : List ℕ) (status : ℕ) (left : List ℕ) → Type 0
 ServedWithinTwiceDamaged card received lent status left =
     length lent ≡ readCount → (position : ℕ) → SoundCard card → position ≤ lastPosition (codeOf card)
     → WithinRadius (codeOf card) position received
     → ServedNear status left position (2 * damaged (codeOf card) position received)
 
--- The sharper bound, under the same premises: no further off than the bits turned and the residual left together
+-- The sharper bound, under the same premises: no further off than the bits damaged and the residual left together
 unfoldable pub ServedWithinDamagedAndResidual : (card received lent : List ℕ) (status : ℕ) (left : List ℕ) → Type 0
 ServedWithinDamagedAndResidual card received lent status left =
     length lent ≡ readCount → (position : ℕ) → SoundCard card → position ≤ lastPosition (codeOf card)
@@ -40,8 +40,8 @@ ServedWithinDamagedAndResidual card received lent status left =
     → ServedNear status left position (damaged (codeOf card) position received + residualLeft left)
 
 -- Document 02, P5, where five numbers and two floats are lent: for a sound card, every position on its track and d levels of 1, -1 and 0
--- that have, against that position's word, 2 × wrong + lost below D in every chunk: the status is 0, and the position left is no further
--- off than 2 × wrong + lost over the whole word
+-- that have, against that position's word, 2 × wrong + erased below D in every chunk: the status is 0, and the position left is no further
+-- off than 2 × wrong + erased over the whole word
 unfoldable pub ServedWithinTwiceWrongAndErased : (card : List ℕ) (levels : List Float) (lent : List ℕ) (lentStrength : List Float) (status : ℕ)
     (left : List ℕ) → Type 0
 ServedWithinTwiceWrongAndErased card levels lent lentStrength status left =

@@ -10,10 +10,10 @@ use super::WRONG_COUNT;
 use super::words;
 use model::LevelsAnswer;
 
-// Reads a word of levels: the numbers of a plain read, over the bits that aren't lost, into five numbers, and the receiver's strength,
+// Reads a word of levels: the numbers of a plain read, over the bits that aren't erased, into five numbers, and the receiver's strength,
 // the sum of the magnitudes and the greatest, into two floats. Where five numbers and two floats are lent: of d levels of 1, -1 and 0
-// that have, against the word of any position on the track, 2 × wrong + lost below D in every chunk, the status is 0, and the position
-// put into the first number is off by at most 2 × wrong + lost, counted over the whole word (`bounded`).
+// that have, against the word of any position on the track, 2 × wrong + erased below D in every chunk, the status is 0, and the position
+// put into the first number is off by at most 2 × wrong + erased, counted over the whole word (`bounded`).
 #[no_mangle]
 pub extern "C" fn dunnavish_read_levels(
     card: &[u8],

@@ -1,4 +1,4 @@
--- What is told of the five chunks of a word gives them as numbers: its bits, and its places that are heard. Assumes nothing.
+-- What is told of the five chunks of a word gives them as numbers: its bits, and its unerased places. Assumes nothing.
 use mathlib.Core.Path.{_≡_}
 use Prim.Native.Nat.{ℕ, _+_, _<_}
 use Rattle.bits.specs.Sums.{fromPlace}

@@ -9,7 +9,7 @@ use Rattle.position.specs.HoldsWord.{HoldsWord}
 use Rattle.levels.specs.LevelChunks.{unerasedBits}
 use Rattle.level_reader.specs.declared.level_word.LevelWord.{LevelWord}
 
--- the bits of a word's d levels and the places that are heard, with zeros behind; the sums of its separators; and the strength
+-- the bits of a word's d levels and the unerased places, with zeros behind; the sums of its separators; and the strength
 pub record LevelWordOf (C : Code) (word : ℕ → ReceivedLevel) (w : LevelWord) : Type 0 where
   pub bits-are : HoldsWord C (bitsIn word) (w .word .bits)
   pub unerased-are : HoldsWord C (unerasedBits word) (w .word .unerased)

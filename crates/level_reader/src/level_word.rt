@@ -15,7 +15,7 @@ use nearest_position::received::ReceivedWord;
 use position::layout::Layout;
 use position::words;
 
-// The word received, its lost bits 0; the sums of its separators; and the strength.
+// The word received, its erased bits 0; the sums of its separators; and the strength.
 pub struct LevelWord {
     pub word: ReceivedWord,
     pub sum1: f32,

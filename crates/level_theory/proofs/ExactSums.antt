@@ -1,5 +1,5 @@
--- Levels that are 1, -1 or lost add up exactly: the sum of up to 2^24 of them is the float of the zeros heard less the ones heard, so
--- it is below zero exactly if more ones than zeros are heard. Assumes nothing.
+-- Levels that are 1, -1 or erased add up exactly: the sum of up to 2^24 of them is the float of the zeros unerased less the ones unerased, so
+-- it is below zero exactly if more ones than zeros are not erased. Assumes nothing.
 use mathlib.Core.Path.{_≡_, refl, ap, _∙_}
 use mathlib.Core.Bool.{cond}
 use Prim.Native.Nat.{ℕ, zero, suc, _+_, _-_, _^_, _≤_, _<_}
@@ -42,14 +42,14 @@ unfolding ofInt
 zero-float = refl
 
 module _ (t : ℕ → ReceivedLevel) where
-  -- no more zeros are heard than there are places, and no more ones
+  -- no more zeros are not erased than there are places, and no more ones
   few-zeros : (m : ℕ) → m ≤ 2 ^ 24 → zerosUnerased t m ≤ 2 ^ 24
   few-zeros m h = omega (arith, places-in-all t m)
 
   few-ones : (m : ℕ) → m ≤ 2 ^ 24 → onesUnerased t m ≤ 2 ^ 24
   few-ones m h = omega (arith, places-in-all t m)
 
-  -- the sum of m levels is the float of the zeros heard less the ones heard
+  -- the sum of m levels is the float of the zeros unerased less the ones unerased
   pub sum-exact : (m : ℕ) → m ≤ 2 ^ 24 → ((p : ℕ) → p < m → UnitOrErased (t p))
       → sumOfLevels t m ≡ zerosLessOnes t m
   unfolding sumOfLevels zerosUnerased onesUnerased sumBelow
@@ -62,7 +62,7 @@ module _ (t : ℕ → ReceivedLevel) where
     in-float : T (inFloat binary32 (minus (zerosUnerased t m) (onesUnerased t m)))
     in-float = difference-in-float binary32 (zerosUnerased t m) (onesUnerased t m) (few-zeros m h) (few-ones m h)
 
-    -- nothing of it is rounded off: it has the value of that difference, negative where more ones are heard
+    -- nothing of it is rounded off: it has the value of that difference, negative where more ones are not erased
     pub sum-value : HasValue (sumOfLevels t m) (ltb (zerosUnerased t m) (onesUnerased t m))
         ((zerosUnerased t m - onesUnerased t m) + (onesUnerased t m - zerosUnerased t m)) 1
     sum-value =
@@ -70,14 +70,14 @@ module _ (t : ℕ → ReceivedLevel) where
         (rw (← (difference-absolute (zerosUnerased t m) (onesUnerased t m)))
         (integer-value binary32 (minus (zerosUnerased t m) (onesUnerased t m)) in-float))
 
-    -- it is below zero exactly if more ones are heard than zeros
+    -- it is below zero exactly if more ones are not erased than zeros
     pub below-zero : lt (sumOfLevels t m) zeroLevel ≡ ltb (zerosUnerased t m) (onesUnerased t m)
     below-zero =
         rw (sum-exact m h units)
         (integer-below-zero binary32 (minus (zerosUnerased t m) (onesUnerased t m)) in-float
         ∙ difference-negative (zerosUnerased t m) (onesUnerased t m))
 
-    -- so a separator reads 1 exactly if more ones are heard in it
+    -- so a separator reads 1 exactly if more ones are not erased in it
     pub separator-by-count : separatorReading m t ≡ cond (ltb (zerosUnerased t m) (onesUnerased t m)) 1 0
     unfolding separatorReading
     separator-by-count = rw below-zero

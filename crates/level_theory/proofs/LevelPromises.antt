@@ -42,7 +42,7 @@ use Rattle.level_theory.proofs.ErasureCounts.{level-bit}
 use Rattle.level_theory.proofs.LevelsSeen.{levels-see-chunks, levels-see, as-plain-seen, as-plain-residual}
 use Rattle.level_theory.proofs.LevelsAnswered.{position-answered, read-if-inside, levels-sound, levels-show}
 
--- ---- the nearest allowed position over bits that aren't lost
+-- ---- the nearest allowed position over bits that aren't erased
 
 pub nearest-over-unerased : (card : List ℕ) (levels : List Float) → NearestOverUnerased card levels (positionAnswer (levelsAnswer card levels))
 unfolding NearestOverUnerased
@@ -107,7 +107,7 @@ module _ (card : List ℕ) (levels : List Float) where
       ∙ refused-by-card (cardRefusal card) _ _ _ refused ∙ sym (refused-by-card (cardRefusal card) _ _ _ refused))
       (eq-or-ne (cardRefusal card) 0)
 
-  -- ---- levels of 1, -1 and 0 with 2 × wrong + lost below D in every chunk
+  -- ---- levels of 1, -1 and 0 with 2 × wrong + erased below D in every chunk
 
   pub off-by-at-most-twice-wrong-and-erased : OffByAtMostTwiceWrongAndErased card levels (positionAnswer (levelsAnswer card levels))
   unfolding OffByAtMostTwiceWrongAndErased residualUnerased receivedAt

@@ -51,7 +51,7 @@ use Rattle.level_theory.specs.LevelWitnesses.{wrongAndErased, threeErase
 
 -- ---- premises, as tests that are computed
 
--- each level of a word is one of 1, -1 and 0; and of 1 and -1 where no bit is lost
+-- each level of a word is one of 1, -1 and 0; and of 1 and -1 where no bit is erased
 level-is : (bits : List ℕ) (p : ℕ) → p < length bits → getD (levelsOf bits) p nan ≡ levelOf (getD bits p 0)
 level-is [] p h = absurd (omega arith)
 level-is (b ∷ bits) zero h = refl
@@ -76,7 +76,7 @@ unit-levels bits p h = rw (level-is bits p h) (unit-level (getD bits p 0))
 one-levels : (bits : List ℕ) → anyBelow (λ p. ltb 1 (getD bits p 0)) (length bits) ≡ false → OneLevels (levelsOf bits) (length bits)
 one-levels bits none p h = rw (level-is bits p h) (one-level (getD bits p 0) (ltb-false _ _ (none-of-any _ (length bits) none p h)))
 
--- every chunk has 2 × wrong + lost below D
+-- every chunk has 2 × wrong + erased below D
 below : (C : Code) (unerased : ℕ → Bool) (u x : ℕ → ℕ)
     → anyBelow (λ c. leb (C .D) (2 * wrongIn C unerased c u x + erasedIn C unerased c)) 5 ≡ false → ChunksBelowD C unerased u x
 unfolding ChunksBelowD
@@ -112,14 +112,14 @@ count-is : (C : Code) (unerased : ℕ → Bool) (chunk : ℕ → ℕ) (p q : ℕ
 unfolding CountsWrong
 count-is C unerased chunk p q bits is (count, as-read, counted, few) = as-read ∙ ap Differing (rw is at counted)
 
--- and 2 × wrong + lost is below D: nothing is told of a chunk for which that holds of no codeword
+-- and 2 × wrong + erased is below D: nothing is told of a chunk for which that holds of no codeword
 no-count : (C : Code) (unerased : ℕ → Bool) (chunk : ℕ → ℕ) (p last : ℕ) (bits : ChunkBits)
     → anyBelow (withinErasures C unerased chunk) (suc last) ≡ false → p ≤ last → CountsWrong C true unerased chunk p bits → ⊥
 unfolding CountsWrong withinErasures
 no-count C unerased chunk p last bits none in-code (count, as-read, counted, few) =
     let far = ltb-false _ (C .D) (none-of-any (withinErasures C unerased chunk) (suc last) none p (omega arith)) in omega arith
 
--- ---- levels pasted from two telegrams
+-- ---- levels mixed from two telegrams
 
 never-read : (levels : List Float) (i j c : ℕ)
     → let C : Code = codeOf cardB in

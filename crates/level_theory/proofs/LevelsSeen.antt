@@ -1,5 +1,5 @@
--- What is seen of a word of told bits: its code chunks are read over the places that are heard; and its separators tell where each bit is
--- lost or told as the level 1 or -1. Where every level is 1 or -1, it is what is seen of the plain word of these bits. Assumes nothing.
+-- What is seen of a word of told bits: its code chunks are read over the unerased places; and its separators tell where each bit is
+-- erased or told as the level 1 or -1. Where every level is 1 or -1, it is what is seen of the plain word of these bits. Assumes nothing.
 use mathlib.Core.Path.{_≡_, refl, sym, ap, fun-ext, _∙_}
 use mathlib.Core.Bool.{true}
 use Prim.Native.Nat.{ℕ, _+_, _^_, _≤_, _<_}
@@ -54,7 +54,7 @@ module _ (C : Code) (sound : Sound C) (word : ℕ → ReceivedLevel) (units : (p
         separator₃ = reads-from (C .D + C .n + C .D + C .n) (omega arith);
       }
 
-  -- where nothing is lost, of a plain word x that has these bits
+  -- where nothing is erased, of a plain word x that has these bits
   module _ (unerased : (p : ℕ) → p < wordBits C → isUnerased (word p) ≡ true) (x : ℕ → ℕ)
       (same : (p : ℕ) → p < wordBits C → x p ≡ bitOfLevel (word p)) where
     majority-from : (at : ℕ) → at + C .D ≤ wordBits C → separatorReading (C .D) (fromPlace at word) ≡ majority (C .D) (fromPlace at x)

@@ -1,4 +1,4 @@
--- P5: a code chunk of a sound card reads as the codeword for which 2 × wrong + lost is below D, one at most. Assumes nothing.
+-- P5: a code chunk of a sound card reads as the codeword for which 2 × wrong + erased is below D, one at most. Assumes nothing.
 use mathlib.Core.List.{List}
 use Prim.Native.Nat.{ℕ}
 use borrow.Author.Tests.{ltb-true, lt-ltb}

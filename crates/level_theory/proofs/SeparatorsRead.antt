@@ -1,5 +1,5 @@
--- What separators of levels tell: of bits that were all b, with 2 × wrong + lost below D, the levels sum to the side of b; and where
--- nothing is lost they read as the majority of their bits does. Assumes nothing.
+-- What separators of levels tell: of bits that were all b, with 2 × wrong + erased below D, the levels sum to the side of b; and where
+-- nothing is erased they read as the majority of their bits does. Assumes nothing.
 use mathlib.Core.Path.{_≡_, _∙_}
 use mathlib.Core.Bool.{true}
 use mathlib.Core.Logic.{⊎-elim}
@@ -25,7 +25,7 @@ unfolding separatorReading
 separator-bit D t = by-test (λ b. b < 2) (lt (sumOfLevels t D) zeroLevel) (λ _. omega arith) (λ _. omega arith)
 
 module _ (D : ℕ) (t : ℕ → ReceivedLevel) (h : D ≤ 2 ^ 24) (units : (p : ℕ) → p < D → UnitOrErased (t p)) where
-  -- a separator whose bits were all b reads b if 2 × wrong + lost is below D
+  -- a separator whose bits were all b reads b if 2 × wrong + erased is below D
   pub separator-reads : (b : ℕ) (u : ℕ → ℕ) → b < 2 → ((p : ℕ) → p < D → u p ≡ b)
       → 2 * distanceUnerased (unerasedIn t) D u (bitsIn t) + erasedBelow (unerasedIn t) D < D → separatorReading D t ≡ b
   separator-reads b u hb hu few =
@@ -38,7 +38,7 @@ module _ (D : ℕ) (t : ℕ → ReceivedLevel) (h : D ≤ 2 ^ 24) (units : (p : 
       rw (one, lt-ltb (zerosUnerased t D) (onesUnerased t D) (omega (arith, places-in-all t D, wrong-ones t D u (λ p l. hu p l ∙ one)))))
       (eq-zero-or-pos b))
 
-  -- where nothing is lost a separator reads as its bits do
+  -- where nothing is erased a separator reads as its bits do
   pub separator-as-bits : ((p : ℕ) → p < D → isUnerased (t p) ≡ true) → separatorReading D t ≡ majority D (bitsIn t)
   unfolding majority
   separator-as-bits unerased =

@@ -1,4 +1,4 @@
--- Document 02, P6, of words of levels: that levels are pasted from two telegrams, and what was answered without P6. The definitions are those
+-- Document 02, P6, of words of levels: that levels are mixed from two telegrams, and what was answered without P6. The definitions are those
 -- of plain words, applied to what the levels tell. Assumes nothing.
 use mathlib.Core.Path.{_≡_}
 use mathlib.Core.Bool.{not}
@@ -23,7 +23,7 @@ use Rattle.level_theory.specs.UnitLevels.{UnitLevels}
 use Rattle.level_theory.specs.LevelsSeen.{unerasedOf, bitsOf, seenOf}
 
 -- the rule's separator is from w(i): whatever the levels are, it reads as the parity of i, or they are 1, -1 and 0, and it has
--- 2 × wrong + lost below D
+-- 2 × wrong + erased below D
 abbrev pub SeparatorFrom : (card : List ℕ) (levels : List Float) (i : ℕ) → Type 0
 SeparatorFrom card levels i =
     let C : Code = codeOf card in
@@ -31,8 +31,8 @@ SeparatorFrom card levels i =
     (separatorBy (seenOf card levels) rule ≡ i % 2)
     ⊎ (UnitLevels levels (wordBits C) × ChunkBelowD C (unerasedOf levels) (word C i) (bitsOf levels) (separatorChunk rule))
 
--- Levels are pasted from two telegrams, w(i) and w(j), whose parities differ: by the rule that the separators name, the word has the rule's
--- separator from the first and a code chunk c that the rule names from the second, with 2 × wrong + lost below D
+-- Levels are mixed from two telegrams, w(i) and w(j), whose parities differ: by the rule that the separators name, the word has the rule's
+-- separator from the first and a code chunk c that the rule names from the second, with 2 × wrong + erased below D
 pub record MixedLevels (card : List ℕ) (levels : List Float) (i j c : ℕ) : Type 0 where
   pub in-code : i ≤ lastCodeword (codeOf card)
   pub in-code′ : j ≤ lastCodeword (codeOf card)

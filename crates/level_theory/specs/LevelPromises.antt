@@ -26,8 +26,8 @@ use Rattle.level_theory.specs.LevelContradictions.{MixedLevels, levelsAn
 
 -- ---- a clause of its own
 
--- When each of d levels is 1, -1 or 0 and, against a position's word, every chunk has 2 × wrong + lost below D: the answer is no refusal,
--- and off by at most 2 × wrong + lost over the whole word. For every sound card, every position on its track and every pattern
+-- When each of d levels is 1, -1 or 0 and, against a position's word, every chunk has 2 × wrong + erased below D: the answer is no refusal,
+-- and off by at most 2 × wrong + erased over the whole word. For every sound card, every position on its track and every pattern
 unfoldable pub OffByAtMostTwiceWrongAndErased : (card : List ℕ) (levels : List Float) → ReadAnswer → Type 0
 OffByAtMostTwiceWrongAndErased card levels answer =
     let C : Code = codeOf card in
@@ -38,7 +38,7 @@ OffByAtMostTwiceWrongAndErased card levels answer =
 -- ---- the clause `promises`
 
 -- For a sound card and d levels, none of them outside the limits: the answer is the allowed position nearest to the word over bits that
--- aren't lost, the smallest on a tie, with its residual over these bits; or the refusal by the first of rows 9 to 12 and 17 that holds
+-- aren't erased, the smallest on a tie, with its residual over these bits; or the refusal by the first of rows 9 to 12 and 17 that holds
 unfoldable pub NearestOverUnerased : (card : List ℕ) (levels : List Float) → ReadAnswer → Type 0
 NearestOverUnerased card levels answer =
     let C : Code = codeOf card in
@@ -61,7 +61,7 @@ AsPlainReading card levels answer =
 unfoldable pub LevelsReadOnlyIfParityAgrees : (card : List ℕ) (levels : List Float) → ReadAnswer → Type 0
 LevelsReadOnlyIfParityAgrees card levels answer = AgreesIfRead (codeOf card) (seenOf card levels) answer
 
--- Levels pasted from two telegrams whose parities differ are never read
+-- Levels mixed from two telegrams whose parities differ are never read
 unfoldable pub MixedLevelsNeverRead : (card : List ℕ) (levels : List Float) → ReadAnswer → Type 0
 MixedLevelsNeverRead card levels answer = (i j c : ℕ) → MixedLevels card levels i j c → (r : Reading) → answer ≡ At r → ⊥
 

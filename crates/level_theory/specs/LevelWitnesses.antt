@@ -1,5 +1,5 @@
 -- The promises of the reading of levels, held from below, as position_theory's Witnesses.antt holds those of the plain reading: of card B,
--- a damaged word of levels and whatever is answered, each row says what the promise alone gives, with 2 × wrong + lost just below D. So a
+-- a damaged word of levels and whatever is answered, each row says what the promise alone gives, with 2 × wrong + erased just below D. So a
 -- premise that nobody can meet, or a bound looser than document 02's, no longer gives its row. Assumes nothing.
 use mathlib.Core.Path.{_≡_}
 use mathlib.Core.Bool.{true, false}
@@ -25,7 +25,7 @@ use Rattle.level_theory.specs.LevelPromises.{LevelsAsBeforeUnlessContrad
 
 -- ---- words of levels of card B, whose D is 3
 
--- the level of a bit, 0 or 1, and of a lost bit, as zero of either sign
+-- the level of a bit, 0 or 1, and of an erased bit, as zero of either sign
 unfoldable pub levelOf : ℕ → Float
 levelOf zero = plusOne
 levelOf (suc zero) = minusOne
@@ -48,36 +48,36 @@ zeros = 0 ∷ 0 ∷ 0 ∷ []
 abbrev pub ones : List ℕ
 ones = 1 ∷ 1 ∷ 1 ∷ []
 
--- 7 with one bit of chunk 1 wrong; and between 6 and 7, with the bit lost by which they differ
+-- 7 with one bit of chunk 1 wrong; and between 6 and 7, with the bit erased by which they differ
 abbrev pub sevenWrong : List ℕ
 sevenWrong = chunks ones (1 ∷ 1 ∷ 0 ∷ []) (1 ∷ 0 ∷ 0 ∷ []) zeros zeros
 
 abbrev pub sixOrSeven : List ℕ
 sixOrSeven = chunks ones ones (erased ∷ 0 ∷ 0 ∷ []) zeros zeros
 
--- 15 with one bit of separator 3 wrong, or two lost; either reads as 13, which is just 2 × wrong + lost off
+-- 15 with one bit of separator 3 wrong, or two erased; either reads as 13, which is just 2 × wrong + erased off
 abbrev pub lastWrong : List ℕ
 lastWrong = chunks ones ones ones ones (1 ∷ 0 ∷ 1 ∷ [])
 
 abbrev pub lastErased : List ℕ
 lastErased = chunks ones ones ones ones (1 ∷ erased ∷ erased⁻ ∷ [])
 
--- 15 with one bit wrong, or two lost, in every chunk
+-- 15 with one bit wrong, or two erased, in every chunk
 abbrev pub allDamaged : List ℕ
 allDamaged = chunks (0 ∷ 1 ∷ 1 ∷ []) (erased ∷ erased⁻ ∷ 1 ∷ []) (1 ∷ erased ∷ erased ∷ []) (1 ∷ 0 ∷ 1 ∷ []) (erased⁻ ∷ 1 ∷ erased ∷ [])
 
--- 0 with two bits of chunk 1 lost and one bit of chunk 2 wrong
+-- 0 with two bits of chunk 1 erased and one bit of chunk 2 wrong
 abbrev pub zeroDamaged : List ℕ
 zeroDamaged = chunks zeros (erased ∷ erased⁻ ∷ 0 ∷ []) zeros (0 ∷ 1 ∷ 0 ∷ []) zeros
 
--- 2 × wrong + lost of chunk 1 is D, against either codeword: one bit wrong and one lost, or three lost
+-- 2 × wrong + erased of chunk 1 is D, against either codeword: one bit wrong and one erased, or three erased
 abbrev pub wrongAndErased : List ℕ
 wrongAndErased = chunks zeros (erased ∷ 1 ∷ 0 ∷ []) zeros zeros zeros
 
 abbrev pub threeErased : List ℕ
 threeErased = chunks zeros (erased ∷ erased ∷ erased ∷ []) zeros zeros zeros
 
--- w(0) with both code chunks from w(1); the same with two bits lost in separator 1 and in chunk 1, and with one wrong in either; with chunk
+-- w(0) with both code chunks from w(1); the same with two bits erased in separator 1 and in chunk 1, and with one wrong in either; with chunk
 -- 2 alone from w(1); and by rules 1 and 2, with a separator besides
 abbrev pub mixed : List ℕ
 mixed = chunks zeros ones zeros ones zeros
@@ -105,14 +105,14 @@ abbrev pub mixedLevels : List Float
 mixedLevels = ofInt binary32 (pos 3) ∷ minusOne ∷ minusOne ∷ levelsOf (ones ++ (zeros ++ (ones ++ zeros)))
 
 pub record LevelsWitnessed : Type 0 where
-  -- a code chunk of which two of three places are lost is read
+  -- a code chunk of which two of three places are erased is read
   pub two-erased : ChunksReadBelowD cardB → erasureReading (codeOf cardB) (λ p. eqb p 1) (λ p. 1) ≡ Codeword 1 0
-  -- the nearest over bits that are heard: 6 and 7 are as near, or 13 and 15, and the smallest is answered; a pasted word is refused by 17
+  -- the nearest over unerased bits: 6 and 7 are as near, or 13 and 15, and the smallest is answered; a mixed word is refused by 17
   pub smaller-of-two : (answer : ReadAnswer) → NearestOverUnerased cardB (levelsOf sixOrSeven) answer → ReadAs 6 0 2 answer
   pub smallest-of-wrong : (answer : ReadAnswer) → NearestOverUnerased cardB (levelsOf lastWrong) answer → ReadAs 13 1 3 answer
   pub smallest-of-erased : (answer : ReadAnswer) → NearestOverUnerased cardB (levelsOf lastErased) answer → ReadAs 13 0 3 answer
   pub by-17 : (answer : ReadAnswer) → NearestOverUnerased cardB (levelsOf mixed) answer → answer ≡ Refused 17
-  -- wrong bits of chunks, with 2 × wrong + lost just below D; of a chunk that is not named none; and with D itself no reading
+  -- wrong bits of chunks, with 2 × wrong + erased just below D; of a chunk that is not named none; and with D itself no reading
   pub below-D : (r : Reading) → CountsWrongOfChunks cardB (levelsOf zeroDamaged) (At r) → (r .chunk1 ≡ Differing 0) × (r .chunk2 ≡ Differing 1)
   pub not-named : (r : Reading) → CountsWrongOfChunks cardB (levelsOf sevenWrong) (At r) → (r .chunk1 ≡ NotRead) × (r .chunk2 ≡ Differing 0)
   pub wrong-and-erased : NoneReads (CountsWrongOfChunks cardB (levelsOf wrongAndErased))
@@ -120,12 +120,12 @@ pub record LevelsWitnessed : Type 0 where
   -- levels of 1 and -1 are read, or refused, as the plain word
   pub as-plain : (answer : ReadAnswer) → AsPlainReading cardB (levelsOf sevenWrong) answer → ReadAs 5 1 2 answer
   pub refused-as-plain : (answer : ReadAnswer) → AsPlainReading cardB (levelsOf mixed) answer → answer ≡ Refused 17
-  -- off by at most 2 × wrong + lost, which 13 for 15 is either way; and every chunk just below D
+  -- off by at most 2 × wrong + erased, which 13 for 15 is either way; and every chunk just below D
   pub twice-wrong : (answer : ReadAnswer) → OffByAtMostTwiceWrongAndErased cardB (levelsOf lastWrong) answer → ReadWithin 2 15 answer
   pub once-erased : (answer : ReadAnswer) → OffByAtMostTwiceWrongAndErased cardB (levelsOf lastErased) answer → ReadWithin 2 15 answer
   pub in-all : (answer : ReadAnswer) → OffByAtMostTwiceWrongAndErased cardB (levelsOf allDamaged) answer → ReadWithin 10 15 answer
-  -- separators that contradict the codeword, by each rule; and levels pasted from two telegrams, by each rule and each chunk that it names,
-  -- with two bits lost or one wrong in both parts, and with levels of any magnitude
+  -- separators that contradict the codeword, by each rule; and levels mixed from two telegrams, by each rule and each chunk that it names,
+  -- with two bits erased or one wrong in both parts, and with levels of any magnitude
   pub contradicts : NoneReads (LevelsReadOnlyIfParityAgrees cardB (levelsOf mixed))
   pub contradicts-by-rule-1 : NoneReads (LevelsReadOnlyIfParityAgrees cardB (levelsOf mixedByRule1))
   pub contradicts-by-rule-2 : NoneReads (LevelsReadOnlyIfParityAgrees cardB (levelsOf mixedByRule2))

@@ -1,4 +1,4 @@
--- What the levels of a word tell: the places that are heard, the bits there, what is seen of the word, and the word of these bits. Assumes
+-- What the levels of a word tell: the unerased places, the bits there, what is seen of the word, and the word of these bits. Assumes
 -- nothing.
 use mathlib.Core.Bool.{Bool}
 use mathlib.Core.List.{List}
@@ -10,7 +10,7 @@ use Rattle.model.specs.Words.{wordBits}
 use Rattle.model.specs.Reading.{Seen}
 use Rattle.model.specs.Levels.{receivedAt, unerasedIn, bitsIn, seenInLevels}
 
--- the places that are heard, and the bits there
+-- the unerased places, and the bits there
 abbrev pub unerasedOf : (levels : List Float) (p : ℕ) → Bool
 unerasedOf levels = unerasedIn (receivedAt levels)
 

@@ -1,9 +1,9 @@
-// What an arriving level is told as. No other function looks at a level to tell whether its bit is lost.
+// What an arriving level is told as. No other function looks at a level to tell whether its bit is erased.
 ghost use mathlib.Core.Path.{_≡_};
 ghost use Rattle.model.specs.Levels.{receivedLevel};
 use model::ReceivedLevel;
 
-// A zero of either sign is a lost bit, and any other level is a level.
+// A zero of either sign is an erased bit, and any other level is a level.
 pub fn received_level(level: f32) -> ReceivedLevel
     ensures { λ r. ⌜ r ≡ receivedLevel level ⌝ }
 {

@@ -1,5 +1,5 @@
--- The search over the places that are heard: rows and chunk are cut to these places, so their sums are codewords cut to them, and the ones
--- counted are the wrong places. At most (D - 1 - lost) / 2 of these are as good as 2 × wrong + lost below D. A chunk of which all is heard is
+-- The search over the unerased places: rows and chunk are cut to these places, so their sums are codewords cut to them, and the ones
+-- counted are the wrong places. At most (D - 1 - erased) / 2 of these are as good as 2 × wrong + erased below D. A chunk of which all is not erased is
 -- a plain one. Assumes nothing.
 use mathlib.Core.Path.{_≡_, refl, sym, ap, ap₂, fun-ext, _∙_}
 use mathlib.Core.Bool.{Bool}
@@ -32,7 +32,7 @@ use Rattle.code_theory.proofs.ChunkReading.{reading-passed, erasure-reading-ext
 use Rattle.code_theory.proofs.Promise.{promise, plain-reading}
 use Rattle.linear_code.specs.FirstWithin.{rowsDistance, nearBits, firstWithin}
 
--- ---- rows cut to the places heard
+-- ---- rows cut to the unerased places
 
 -- rows cut to the places of h have sums cut to them
 rows-cut : (row cutRow : ℕ → ℕ) (h k g : ℕ) → ((z : ℕ) → z < k → cutRow z ≡ bitAnd (row z) h)
@@ -54,7 +54,7 @@ module _ (C : Code) (sound : Sound C) (x h : ℕ) (fits : x < 2 ^ C .n) (mask : 
   abbrev unerased : ℕ → Bool
   unerased = marked (bit h)
 
-  -- where D places or more are lost, no codeword is near
+  -- where D places or more are erased, no codeword is near
   pub too-many-erased : C .D ≤ erasedBelow unerased (C .n) → Unreadable ≡ erasureReading C unerased (bit x)
   unfolding erasureReading withinErasures
   too-many-erased all =

@@ -24,7 +24,7 @@ pub fn radius_of(code: DecodedCode) -> u32
     (code.distance - 1) / 2
 }
 
-// The rows of a code at the places that are heard, and 0 at the others.
+// The rows of a code at the unerased places, and 0 at the others.
 fn unerased_rows(code: DecodedCode, unerased: u64) -> [u64; 12]
     requires { ⌜ code .k ≤ 12 ⌝ }
     ensures { λ r. ⌜ ((z : ℕ) → z < code .k → getD r z 0 ≡ bitAnd (getD (code .rows) z 0) unerased) ⌝ }
@@ -80,9 +80,9 @@ fn search(k: u32, rows: [u64; 12], x: u64, limit: u32) -> Chunk
     found
 }
 
-// What the chunk `x` reads as, of which the places marked in `heard` are heard: the codeword for which 2 × wrong + lost is below D, with
-// the count of wrong places. Rows and chunk are cut to the places that are heard, so that the search counts wrong places alone; and its
-// limit is the most that may be wrong. Of a plain chunk, all of which is heard, this is the codeword within the radius, with the count of
+// What the chunk `x` reads as, of which the places marked in `unerased` are not erased: the codeword for which 2 × wrong + erased is below D, with
+// the count of wrong places. Rows and chunk are cut to the unerased places, so that the search counts wrong places alone; and its
+// limit is the most that may be wrong. Of a plain chunk, all of which is not erased, this is the codeword within the radius, with the count of
 // places in which the two differ: the status is 0, and the values are the codeword's number and the count; the status is 10 where
 // there is no such codeword.
 pub fn read_chunk(code: DecodedCode, x: u64, unerased: u64) -> Chunk

@@ -1,5 +1,5 @@
 -- Document 01, "Where a call can be turned down", and 02: the check of a card. Its rows are those of the card itself, `cardRefusal`: 1 to 5 and
--- 14. That an answer's status and values are the refusal and, where the card is sound, the figures is in the call's contract. Assumes nothing.
+-- 14. That an answer's status and values are the refusal and, where the card is sound, the values is in the call's contract. Assumes nothing.
 use mathlib.Core.List.{List, [], _∷_}
 use Prim.Native.Nat.{ℕ}
 use Rattle.model.specs.Refusals.{unlessRefused}

@@ -1,6 +1,6 @@
 -- Document 02, P5: words from a receiver that gives levels. What an arriving level is told as, how separators and code chunks read, the
--- residual over bits that aren't lost, and the receiver's strength. A lost bit is an erasure, and a bit that is heard one that is not
--- erased: 2 × wrong + lost below D is the bound of errors-and-erasures decoding. A word is seen as `Seen` again, so that rules, rows and
+-- residual over bits that aren't erased, and the receiver's strength. An erased bit is an erasure, and a bit that is not erased one that is not
+-- erased: 2 × wrong + erased below D is the bound of errors-and-erasures decoding. A word is seen as `Seen` again, so that rules, rows and
 -- ranges are those of Reading.antt; a level is a float of single precision, in the toolchain's own account of IEEE 754 (lib.Ieee).
 -- Assumes nothing.
 use mathlib.Core.Bool.{Bool, true, false, cond, _||_}
@@ -44,7 +44,7 @@ outside x = isNan x || infinite x || lt (ofInt binary32 (pos 1000000)) (magnitud
 unfoldable pub anyOutside : (d : ℕ) (levels : List Float) → Bool
 anyOutside d levels = anyBelow (λ p. outside (getD levels p nan)) d
 
--- each arriving level is told either as a level or, when it is zero of either sign, as a lost bit
+-- each arriving level is told either as a level or, when it is zero of either sign, as an erased bit
 unfoldable pub receivedLevel : Float → ReceivedLevel
 receivedLevel x = cond (eq x zeroLevel) Lost (Level x)
 
@@ -52,7 +52,7 @@ receivedLevel x = cond (eq x zeroLevel) Lost (Level x)
 unfoldable pub receivedAt : (levels : List Float) (p : ℕ) → ReceivedLevel
 receivedAt levels p = receivedLevel (getD levels p nan)
 
--- whether a bit is heard, and which it is: negative for 1 (of a lost bit this means nothing)
+-- whether a bit is not erased, and which it is: negative for 1 (of an erased bit this means nothing)
 unfoldable pub isUnerased : ReceivedLevel → Bool
 isUnerased Lost = false
 isUnerased (Level x) = true
@@ -61,14 +61,14 @@ unfoldable pub bitOfLevel : ReceivedLevel → ℕ
 bitOfLevel Lost = 0
 bitOfLevel (Level x) = cond (lt x zeroLevel) 1 0
 
--- the places of a word that are heard, and its bits
+-- the places of a word that are not erased, and its bits
 abbrev pub unerasedIn : (word : ℕ → ReceivedLevel) (p : ℕ) → Bool
 unerasedIn word p = isUnerased (word p)
 
 abbrev pub bitsIn : (word : ℕ → ReceivedLevel) (p : ℕ) → ℕ
 bitsIn word p = bitOfLevel (word p)
 
--- one level more, added in single precision and rounded once; a lost bit has no level
+-- one level more, added in single precision and rounded once; an erased bit has no level
 unfoldable pub plusLevel : Float → ReceivedLevel → Float
 plusLevel sum Lost = sum
 plusLevel sum (Level x) = add binary32 sum x
@@ -82,15 +82,15 @@ sumOfLevels separator (suc D) = plusLevel (sumOfLevels separator D) (separator D
 unfoldable pub separatorReading : (D : ℕ) (separator : ℕ → ReceivedLevel) → ℕ
 separatorReading D separator = cond (lt (sumOfLevels separator D) zeroLevel) 1 0
 
--- of a code chunk against c(p): wrong are the places that are heard and in which the two differ
+-- of a code chunk against c(p): wrong are the unerased places and in which the two differ
 unfoldable pub chunkWrong : Code → (unerased : ℕ → Bool) (x : ℕ → ℕ) (p : ℕ) → ℕ
 chunkWrong C unerased x p = distanceUnerased unerased (C .n) (bit (codeword C p)) x
 
--- whether 2 × wrong + lost is below D
+-- whether 2 × wrong + erased is below D
 unfoldable pub withinErasures : Code → (unerased : ℕ → Bool) (x : ℕ → ℕ) (p : ℕ) → Bool
 withinErasures C unerased x p = ltb (2 * chunkWrong C unerased x p + erasedBelow unerased (C .n)) (C .D)
 
--- a code chunk reads as the codeword for which 2 × wrong + lost is below D (the first such p; there is one at most, by the law
+-- a code chunk reads as the codeword for which 2 × wrong + erased is below D (the first such p; there is one at most, by the law
 -- `one-within-erasures`), with its count of wrong places
 unfoldable pub erasureReading : Code → (unerased : ℕ → Bool) (x : ℕ → ℕ) → Chunk
 erasureReading C unerased x = readFirst (withinErasures C unerased x) (chunkWrong C unerased x) (2 ^ C .k)
@@ -110,7 +110,7 @@ seenInLevels C word =
       read₂ = levelsChunkReading C (chunk₂ C word);
     }
 
--- the residual of a position over bits that aren't lost: in how many of them its word is unlike the received word
+-- the residual of a position over bits that aren't erased: in how many of them its word differs from the received word
 unfoldable pub residualUnerased : Code → (unerased : ℕ → Bool) (x : ℕ → ℕ) (position : ℕ) → ℕ
 residualUnerased C unerased x position = distanceUnerased unerased (wordBits C) (wordAt C position) x
 

@@ -19,7 +19,7 @@ use Rattle.model.specs.declared.Strength.{Strength}
 use Rattle.model.specs.declared.LevelsAnswer.{LevelsAnswer}
 use Rattle.model.specs.declared.LevelsAnswer.the-variants.{At, Refused}
 
--- the rows of what is seen of a word of told bits, and the position nearest to it over bits that aren't lost
+-- the rows of what is seen of a word of told bits, and the position nearest to it over bits that aren't erased
 abbrev pub rowsInLevels : Code → (word : ℕ → ReceivedLevel) → List Row
 rowsInLevels C word = let s : Seen = seenInLevels C word in rowsSeen (twoEnds C) s (ruleSeen s)
 

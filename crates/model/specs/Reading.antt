@@ -30,7 +30,7 @@ chunkDistance C x p = distance (C .n) (bit (codeword C p)) x
 unfoldable pub withinRadius : Code → (x : ℕ → ℕ) (p : ℕ) → Bool
 withinRadius C x p = leb (chunkDistance C x p) (radius C)
 
--- what a chunk reads as by a search: the first of so many codewords that is near enough, with its count of unlike places; nothing
+-- what a chunk reads as by a search: the first of so many codewords that is near enough, with its count of differing places; nothing
 -- where none is
 unfoldable pub readFirst : (near : ℕ → Bool) (count : ℕ → ℕ) (many : ℕ) → Chunk
 readFirst near count many = let p : ℕ = first near many in cond (ltb p many) (Codeword p (count p)) Unreadable
@@ -175,7 +175,7 @@ rowsOf C x = rowsSeen (twoEnds C) (seen C x) (ruleNamed C x)
 unfoldable pub allowed : Code → (x : ℕ → ℕ) → Range
 allowed C x = rangeSeen (twoEnds C) (seen C x) (ruleNamed C x)
 
--- the residual of a position: in how many of all d bits its word is unlike the received word
+-- the residual of a position: in how many of all d bits its word differs from the received word
 unfoldable pub residual : Code → (x : ℕ → ℕ) (position : ℕ) → ℕ
 residual C x position = distance (wordBits C) (wordAt C position) x
 

@@ -3,7 +3,7 @@
 // beside which stand 512 zero bytes.
 
 // What a code chunk reads as: the number p of the codeword c(p) within the radius, and in how many places the two differ. Of a chunk with
-// lost bits, the codeword for which 2 × wrong + lost is below D, and how many places are wrong.
+// erased bits, the codeword for which 2 × wrong + erased is below D, and how many places are wrong.
 pub enum Chunk {
     Codeword { number: u32, differing: u32 },
     Unreadable,
@@ -48,7 +48,7 @@ pub enum WriteAnswer {
     Refused(u32),
 }
 
-// How many bits a code chunk of a word needed: in how many of those that are not lost it and the codeword that it reads as differ; or the
+// How many bits a code chunk of a word needed: in how many of those that are not erased it and the codeword that it reads as differ; or the
 // word's rule does not name the chunk, and it was not read.
 pub enum ChunkBits {
     Differing(u32),
@@ -70,7 +70,7 @@ pub enum ReadAnswer {
     Refused(u32),
 }
 
-// What an arriving level is told as: a lost bit, or a level. Document 01 names the form: an enum with Level(f32) and Lost.
+// What an arriving level is told as: an erased bit, or a level. Document 01 names the form: an enum with Level(f32) and Lost.
 pub enum ReceivedLevel {
     Lost,
     Level(f32),

@@ -1,5 +1,5 @@
 -- A search passes the places of two words, held in arrays. At a place where they are alike nothing changes; where they differ, it
--- comes one position on, and the residual changes by that place if it is heard. Assumes nothing.
+-- comes one position on, and the residual changes by that place if it is not erased. Assumes nothing.
 use mathlib.Core.Path.{_≡_, refl, sym, ap, _∙_}
 use mathlib.Core.List.{List}
 use mathlib.Core.Logic.{⊎-elim}
@@ -89,14 +89,14 @@ module _ (u v : List ℕ) (x : ReceivedWord) (at q : ℕ) (s t : Scan) (from-at 
 
   -- a place that differs
   module _ (differ : place u q ≡ place v q → ⊥) where
-    -- a turn to what was received takes one from the residual, where the bit is heard
+    -- a turn to what was received takes one from the residual, where the bit is not erased
     pub residual-positive : place (x .unerased) q ≡ 1 → place (x .bits) q ≡ place v q → 1 ≤ t .residual
     residual-positive unerased e =
         let alike : difference (place v q) (place (x .bits) q) ≡ 0 = rw e (omega arith) in
         let differing : difference (place u q) (place (x .bits) q) ≡ 1 = rw e (differs u v q differ) in
         omega (arith, so-far .residual, rw unerased at (residual-more u v x q room))
 
-    -- `next` is the residual after the bit was turned to v's, and r the search one position on with that residual
+    -- `next` is the residual after the bit was damaged to v's, and r the search one position on with that residual
     pub pass-differing : (next : ℕ)
         → ((old : ℕ) → old < 2 → difference old (place v q) ≡ 1
         → next + differenceUnerased (place (x .unerased) q) old (place (x .bits) q) ≡ t .residual + differenceUnerased (place (x .unerased) q) (place v q) (place (x .bits) q))

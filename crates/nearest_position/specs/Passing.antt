@@ -21,11 +21,11 @@ stepsTo u v q = distance q (place u) (place v)
 unfoldable pub passedTo : (u v : ℕ → ℕ) (q p : ℕ) → ℕ
 passedTo u v q p = cond (ltb p q) (v p) (u p)
 
--- in how many of the bits that are heard it is unlike the received word
+-- in how many of the unerased bits it differs from the received word
 abbrev pub residualTo : (u v : List ℕ) → ReceivedWord → (q : ℕ) → ℕ
 residualTo u v x q = receivedDistance 320 (passedTo (place u) (place v) q) x
 
--- what one place adds to that: 1 where it is heard and the two bits differ
+-- what one place adds to that: 1 where it is not erased and the two bits differ
 abbrev pub differenceUnerased : (unerased a b : ℕ) → ℕ
 differenceUnerased unerased a b = cond (eqb unerased 1) (difference a b) 0
 

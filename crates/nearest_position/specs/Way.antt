@@ -15,7 +15,7 @@ use Rattle.nearest_position.specs.Passing.{passedTo}
 abbrev pub positionAt : Code → (i next q : ℕ) → ℕ
 positionAt C i next q = start C i + distance q (word C i) (word C next)
 
--- f is, at each position of the way, in how many of the bits that are heard the word there is unlike the received one
+-- f is, at each position of the way, in how many of the unerased bits the word there differs from the received one
 unfoldable pub ResidualsOf : Code → ReceivedWord → (i next : ℕ) (f : ℕ → ℕ) → Type 0
 ResidualsOf C x i next f =
     (q : ℕ) → q ≤ wordBits C → f (positionAt C i next q) ≡ receivedDistance (wordBits C) (passedTo (word C i) (word C next) q) x

@@ -1,4 +1,4 @@
-// The residual of a word against a received one: in how many of the bits that are heard the two differ.
+// The residual of a word against a received one: in how many of the unerased bits the two differ.
 ghost use mathlib.Core.Path.{_≡_};
 ghost use Prim.Native.Nat.{_≤_};
 ghost use Rattle.bits.specs.Sums.{distanceUnerased, marked};
@@ -6,7 +6,7 @@ ghost use Rattle.bits.specs.Places.{bit, place};
 ghost use Rattle.nearest_position.specs.Received.{receivedDistance};
 use super::received::ReceivedWord;
 
-// In how many of the bits that are heard, those marked in `heard`, two bytes differ.
+// In how many of the unerased bits, those marked in `unerased`, two bytes differ.
 fn unerased_byte_distance(x: u8, y: u8, unerased: u8) -> u32
     ensures { λ r. ⌜ (r ≡ distanceUnerased (marked (bit unerased)) 8 (bit x) (bit y)) × (r ≤ 8) ⌝ }
 {

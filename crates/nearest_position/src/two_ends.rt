@@ -1,4 +1,4 @@
-// The nearest of the positions that a rule allows on a track with two ends, over the bits that are heard: whether there is a block for the
+// The nearest of the positions that a rule allows on a track with two ends, over the unerased bits: whether there is a block for the
 // rule to go by, and the search through the part of it that the rule names.
 ghost use mathlib.Core.Bool.{false};
 ghost use mathlib.Core.Path.{_≡_};

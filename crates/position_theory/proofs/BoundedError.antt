@@ -1,6 +1,6 @@
--- How far an answer is off, for a code that keeps the chunk promise: a word with 2 × wrong + lost below D in each chunk that is not divided
--- allows the true position, so the answer is off by at most the wrong bits, the residual and the lost bits together, and the residual is at
--- most the wrong bits. P7 is the case of a plain word, in which nothing is lost, and demand 3 that of one within the radius in every chunk.
+-- How far an answer is off, for a code that keeps the chunk promise: a word with 2 × wrong + erased below D in each chunk that is not divided
+-- allows the true position, so the answer is off by at most the wrong bits, the residual and the erased bits together, and the residual is at
+-- most the wrong bits. P7 is the case of a plain word, in which nothing is erased, and demand 3 that of one within the radius in every chunk.
 -- Assumes nothing.
 use mathlib.Core.Path.{_≡_, refl, sym, ap, _∙_}
 use mathlib.Core.Bool.{Bool, false}
@@ -38,7 +38,7 @@ use Rattle.position_theory.proofs.TrueCases.{TrueCase, true-case}
 use Rattle.position_theory.proofs.Allowed.{allowed-isometric}
 use Rattle.position_theory.proofs.Nearest.{answer-near}
 
--- each chunk of the position's word that is not divided has 2 × wrong + lost below D; which is so where each of the five has
+-- each chunk of the position's word that is not divided has 2 × wrong + erased below D; which is so where each of the five has
 abbrev pub UndividedBelowD : Code → (unerased : ℕ → Bool) (position : ℕ) (u x : ℕ → ℕ) → Type 0
 UndividedBelowD C unerased position u x = (c : ℕ) → c < 5 → divided C position c ≡ false → ChunkBelowD C unerased u x c
 
@@ -54,7 +54,7 @@ all-within C position received d =
     record { right-length = d .right-length; spare-zero = d .spare-zero; chunks = λ c b _. omega (arith, d .chunks c (omega arith)) }
 
 module _ (C : Code) where
-  -- the bits turned, or wrong, in a chunk go by the word's places alone
+  -- the bits damaged, or wrong, in a chunk go by the word's places alone
   pub damaged-in-ext : {u u′ : ℕ → ℕ} (x : ℕ → ℕ) → ((p : ℕ) → p < wordBits C → u p ≡ u′ p) → (c : ℕ) → c < 5
       → damagedIn C c u x ≡ damagedIn C c u′ x
   unfolding damagedIn
@@ -66,7 +66,7 @@ module _ (C : Code) where
   wrong-in-ext unerased x same c b =
       unerased-ext-left (chunkOf C c unerased) _ (chunkOf C c x) (λ p l. same _ (omega (arith, chunk-fits C c b)))
 
-  -- the bits turned in all are the residual of the true position
+  -- the bits damaged in all are the residual of the true position
   damaged-is-residual : (position : ℕ) (received : List ℕ) → damaged C position received ≡ residual C (place received) position
   unfolding damaged residual
   damaged-is-residual position received =
@@ -74,7 +74,7 @@ module _ (C : Code) where
       ∙ distance-ext-left (wordBits C) (place received) (place-of-word C position)
 
 module _ (C : Code) {unerased : ℕ → Bool} {x : ℕ → ℕ} {s : Seen} (sees : Sees C unerased x s) where
-  -- m steps on the way from one codeword's word to the next one's, on any track, where every whole chunk has 2 × wrong + lost below D: what
+  -- m steps on the way from one codeword's word to the next one's, on any track, where every whole chunk has 2 × wrong + erased below D: what
   -- is seen is one of the four cases
   pub case-on-way : {words : ℕ → ℕ → ℕ} {from to i j A : ℕ} → Way C words from to i j A → (m : ℕ) → from + m ≤ to
       → (u : ℕ → ℕ) → ((p : ℕ) → p < wordBits C → u p ≡ words (from + m) p)
@@ -85,7 +85,7 @@ module _ (C : Code) {unerased : ℕ → Bool} {x : ℕ → ℕ} {s : Seen} (sees
       (λ c b whole. rw (wrong-in-ext C unerased x (λ p l. same p l ∙ way .walked m room p l) c b) at (within c b whole)))
 
 module _ (C : Code) (promise : ChunkPromise C) {unerased : ℕ → Bool} {x : ℕ → ℕ} {s : Seen} (sees : Sees C unerased x s) where
-  -- a word with 2 × wrong + lost below D in every chunk that is not divided, so in every whole one, allows the true position; of a divided
+  -- a word with 2 × wrong + erased below D in every chunk that is not divided, so in every whole one, allows the true position; of a divided
   -- chunk nothing is asked
   steps-allowed : (i m : ℕ) (u : ℕ → ℕ) → i < lastCodeword C → m ≤ blockLength C i
       → ((p : ℕ) → p < wordBits C → u p ≡ wordAt C (start C i + m) p)
@@ -104,7 +104,7 @@ module _ (C : Code) (promise : ChunkPromise C) {unerased : ℕ → Bool} {x : �
       (λ p b. same p b ∙ ap (λ q. wordAt C q p) (sym (way .is))) (λ c b undivided. within c b (rw (way .is) at undivided)) in
       rw (way .is) at there
 
-  -- and the answer is as near to that position as the residuals and the lost bits say
+  -- and the answer is as near to that position as the residuals and the erased bits say
   pub error-of-seen : (position : ℕ) (u : ℕ → ℕ) → position ≤ lastPosition C → ((p : ℕ) → p < wordBits C → u p ≡ wordAt C position p)
       → UndividedBelowD C unerased position u x
       → let answer = readingOfSeen (twoEnds C) s (residualUnerased C unerased x) in

@@ -57,7 +57,7 @@ module _ (C : Code) where
         second = counts-wrong _ _ _ (s .read₂) (sees .second) _ (reads .second);
       }
 
-  -- where nothing is lost, the wrong bits are those in which chunk and codeword differ, at most t
+  -- where nothing is erased, the wrong bits are those in which chunk and codeword differ, at most t
   plain-counts : (named : Bool) (chunk : ℕ → ℕ) (p : ℕ) (answered : ChunkBits) → CountsWrong C named everywhere chunk p answered
       → CountsBits C named chunk p answered
   unfolding CountsWrong CountsBits

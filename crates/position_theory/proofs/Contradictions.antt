@@ -41,7 +41,7 @@ parity-agrees C R s kinds none =
       parity = reads .parity;
     }
 
--- a separator from w(i), with 2 × wrong + lost below D, reads as the parity of i
+-- a separator from w(i), with 2 × wrong + erased below D, reads as the parity of i
 pub separator-from : (C : Code) {unerased : ℕ → Bool} {x : ℕ → ℕ} {s : Seen} → Sees C unerased x s → (i : ℕ) → i ≤ lastCodeword C
     → ChunkBelowD C unerased (word C i) x (separatorChunk (ruleSeen s)) → separatorBy s (ruleSeen s) ≡ i % 2
 unfolding ChunkReads separatorOf

@@ -1,5 +1,5 @@
 -- Demand 2, writing: the words of neighbouring positions differ in one bit, since both lie in one block; and no two
--- positions share a word, since a word with nothing turned is read as each position that has it.
+-- positions share a word, since a word with nothing damaged is read as each position that has it.
 -- Assumes nothing.
 use mathlib.Core.Path.{_≡_, sym, _∙_}
 use mathlib.Core.Logic.{⊎-elim}
@@ -50,7 +50,7 @@ module _ (C : Code) (promise : ChunkPromise C) where
       → differingBits (wordBytes C position) (wordBytes C (position + 1)) ≡ 1
   neighbours-differ position h = differing-words C position (position + 1) ∙ step-turns-one-bit position h
 
-  -- an undamaged word is within the radius, with nothing turned
+  -- an undamaged word is within the radius, with nothing damaged
   undamaged : (position : ℕ) → WithinRadius C position (wordBytes C position)
   unfolding ChunksWithin damagedIn
   undamaged position =
@@ -71,7 +71,7 @@ module _ (C : Code) (promise : ChunkPromise C) where
   one-answer (At r) p q near near′ = omega arith
   one-answer (Refused refusal) p q near near′ = absurd near
 
-  -- so a word that is read with nothing turned gives back its position, and no other has it
+  -- so a word that is read with nothing damaged gives back its position, and no other has it
   read-as-itself : (position : ℕ) → position ≤ lastPosition C → Near (readWord C (wordBytes C position)) position 0
   read-as-itself position h =
       let bound =

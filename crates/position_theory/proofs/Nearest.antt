@@ -1,5 +1,5 @@
 -- The reading of whatever is seen of a word is the nearest allowed position, or the refusal by the first row of the table that holds. Where
--- it allows the true position, the answer is off by at most the true position's residual, its own and the lost places together, since
+-- it allows the true position, the answer is off by at most the true position's residual, its own and the erased places together, since
 -- allowed positions form an isometric range. Assumes nothing.
 use mathlib.Core.Path.{_≡_, refl}
 use mathlib.Core.Logic.{⊎-elim}
@@ -48,7 +48,7 @@ module _ (R : Rules) (d : ℕ) (words : ℕ → ℕ → ℕ) (last : ℕ) (s : S
       (λ (some : refusalOf R s ≡ 0 → ⊥). rw (refused-if-some _ _ _ some) (refl, some))
       (eq-or-ne (refusalOf R s) 0)
 
-  -- the answer to a word that allows a position is as near to that position as the residuals and the lost places say
+  -- the answer to a word that allows a position is as near to that position as the residuals and the erased places say
   pub answer-near : (erased : ℕ) → WithinResiduals d words residual erased → (position : ℕ) → Allows R s position
       → let answer = readingOfSeen R s residual in
       Near answer position (residual position + residualOf answer + erased) × (residualOf answer ≤ residual position)

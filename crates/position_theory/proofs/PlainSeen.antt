@@ -1,5 +1,5 @@
--- What is seen of a plain word, in which nothing is lost: a code chunk reads as the codeword within the radius, for which 2 × wrong is below
--- D; and a separator of which less than half the bits are turned reads what its bits were. Assumes nothing.
+-- What is seen of a plain word, in which nothing is erased: a code chunk reads as the codeword within the radius, for which 2 × wrong is below
+-- D; and a separator of which less than half the bits are damaged reads what its bits were. Assumes nothing.
 use mathlib.Core.Path.{_≡_, refl, ap}
 use mathlib.Core.Logic.{⊎-elim}
 use Prim.Native.Nat.{ℕ, zero, suc, _+_, _*_, _≤_, _<_}
@@ -32,7 +32,7 @@ unfolding distance sumBelow
 distance-from-ones zero y hy = refl
 distance-from-ones (suc D) y hy = omega (arith, hy D, distance-from-ones D y hy)
 
--- a separator whose bits are all b reads b if less than half of them are turned
+-- a separator whose bits are all b reads b if less than half of them are damaged
 separator-reads : (D b : ℕ) (u y : ℕ → ℕ) → b < 2 → ((p : ℕ) → p < D → u p ≡ b) → ((p : ℕ) → y p < 2) → 2 * distance D u y < D
     → majority D y ≡ b
 unfolding majority
@@ -76,7 +76,7 @@ module _ (C : Code) (promise : ChunkPromise C) where
         separator₃ = majority-reads (C .D) _ (λ p. hx _);
       }
 
-  -- a chunk with at most t bits turned has 2 × wrong + lost below D
+  -- a chunk with at most t bits damaged has 2 × wrong + erased below D
   pub within-radius-below : (u x : ℕ → ℕ) (c : ℕ) → damagedIn C c u x ≤ radius C → ChunkBelowD C everywhere u x c
   unfolding damagedIn wrongIn erasedIn
   within-radius-below u x c h =
@@ -87,7 +87,7 @@ module _ (C : Code) (promise : ChunkPromise C) where
         all-unerased (chunkSize (C .D) (C .n) c) (chunkOf C c u) (chunkOf C c x),
       )
 
--- the residual is that of a word with nothing lost
+-- the residual is that of a word with nothing erased
 pub plain-residual : (C : Code) (x : ℕ → ℕ) → residual C x ≡ residualUnerased C everywhere x
 unfolding residual residualUnerased distance distanceUnerased
 plain-residual C x = refl

@@ -55,7 +55,7 @@ use Rattle.position_theory.proofs.RuleReads.{number-of}
 pub computed : {a b : ℕ} → leb a b ≡ true → a ≤ b
 computed {a} {b} test = leb-true a b test
 
--- no chunk has more than t bits turned
+-- no chunk has more than t bits damaged
 within : (C : Code) (position : ℕ) (received : List ℕ) → length received ≡ wordLength C → spareSet C received ≡ false
     → anyBelow (λ c. ltb (radius C) (damagedIn C c (place (wordBytes C position)) (place received))) 5 ≡ false
     → WithinRadius C position received
@@ -175,7 +175,7 @@ module _ (C : Code) (s : Seen) (rule : ℕ) (agrees : ParityAgrees C s rule) whe
       let is = number-of (s .read₂) (agrees .second (rw (agrees .by-rule) named)) in
       rw (agrees .by-rule) at (agrees .parity) ∙ ap (λ (p : ℕ). p % 2) (sym is)
 
--- a word that is pasted from two telegrams, by what is computed of it: every premise is one of these facts
+-- a word that is mixed from two telegrams, by what is computed of it: every premise is one of these facts
 never-read : (received : List ℕ) (i j c : ℕ)
     → let C : Code = codeOf cardB in
     let x : ℕ → ℕ = place received in

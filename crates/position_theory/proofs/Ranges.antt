@@ -1,6 +1,6 @@
 -- Any words by position, and any residual; no code stands here. On a range whose words differ in as many bits as the positions in
--- steps (isometric), two positions are no further apart than their residuals and the lost places together, by the triangle inequality; so
--- the nearest position of the range is off by at most the residuals of it and of the true one, and the lost places. Assumes nothing.
+-- steps (isometric), two positions are no further apart than their residuals and the erased places together, by the triangle inequality; so
+-- the nearest position of the range is off by at most the residuals of it and of the true one, and the erased places. Assumes nothing.
 use mathlib.Core.Path.{_≡_}
 use mathlib.Core.Bool.{Bool}
 use mathlib.Core.Logic.{⊎-elim}
@@ -43,11 +43,11 @@ pub record IsometricRange (d : ℕ) (words : ℕ → ℕ → ℕ) (last : ℕ) (
   pub on-track : range .high ≤ last
   pub isometric : Isometric d words (range .low) (range .high)
 
--- no two words are further apart than their residuals and so many lost places together
+-- no two words are further apart than their residuals and so many erased places together
 abbrev pub WithinResiduals : (d : ℕ) (words : ℕ → ℕ → ℕ) (residual : ℕ → ℕ) (erased : ℕ) → Type 0
 WithinResiduals d words residual erased = (q q′ : ℕ) → distance d (words q) (words q′) ≤ residual q + residual q′ + erased
 
--- which holds of the residuals that count the bits heard in which a word is unlike x
+-- which holds of the residuals that count the unerased bits in which a word differs from x
 pub counted-residuals : (unerased : ℕ → Bool) (d : ℕ) (words : ℕ → ℕ → ℕ) (x : ℕ → ℕ)
     → WithinResiduals d words (λ q. distanceUnerased unerased d (words q) x) (erasedBelow unerased d)
 counted-residuals unerased d words x q q′ = unerased-triangle unerased d (words q) (words q′) x
@@ -73,7 +73,7 @@ nearest-in residual range h =
       none-smaller = λ q l b. leastAt-first residual low steps q l b;
     }
 
--- the answer to a range that holds the true position is as near to it as the two residuals and the lost places say, and its own is no
+-- the answer to a range that holds the true position is as near to it as the two residuals and the erased places say, and its own is no
 -- larger
 module _ (d : ℕ) (words : ℕ → ℕ → ℕ) (residual : ℕ → ℕ) (erased : ℕ) (within : WithinResiduals d words residual erased) where
   pub answer-off-by : (s : Seen) (rule : ℕ) (range : Range) → Isometric d words (range .low) (range .high)

@@ -1,5 +1,5 @@
 -- What is seen of a chunk tells a number: a separator the number's parity, a code chunk the number itself. A whole chunk whose 2 × wrong +
--- lost is below D tells the number that it stands for: a separator if it is seen so that this holds, a code chunk by the chunk promise. So on
+-- erased is below D tells the number that it stands for: a separator if it is seen so that this holds, a code chunk by the chunk promise. So on
 -- the way from one codeword to the next every whole chunk tells; of the one that is divided nothing is asked and nothing said.
 -- Assumes nothing.
 use mathlib.Core.Path.{_≡_, _∙_}
@@ -40,21 +40,21 @@ pub record WholeChunksRead (D A i j m : ℕ) (s : Seen) : Type 0 where
   pub bit₂ : s .s₂ < 2
   pub bit₃ : s .s₃ < 2
 
--- a separator of D bits, of which these places are heard, has been read so that it tells a parity: 0 or 1, and b where all bits of the
--- true word are b and 2 × wrong + lost is below D
+-- a separator of D bits, of which these places are not erased, has been read so that it tells a parity: 0 or 1, and b where all bits of the
+-- true word are b and 2 × wrong + erased is below D
 pub record ReadsParity (D : ℕ) (unerased : ℕ → Bool) (x : ℕ → ℕ) (read : ℕ) : Type 0 where
   pub bit : read < 2
   pub reads : (b : ℕ) (u : ℕ → ℕ) → b < 2 → ((p : ℕ) → p < D → u p ≡ b) → 2 * distanceUnerased unerased D u x + erasedBelow unerased D < D
       → read ≡ b
 
--- s is what is seen of the word x of which these places are heard: its code chunks are read over these places, and its separators tell
+-- s is what is seen of the word x of which these places are not erased: its code chunks are read over these places, and its separators tell
 pub record Sees (C : Code) (unerased : ℕ → Bool) (x : ℕ → ℕ) (s : Seen) : Type 0 where
   pub chunks : SeesChunks C unerased x s
   pub separator₁ : ReadsParity (C .D) (chunkOf C 0 unerased) (chunkOf C 0 x) (s .s₁)
   pub separator₂ : ReadsParity (C .D) (chunkOf C 2 unerased) (chunkOf C 2 x) (s .s₂)
   pub separator₃ : ReadsParity (C .D) (chunkOf C 4 unerased) (chunkOf C 4 x) (s .s₃)
 
--- a code chunk that holds c(j) reads j if 2 × wrong + lost is below D
+-- a code chunk that holds c(j) reads j if 2 × wrong + erased is below D
 code-reads : (C : Code) {unerased : ℕ → Bool} {y : ℕ → ℕ} {answer : Chunk} → SeesChunk C unerased y answer → (j : ℕ) (u : ℕ → ℕ)
     → j ≤ lastCodeword C → ((p : ℕ) → p < C .n → u p ≡ bit (codeword C j) p)
     → 2 * distanceUnerased unerased (C .n) u y + erasedBelow unerased (C .n) < C .D → ReadsAs answer j
@@ -75,7 +75,7 @@ module _ (C : Code) {unerased : ℕ → Bool} {x : ℕ → ℕ} {s : Seen} (sees
   second-reads u j h same d = code-reads C (sees .second) j _ h same d
 
 module _ (C : Code) {unerased : ℕ → Bool} {x : ℕ → ℕ} {s : Seen} (sees : Sees C unerased x s) where
-  -- chunk c of a word u that holds there what w(j) holds, with 2 × wrong + lost below D
+  -- chunk c of a word u that holds there what w(j) holds, with 2 × wrong + erased below D
   chunk-reads : (u : ℕ → ℕ) (c j : ℕ) → c < 5 → j ≤ lastCodeword C
       → ((p : ℕ) → p < chunkSize (C .D) (C .n) c → chunkOf C c u p ≡ content C j c p) → ChunkBelowD C unerased u x c → ChunkReads s c j
   unfolding ChunkReads chunkSize placesBefore content wrongIn erasedIn
@@ -90,7 +90,7 @@ module _ (C : Code) {unerased : ℕ → Bool} {x : ℕ → ℕ} {s : Seen} (sees
   pub word-reads : (c j : ℕ) → c < 5 → j ≤ lastCodeword C → ChunkBelowD C unerased (word C j) x c → ChunkReads s c j
   word-reads c j b h d = chunk-reads (word C j) c j b h (word-chunk C j c b) d
 
-  -- m steps on the way from w(i) to w(j), where every whole chunk has 2 × wrong + lost below D
+  -- m steps on the way from w(i) to w(j), where every whole chunk has 2 × wrong + erased below D
   pub whole-chunks-read : {i j A : ℕ} → Next C i j A → (m : ℕ)
       → ((c : ℕ) → c < 5 → WholeAt C A m c → ChunkBelowD C unerased (walk (word C i) (word C j) m) x c) → WholeChunksRead (C .D) A i j m s
   whole-chunks-read {i} {j} next m within =

@@ -82,7 +82,7 @@ module _ (C : Code) (received : List ℕ) (spare : spareSet C received ≡ false
       let not-one = eqb-false (place received (wordBits C + rest .0)) 1 test in
       rw (← (rest .1)) (omega (arith, place-bit received (wordBits C + rest .0), not-one))
 
-  -- it is unlike any word in as many bits as their bytes differ in
+  -- it differs from any word in as many bits as their bytes differ in
   pub packed-differing : {w : ℕ → ℕ} → ((p : ℕ) → w p < 2)
       → distance (wordBits C) w (place received) ≡ differingBits (pack (wordBits C) w) received
   packed-differing {w} bits =

@@ -1,5 +1,5 @@
 -- Document 02, P3 and P5: how many bits a chunk needed, as the contracts of the reading calls state it of the received word and the
--- codeword, over the places that are heard, and of the bits that were turned. Assumes nothing.
+-- codeword, over the unerased places, and of the bits that were damaged. Assumes nothing.
 use mathlib.Core.Path.{_≡_}
 use mathlib.Core.Bool.{Bool, true, false}
 use mathlib.Core.List.{List}
@@ -25,7 +25,7 @@ unfoldable pub CountsBits : Code → (named : Bool) (chunk : ℕ → ℕ) (p : �
 CountsBits C true chunk p answered = (count : ℕ) × (answered ≡ Differing count) × CountsDiffering C chunk p count
 CountsBits C false chunk p answered = answered ≡ NotRead
 
--- the same of a chunk of which only some places are heard: the count is that of the wrong ones, and 2 × wrong + lost is below D
+-- the same of a chunk of which only some places are not erased: the count is that of the wrong ones, and 2 × wrong + erased is below D
 unfoldable pub CountsWrong : Code → (named : Bool) (unerased : ℕ → Bool) (chunk : ℕ → ℕ) (p : ℕ) → ChunkBits → Type 0
 CountsWrong C true unerased chunk p answered =
     (count : ℕ) × (answered ≡ Differing count) × (count ≡ chunkWrong C unerased chunk p) × (2 * count + erasedBelow unerased (C .n) < C .D)
@@ -43,19 +43,19 @@ pub record BitsSeen (C : Code) (R : Rules) (s : Seen) (ChunkReads₁ ChunkReads�
   pub first : ChunkReads₁ (namesFirst rule) p bits₁
   pub second : ChunkReads₂ (namesSecond rule) p bits₂
 
--- of the received word x, all of which is heard
+-- of the received word x, all of which is not erased
 abbrev pub BitsOfChunks : Code → (x : ℕ → ℕ) (rule : ℕ) (bits₁ bits₂ : ChunkBits) → Type 0
 BitsOfChunks C x =
     BitsSeen C (twoEnds C) (seen C x) (λ named. CountsBits C named (chunk₁ C x)) (λ named. CountsBits C named (chunk₂ C x))
 
--- of a word x of which these places are heard
+-- of a word x of which these places are not erased
 abbrev pub WrongOfChunks : Code → (unerased : ℕ → Bool) (x : ℕ → ℕ) → Seen → (rule : ℕ) (bits₁ bits₂ : ChunkBits) → Type 0
 WrongOfChunks C unerased x s =
     BitsSeen C (twoEnds C) s
     (λ named. CountsWrong C named (chunk₁ C unerased) (chunk₁ C x))
     (λ named. CountsWrong C named (chunk₂ C unerased) (chunk₂ C x))
 
--- as numbers, the bits of either code chunk, where the rule names it, are those of the position's word that are turned in it (of the five
+-- as numbers, the bits of either code chunk, where the rule names it, are those of the position's word that are damaged in it (of the five
 -- chunks, 0 to 4, the code chunks are 1 and 3)
 abbrev pub AreDamaged : Code → (position : ℕ) (received : List ℕ) (rule bits₁ bits₂ : ℕ) → Type 0
 AreDamaged C position received rule bits₁ bits₂ =

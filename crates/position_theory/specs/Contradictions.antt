@@ -1,5 +1,5 @@
 -- Document 02, P6, "Separators that contradict the codeword": that a word's separator has the parity of its
--- codeword, that a word is pasted from two telegrams, and what was answered without P6. Assumes nothing.
+-- codeword, that a word is mixed from two telegrams, and what was answered without P6. Assumes nothing.
 use mathlib.Core.Path.{_≡_}
 use mathlib.Core.Bool.{Bool, true, false, cond, not}
 use mathlib.Core.List.{List, _∷_}
@@ -38,7 +38,7 @@ pub record ParityAgrees (C : Code) (s : Seen) (rule : ℕ) : Type 0 where
 abbrev pub AgreesIfRead : Code → Seen → ReadAnswer → Type 0
 AgreesIfRead C s answer = (r : Reading) → answer ≡ At r → ParityAgrees C s (r .rule)
 
--- ---- words pasted from two telegrams
+-- ---- words mixed from two telegrams
 
 -- of the five chunks, 0 to 4: the rule's separator; and that a chunk is a code chunk that the rule names, by rule 3 either of the two
 abbrev pub separatorChunk : (rule : ℕ) → ℕ
@@ -47,8 +47,8 @@ separatorChunk rule = cond (eqb rule 2) 4 0
 abbrev pub NamedChunk : (rule c : ℕ) → Type 0
 NamedChunk rule c = ((c ≡ 1) × (namesFirst rule ≡ true)) ⊎ ((c ≡ 3) × (namesSecond rule ≡ true))
 
--- A word x is pasted from two telegrams, w(i) and w(j), whose parities differ: by the rule that its separators name, it has the rule's
--- separator from the first and a code chunk c that the rule names from the second, at most t bits turned in either, and whatever else
+-- A word x is mixed from two telegrams, w(i) and w(j), whose parities differ: by the rule that its separators name, it has the rule's
+-- separator from the first and a code chunk c that the rule names from the second, at most t bits damaged in either, and whatever else
 -- elsewhere. (A telegram of any position has, in a chunk that is not being changed there, what some w(i) has.)
 pub record Mixed (C : Code) (x : ℕ → ℕ) (i j c : ℕ) : Type 0 where
   pub in-code : i ≤ lastCodeword C

@@ -1,6 +1,6 @@
 -- Document 01, "Reading a word", last paragraph: the bits that the cable turns, chunk by chunk, and how far one position is
--- from another. Document 02, P5: the bits of a chunk that are wrong and those that are lost; and P7: words whose
--- divided chunk is turned at will. Assumes nothing.
+-- from another. Document 02, P5: the bits of a chunk that are wrong and those that are erased; and P7: words whose
+-- divided chunk is damaged arbitrarily. Assumes nothing.
 use mathlib.Core.Path.{_≡_}
 use mathlib.Core.Bool.{Bool, false}
 use mathlib.Core.List.{List}
@@ -14,45 +14,45 @@ use Rattle.model.specs.ReadWord.{spareSet}
 use Rattle.model.specs.declared.ReadAnswer.{ReadAnswer}
 use Rattle.model.specs.declared.ReadAnswer.the-variants.{At, Refused}
 
--- the number of bits turned in chunk c, of the chunks 0 to 4: the places of it in which x is unlike u
+-- the number of bits damaged in chunk c, of the chunks 0 to 4: the places of it in which x differs from u
 unfoldable pub damagedIn : Code → (c : ℕ) (u x : ℕ → ℕ) → ℕ
 damagedIn C c u x = distance (chunkSize (C .D) (C .n) c) (chunkOf C c u) (chunkOf C c x)
 
--- where only some places are heard: the number of bits that are wrong in chunk c, those of it that are heard and in which x is unlike u,
--- and the number of bits that are lost in it
+-- where only some places are not erased: the number of bits that are wrong in chunk c, those of it that are not erased and in which x differs from u,
+-- and the number of bits that are erased in it
 unfoldable pub wrongIn : Code → (unerased : ℕ → Bool) (c : ℕ) (u x : ℕ → ℕ) → ℕ
 wrongIn C unerased c u x = distanceUnerased (chunkOf C c unerased) (chunkSize (C .D) (C .n) c) (chunkOf C c u) (chunkOf C c x)
 
 unfoldable pub erasedIn : Code → (unerased : ℕ → Bool) (c : ℕ) → ℕ
 erasedIn C unerased c = erasedBelow (chunkOf C c unerased) (chunkSize (C .D) (C .n) c)
 
--- 2 × wrong + lost of chunk c is below D; and that of each of the five chunks is
+-- 2 × wrong + erased of chunk c is below D; and that of each of the five chunks is
 abbrev pub ChunkBelowD : Code → (unerased : ℕ → Bool) (u x : ℕ → ℕ) (c : ℕ) → Type 0
 ChunkBelowD C unerased u x c = 2 * wrongIn C unerased c u x + erasedIn C unerased c < C .D
 
 unfoldable pub ChunksBelowD : Code → (unerased : ℕ → Bool) (u x : ℕ → ℕ) → Type 0
 ChunksBelowD C unerased u x = (c : ℕ) → c < 5 → ChunkBelowD C unerased u x c
 
--- the number of bits that are wrong in all, and of those that are lost in all: the sums over the five chunks
+-- the number of bits that are wrong in all, and of those that are erased in all: the sums over the five chunks
 unfoldable pub wrongInAll : Code → (unerased : ℕ → Bool) (u x : ℕ → ℕ) → ℕ
 wrongInAll C unerased u x = sumBelow (λ c. wrongIn C unerased c u x) 5
 
 unfoldable pub erasedInAll : Code → (unerased : ℕ → Bool) → ℕ
 erasedInAll C unerased = sumBelow (erasedIn C unerased) 5
 
--- in each of the five chunks at most e bits are turned
+-- in each of the five chunks at most e bits are damaged
 unfoldable pub ChunksWithin : Code → (e : ℕ) (u x : ℕ → ℕ) → Type 0
 ChunksWithin C e u x = (c : ℕ) → c < 5 → damagedIn C c u x ≤ e
 
--- the number of bits turned in all: the sum over the five chunks
+-- the number of bits damaged in all: the sum over the five chunks
 unfoldable pub damagedInAll : Code → (u x : ℕ → ℕ) → ℕ
 damagedInAll C u x = sumBelow (λ c. damagedIn C c u x) 5
 
--- the bits of the position's word that are turned in the received word
+-- the bits of the position's word that are damaged in the received word
 unfoldable pub damaged : Code → (position : ℕ) (received : List ℕ) → ℕ
 damaged C position received = damagedInAll C (place (wordBytes C position)) (place received)
 
--- the received bytes are a word with spare bits zero in which each chunk has at most t bits of the word sent turned; and of the word of a
+-- the received bytes are a word with spare bits zero in which each chunk has at most t bits of the word sent damaged; and of the word of a
 -- position
 pub record WithinRadiusOf (C : Code) (sent received : List ℕ) : Type 0 where
   pub right-length : length received ≡ wordLength C
@@ -63,7 +63,7 @@ abbrev pub WithinRadius : Code → (position : ℕ) (received : List ℕ) → Ty
 WithinRadius C position = WithinRadiusOf C (wordBytes C position)
 
 -- The received bytes are a word with spare bits zero in which each chunk of the position's word that is not divided has at most t bits
--- turned. A divided chunk may be turned at will; where none is divided, the limit binds all five, as in `WithinRadius`.
+-- damaged. A divided chunk may be damaged arbitrarily; where none is divided, the limit binds all five, as in `WithinRadius`.
 pub record UndividedWithinRadius (C : Code) (position : ℕ) (received : List ℕ) : Type 0 where
   pub right-length : length received ≡ wordLength C
   pub spare-zero : spareSet C received ≡ false

@@ -41,15 +41,15 @@ ReadWithinErrorBar e position (Refused refusal) = ⊥
 
 -- ---- words of card B: three bits in each of the chunks separator 1, chunk 1, separator 2, chunk 2, separator 3; t is 1
 
--- 7 with one bit of chunk 1 turned: document 01 reads it as 5
+-- 7 with one bit of chunk 1 damaged: document 01 reads it as 5
 abbrev pub sevenDamaged : List ℕ
 sevenDamaged = 0b01011111 ∷ 0b0000000 ∷ []
 
--- 15, the last position, with one bit of separator 3 turned; it reads as 13, by rule 3, which is just twice as far off
+-- 15, the last position, with one bit of separator 3 damaged; it reads as 13, by rule 3, which is just twice as far off
 abbrev pub lastDamaged : List ℕ
 lastDamaged = 0b11111111 ∷ 0b1011111 ∷ []
 
--- 15 with one bit of each chunk turned
+-- 15 with one bit of each chunk damaged
 abbrev pub lastAllDamaged : List ℕ
 lastAllDamaged = 0b10110110 ∷ 0b1101101 ∷ []
 
@@ -57,18 +57,18 @@ lastAllDamaged = 0b10110110 ∷ 0b1101101 ∷ []
 abbrev pub eleven : List ℕ
 eleven = 0b11111111 ∷ 0b0000111 ∷ []
 
--- 10 with one bit turned in each code chunk, which reads by rule 1; and 7 with one bit of chunk 2 turned, which reads by rule 2
+-- 10 with one bit damaged in each code chunk, which reads by rule 1; and 7 with one bit of chunk 2 damaged, which reads by rule 2
 abbrev pub tenDamaged : List ℕ
 tenDamaged = 0b11101111 ∷ 0b0001011 ∷ []
 
 abbrev pub sevenInChunk2 : List ℕ
 sevenInChunk2 = 0b01111111 ∷ 0b0000010 ∷ []
 
--- 0 with one bit of chunk 1 turned
+-- 0 with one bit of chunk 1 damaged
 abbrev pub zeroDamaged : List ℕ
 zeroDamaged = 0b00001000 ∷ 0b0000000 ∷ []
 
--- w(0) with both code chunks from w(1); the same with one bit turned in separator 1 and one in chunk 1; and with chunk 2 alone from w(1)
+-- w(0) with both code chunks from w(1); the same with one bit damaged in separator 1 and one in chunk 1; and with chunk 2 alone from w(1)
 abbrev pub mixed : List ℕ
 mixed = 0b00111000 ∷ 0b0001110 ∷ []
 
@@ -85,7 +85,7 @@ mixedByRule1 = 0b00111000 ∷ 0b1110000 ∷ []
 abbrev pub mixedByRule2 : List ℕ
 mixedByRule2 = 0b11000000 ∷ 0b1110001 ∷ []
 
--- 4 with chunk 1, which is divided there, turned whole
+-- 4 with chunk 1, which is divided there, damaged whole
 abbrev pub dividedDamaged : List ℕ
 dividedDamaged = 0b00110111 ∷ 0b0000000 ∷ []
 
@@ -95,7 +95,7 @@ unreadableA = 0b00000100 ∷ 0b0000 ∷ []
 
 -- ---- rows that recur
 
--- of a position whose divided chunk is turned whole, and of each other chunk one bit, seven in all: the word is read, off by at most seven
+-- of a position whose divided chunk is damaged whole, and of each other chunk one bit, seven in all: the word is read, off by at most seven
 -- and the residual, and by at most fourteen
 abbrev pub SevenArbitrary : (position : ℕ) (received : List ℕ) → Type 0
 SevenArbitrary position received =
@@ -115,21 +115,21 @@ pub record Witnessed : Type 0 where
   pub zero-is-before : (word : List ℕ) → NeighboursDifferInOneBit cardB 1 word → differingBits word (0x00 ∷ 0x00 ∷ []) ≡ 1
   pub alone : (position : ℕ) → NoOtherPositionsWord cardB position (0xff ∷ 0x7f ∷ []) → position ≡ 15
   -- the nearest: 5 and 7 are as near, or 13 and 15, and the smaller is answered; by residuals that count differing bits, at the last position
-  -- too; a word pasted from two telegrams is refused by 17
+  -- too; a word mixed from two telegrams is refused by 17
   pub smaller-of-two : (answer : ReadAnswer) → NearestOfAllowed cardB sevenDamaged answer → ReadAs 5 1 2 answer
   pub smaller-at-last : (answer : ReadAnswer) → NearestOfAllowed cardB lastDamaged answer → ReadAs 13 1 3 answer
   pub residual-counts : (answer : ReadAnswer) → NearestOfAllowed cardB lastDamaged answer
       → residual (codeOf cardB) (place lastDamaged) 15 ≡ differingBits (wordBytes (codeOf cardB) 15) lastDamaged
   pub by-17 : (answer : ReadAnswer) → NearestOfAllowed cardB mixed answer → answer ≡ Refused 17
-  -- demand 3: off by at most twice the bits turned, which 5 for 7 and 13 for 15 are; and t bits turned in every chunk
+  -- demand 3: off by at most twice the bits damaged, which 5 for 7 and 13 for 15 are; and t bits damaged in every chunk
   pub twice : (answer : ReadAnswer) → OffByAtMostTwiceDamaged cardB sevenDamaged answer → ReadWithin 2 7 answer
   pub twice-at-last : (answer : ReadAnswer) → OffByAtMostTwiceDamaged cardB lastDamaged answer → ReadWithin 2 15 answer
   pub twice-in-all : (answer : ReadAnswer) → OffByAtMostTwiceDamaged cardB lastAllDamaged answer → ReadWithin 10 15 answer
   pub sharper : (answer : ReadAnswer) → OffByAtMostDamagedAndResidual cardB sevenDamaged answer → ReadWithinErrorBar 1 7 answer
   pub sharper-at-last : (answer : ReadAnswer) → OffByAtMostDamagedAndResidual cardB lastDamaged answer → ReadWithinErrorBar 1 15 answer
   pub sharper-in-all : (answer : ReadAnswer) → OffByAtMostDamagedAndResidual cardB lastAllDamaged answer → ReadWithinErrorBar 5 15 answer
-  -- each chunk in turn divided and turned whole, each other one with t bits turned, and the last position, where none is divided; and the
-  -- bar for just the bits turned
+  -- each chunk in turn divided and damaged whole, each other one with t bits damaged, and the last position, where none is divided; and the
+  -- bar for just the bits damaged
   pub separator-1-arbitrary : SevenArbitrary 2 (0b01001100 ∷ 0b0010010 ∷ [])
   pub chunk-1-arbitrary : SevenArbitrary 5 (0b01100110 ∷ 0b0010010 ∷ [])
   pub separator-2-arbitrary : SevenArbitrary 8 (0b00110110 ∷ 0b0010011 ∷ [])
@@ -141,7 +141,7 @@ pub record Witnessed : Type 0 where
   pub error-bar-at-last : (answer : ReadAnswer) → ErrorBarHoldsPosition cardB lastDamaged answer → ReadWithinErrorBar 1 15 answer
   pub error-bar-residual : (r : Reading) → ErrorBarHoldsPosition cardB dividedDamaged (At r) → r .residual ≤ 3
   pub one-divided : AtMostOneDivided cardB → (c : ℕ) → c < 5 → divided (codeOf cardB) 14 c ≡ true → c ≡ 4
-  -- bits of chunks: a count of just t, of a chunk that is not named none, and of a chunk with t + 1 bits turned, which is card A's 100, no
+  -- bits of chunks: a count of just t, of a chunk that is not named none, and of a chunk with t + 1 bits damaged, which is card A's 100, no
   -- reading
   pub just-t : (r : Reading) → CountsBitsOfChunks cardB zeroDamaged (At r) → (r .chunk1 ≡ Differing 1) × (r .chunk2 ≡ Differing 0)
   pub not-named : (r : Reading) → CountsBitsOfChunks cardB sevenDamaged (At r) → (r .chunk1 ≡ NotRead) × (r .chunk2 ≡ Differing 0)
@@ -153,8 +153,8 @@ pub record Witnessed : Type 0 where
       → (bitsValue (r .chunk1) ≡ 1) × (bitsValue (r .chunk2) ≡ 1)
   pub needed-by-rule-1 : (r : Reading) → r .rule ≡ 1 → NeededAsDamaged cardB tenDamaged (At r) → bitsValue (r .chunk1) ≡ 1
   pub needed-by-rule-2 : (r : Reading) → r .rule ≡ 2 → NeededAsDamaged cardB sevenInChunk2 (At r) → bitsValue (r .chunk2) ≡ 1
-  -- separators that contradict the codeword, by each rule; and words pasted from two telegrams, by each rule and each chunk that it names,
-  -- with t bits turned in both parts
+  -- separators that contradict the codeword, by each rule; and words mixed from two telegrams, by each rule and each chunk that it names,
+  -- with t bits damaged in both parts
   pub contradicts : NoneReads (ReadOnlyIfParityAgrees cardB mixed)
   pub contradicts-by-rule-1 : NoneReads (ReadOnlyIfParityAgrees cardB mixedByRule1)
   pub contradicts-by-rule-2 : NoneReads (ReadOnlyIfParityAgrees cardB mixedByRule2)

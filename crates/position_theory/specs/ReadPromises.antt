@@ -21,14 +21,14 @@ use Rattle.position_theory.specs.Contradictions.{AgreesIfRead, Mixed, co
 
 -- ---- clauses of their own
 
--- Demand 3: for a sound card, every position on its track and whichever bits of that position's word are turned, at most t
--- in each of the five chunks: the answer is no refusal, and no further from the position than twice the bits turned
+-- Demand 3: for a sound card, every position on its track and whichever bits of that position's word are damaged, at most t
+-- in each of the five chunks: the answer is no refusal, and no further from the position than twice the bits damaged
 unfoldable pub OffByAtMostTwiceDamaged : (card received : List ℕ) → ReadAnswer → Type 0
 OffByAtMostTwiceDamaged card received answer =
     (position : ℕ) → SoundCard card → position ≤ lastPosition (codeOf card)
     → WithinRadius (codeOf card) position received → Near answer position (2 * damaged (codeOf card) position received)
 
--- The sharper bound, under the same premises: no further than the bits turned and the residual together
+-- The sharper bound, under the same premises: no further than the bits damaged and the residual together
 unfoldable pub OffByAtMostDamagedAndResidual : (card received : List ℕ) → ReadAnswer → Type 0
 OffByAtMostDamagedAndResidual card received answer =
     (position : ℕ) → SoundCard card → position ≤ lastPosition (codeOf card)
@@ -37,18 +37,18 @@ OffByAtMostDamagedAndResidual card received answer =
 
 -- ---- the clause `promises`
 
--- P7, where the divided chunk is turned at will: for a sound card, every position on its track and every such word the answer is no refusal,
--- and both distances hold. It is no further from the position than the bits turned and the residual together, and no further than twice
--- the bits turned.
+-- P7, where the divided chunk is damaged arbitrarily: for a sound card, every position on its track and every such word the answer is no refusal,
+-- and both distances hold. It is no further from the position than the bits damaged and the residual together, and no further than twice
+-- the bits damaged.
 unfoldable pub ReadWithDividedArbitrary : (card received : List ℕ) → ReadAnswer → Type 0
 ReadWithDividedArbitrary card received answer =
     (position : ℕ) → SoundCard card → position ≤ lastPosition (codeOf card) → UndividedWithinRadius (codeOf card) position received
     → Near answer position (damaged (codeOf card) position received + residualOf answer)
     × Near answer position (2 * damaged (codeOf card) position received)
 
--- The bar about the answer reaches, on either side, as far as the residual and e, the bits that one is ready to assume turned. Under the
--- same premises, where at most e bits are turned, the bar holds the position; and the residual is at most e, so that a greater one shows
--- that the word is not such a one, or that more bits are turned.
+-- The bar about the answer reaches, on either side, as far as the residual and e, the bits that one is ready to assume damaged. Under the
+-- same premises, where at most e bits are damaged, the bar holds the position; and the residual is at most e, so that a greater one shows
+-- that the word is not such a one, or that more bits are damaged.
 unfoldable pub ErrorBarHoldsPosition : (card received : List ℕ) → ReadAnswer → Type 0
 ErrorBarHoldsPosition card received answer =
     (position e : ℕ) → SoundCard card → position ≤ lastPosition (codeOf card) → UndividedWithinRadius (codeOf card) position received
@@ -70,8 +70,8 @@ CountsBitsOfChunks card received answer =
     (r : Reading) → answer ≡ At r
     → BitsOfChunks (codeOf card) (place received) (r .rule) (r .chunk1) (r .chunk2)
 
--- Damage per chunk: for a sound card, every position on its track and whichever bits of that position's word are turned, at most t in
--- each of the five chunks, a chunk that is read needed as many bits as are turned in it
+-- Damage per chunk: for a sound card, every position on its track and whichever bits of that position's word are damaged, at most t in
+-- each of the five chunks, a chunk that is read needed as many bits as are damaged in it
 unfoldable pub NeededAsDamaged : (card received : List ℕ) → ReadAnswer → Type 0
 NeededAsDamaged card received answer =
     (position : ℕ) → SoundCard card → position ≤ lastPosition (codeOf card) → WithinRadius (codeOf card) position received
@@ -82,7 +82,7 @@ NeededAsDamaged card received answer =
 unfoldable pub ReadOnlyIfParityAgrees : (card received : List ℕ) → ReadAnswer → Type 0
 ReadOnlyIfParityAgrees card received answer = AgreesIfRead (codeOf card) (seen (codeOf card) (place received)) answer
 
--- a word pasted from two telegrams whose parities differ is never read
+-- a word mixed from two telegrams whose parities differ is never read
 unfoldable pub MixedNeverRead : (card received : List ℕ) → ReadAnswer → Type 0
 MixedNeverRead card received answer =
     (i j c : ℕ) → Mixed (codeOf card) (place received) i j c → (r : Reading) → answer ≡ At r → ⊥

@@ -70,7 +70,7 @@ module _ (C : Code) (received : List ℕ) (whole : length received ≡ wordLengt
   refused-8 some = rw (eq-eqb (length received) (wordLength C) whole, spare-set some)
 
   module _ (none : ones ≡ 0) where
-    -- the array that holds the received word is answered by the rule that is named, where all of it is heard
+    -- the array that holds the received word is answered by the rule that is named, where all of it is not erased
     pub read-by-rule : Sound C → (x : ReceivedWord) → PlainWord received x → (answer : ReadAnswer)
         → let rule : ℕ = ruleNamed C (place received) in
         AnswersRule (twoEnds C) C (residualIn C x) x rule (separatorBy (seen C (place received)) rule) answer → answer ≡ readWord C received

@@ -1,4 +1,4 @@
-// The code chunks that a rule names, read over the places that are heard: chunk 1 by rule 1, chunk 2 by rule 2, and by rule 3 both, which
+// The code chunks that a rule names, read over the unerased places: chunk 1 by rule 1, chunk 2 by rule 2, and by rule 3 both, which
 // must read alike.
 ghost use mathlib.Core.Path.{_≡_};
 ghost use Prim.Native.Nat.{_+_, _≤_};

@@ -1,5 +1,5 @@
 -- The rounds of document 004, from the products of r variables down. Before the round of size s, what is left of a damaged codeword
--- is its products of at most s variables, with the same positions turned; so every vote of the round is right, and taking the
+-- is its products of at most s variables, with the same positions damaged; so every vote of the round is right, and taking the
 -- products off that were voted for leaves those of fewer variables. Assumes nothing.
 use mathlib.Core.Path.{_≡_, sym, ap, _∙_}
 use mathlib.Core.Bool.{cond}
@@ -36,7 +36,7 @@ taken-off : (y found before after size e : ℕ) → y % 2 ≡ (before + e) % 2 �
 taken-off y found before after size e is parts finds =
     same-parity y (before + e) found is ∙ rw (parts, finds) (twice-off after size e)
 
--- a polynomial with coefficients H that are 0 or 1, of degree at most r, turned by e in so few positions that twice as many are fewer
+-- a polynomial with coefficients H that are 0 or 1, of degree at most r, damaged by e in so few positions that twice as many are fewer
 -- than D
 module _ (r m : ℕ) (order : r ≤ m) (H e : ℕ → ℕ) (bits : (T : ℕ) → H T < 2) (degree : DegreeAtMost m r H)
     (few : 2 * sumBelow e (2 ^ m) < 2 ^ (m - r)) where

@@ -1,6 +1,6 @@
--- One vote. Where y is a polynomial of no more variables than S with some positions turned, each class of S sums to the coefficient
--- of S and to what is turned in the class. A turned position lies in one class, so at most as many classes sum wrong as positions
--- are turned: fewer than half of them where twice as many are fewer than the classes. Assumes nothing.
+-- One vote. Where y is a polynomial of no more variables than S with some positions damaged, each class of S sums to the coefficient
+-- of S and to what is damaged in the class. A damaged position lies in one class, so at most as many classes sum wrong as positions
+-- are damaged: fewer than half of them where twice as many are fewer than the classes. Assumes nothing.
 use mathlib.Core.Path.{_≡_, sym, ap, _∙_}
 use mathlib.Core.Bool.{Bool, true, false, cond}
 use mathlib.Core.Logic.{⊎-elim}
@@ -24,16 +24,16 @@ pub vote-bit : (m : ℕ) (y : ℕ → ℕ) (S : ℕ) → coefficient m y S < 2
 unfolding coefficient
 vote-bit m y S = by-test (λ (b : ℕ). b < 2) (ltb (classes m S) (2 * votesForOne m S y)) (λ e. omega arith) (λ e. omega arith)
 
--- y is the polynomial with coefficients H, turned where e is 1
+-- y is the polynomial with coefficients H, damaged where e is 1
 abbrev pub Damaged : (m : ℕ) (H e y : ℕ → ℕ) → Type 0
 Damaged m H e y = (p : ℕ) → p < 2 ^ m → y p % 2 ≡ (valueAt m H p + e p) % 2
 
 module _ (m S : ℕ) (H e y : ℕ → ℕ) (below : S < 2 ^ m) (degree : DegreeAtMost m (weight m S) H) (damaged : Damaged m H e y) where
-  -- how many positions of class c are turned
+  -- how many positions of class c are damaged
   abbrev damagedIn : ℕ → ℕ
   damagedIn c = sumBelow (λ p. member S c p * e p) (2 ^ m)
 
-  -- a class sums to the coefficient, unless an odd number of its positions is turned
+  -- a class sums to the coefficient, unless an odd number of its positions is damaged
   class-sum : (c : ℕ) → c < 2 ^ m → product S c ≡ 1 → classSum m S y c ≡ (H S + damagedIn c) % 2
   unfolding classSum
   class-sum c l named =
@@ -53,7 +53,7 @@ module _ (m S : ℕ) (H e y : ℕ → ℕ) (below : S < 2 ^ m) (degree : DegreeA
           ∙ times-parity (member S c p) (valueAt m H p + e p)
           ∙ ap (λ (x : ℕ). x % 2) (omega arith)
 
-  -- so at most as many classes vote against the coefficient as positions are turned
+  -- so at most as many classes vote against the coefficient as positions are damaged
   few-for-one : H S ≡ 0 → votesForOne m S y ≤ sumBelow e (2 ^ m)
   unfolding votesForOne
   few-for-one none = le-trans (sum-mono (2 ^ m) wrong) (classes-apart (2 ^ m) S e)

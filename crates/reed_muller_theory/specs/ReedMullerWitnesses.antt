@@ -1,5 +1,5 @@
 -- What is promised of made cards and of votes, held from below: of whatever is made or answered, each row says what the promise alone gives,
--- with just t bits turned, with one more, at the widest chunk, and at the ends of the limits of r and m. A premise that nobody can meet, or
+-- with just t bits damaged, with one more, at the widest chunk, and at the ends of the limits of r and m. A premise that nobody can meet, or
 -- a bound looser than document 02's, no longer gives its row. Assumes nothing.
 use mathlib.Core.Path.{_≡_}
 use mathlib.Core.Bool.{true}
@@ -34,15 +34,15 @@ pub record VotesWitnessed : Type 0 where
   pub most-variables : orderWithinLimits 1 6 ≡ true
   pub order-of-m : orderWithinLimits 3 3 ≡ true
   pub most-rows : orderWithinLimits 2 4 ≡ true
-  -- a made card: a check answers its figures, its offset is 0, and its second row is the first variable
+  -- a made card: a check answers its values, its offset is 0, and its second row is the first variable
   pub checked : (card : List ℕ) → IsReedMullerCard 14 1 2 card → cardAnswer card ≡ Sound summary12
   pub fields : (card : List ℕ) → IsReedMullerCard 14 1 2 card
       → (lengthOf card ≡ 4) × (rowCountOf card ≡ 3) × (codeOf card .D ≡ 2) × (offsetOf card ≡ pos 0) × (codeOf card .row 1 ≡ 0b1010)
-  -- a vote: a chunk with t bits turned is answered, one with more is not, and one of n ones is
+  -- a vote: a chunk with t bits damaged is answered, one with more is not, and one of n ones is
   pub just-t : (answer : VoteAnswer) → KeepsPromise 1 3 oneOff answer → answer ≡ Voted 12 1
   pub above-t : (p e : ℕ) → KeepsPromise 1 3 twoOff (Voted p e) → ⊥
   pub widest : (answer : VoteAnswer) → KeepsPromise 0 2 0b1111 answer → answer ≡ Voted 1 0
-  -- as by search, with t bits turned, of n ones, and not read
+  -- as by search, with t bits damaged, of n ones, and not read
   pub as-search : (answer : VoteAnswer) → AnswersAsSearch 0 2 0b0111 answer → (voteStatus answer ≡ 0) × (voteValues answer ≡ 1 ∷ 1 ∷ [])
   pub widest-as-search : (answer : VoteAnswer) → AnswersAsSearch 0 2 0b1111 answer
       → (voteStatus answer ≡ 0) × (voteValues answer ≡ 1 ∷ 0 ∷ [])

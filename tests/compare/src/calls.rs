@@ -8,7 +8,7 @@ const HELD: u8 = 170;
 const LENT: usize = 48;
 pub type Lent = [u8; LENT];
 
-/// Counts a call by what the second reader answered, and whether the library's answer is unlike that. `served` names the line of
+/// Counts a call by what the second reader answered, and whether the library's answer differs from that. `served` names the line of
 /// calls that are served; the lines of refusals begin with `calls`, and that of the mismatches ends with it. A card's own refusals
 /// are told apart where it is checked only.
 fn answered<T>(tally: &mut Tally, calls: &str, served: &str, second: Result<T, Refusal>, unlike: bool) {

@@ -33,7 +33,7 @@ fn pairs() -> impl Iterator<Item = (u32, u32)> {
     chunks::numbers().into_iter().flat_map(|m| chunks::numbers().into_iter().map(move |r| (r, m)))
 }
 
-/// The card of a code for several tracks. What the library makes, it must call sound, with the code's figures; where it makes
+/// The card of a code for several tracks. What the library makes, it must call sound, with the code's values; where it makes
 /// none, 512 zeros stand for it, which are no sound card.
 fn cards(tally: &mut Tally, r: u32, m: u32, reed_muller: &ReedMuller) {
     for track in TRACKS {
@@ -45,7 +45,7 @@ fn cards(tally: &mut Tally, r: u32, m: u32, reed_muller: &ReedMuller) {
     }
 }
 
-/// The figures of a code by formulas: n = 2^m, D = 2^(m-r), and k is the number of sets of at most r variables.
+/// The values of a code by formulas: n = 2^m, D = 2^(m-r), and k is the number of sets of at most r variables.
 fn figures(r: u32, m: u32, track: u16, last: u32) -> Facts {
     let (n, distance) = (1 << m, 1 << (m - r));
     let k = (0..=r).map(|size| choose(m, size)).sum();

@@ -1,4 +1,4 @@
-//! The bits that code chunks needed: which counts have been met, and the library's held to the bits that were turned.
+//! The bits that code chunks needed: which counts have been met, and the library's held to the bits that were damaged.
 use crate::calls;
 use crate::levels;
 use crate::library;
@@ -67,7 +67,7 @@ fn needed(tally: &mut Tally, track: &Track, second: Result<Reading, Refusal>) {
     }
 }
 
-/// A word in which so many bits of code chunks 1 and 2 are turned, in those that the rule names from a codeword and no more than
+/// A word in which so many bits of code chunks 1 and 2 are damaged, in those that the rule names from a codeword and no more than
 /// the radius: it must be read, and the counts are these numbers. A position's word that is damaged within the radius is such a
 /// word, since the chunks that the rule names are never those that the tram's step divides.
 pub fn as_turned(tally: &mut Tally, turned: [u32; 2], answer: Result<Reading, Refusal>, second: Result<Reading, Refusal>) {
@@ -80,7 +80,7 @@ pub fn as_turned(tally: &mut Tally, turned: [u32; 2], answer: Result<Reading, Re
     tally.add("counts unlike the bits turned or refused", !answer.map_or(false, is_right));
 }
 
-/// A word with t + 1 bits turned in a chunk that its rule names: that chunk reads as another codeword, if as any.
+/// A word with t + 1 bits damaged in a chunk that its rule names: that chunk reads as another codeword, if as any.
 fn past_radius(tally: &mut Tally, second: Result<Reading, Refusal>) {
     let words = "words with t + 1 bits turned in a chunk named";
     let line = match second {

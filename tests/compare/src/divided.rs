@@ -1,4 +1,4 @@
-//! Words whose divided chunk is turned at will, the others within the radius: each must be read, and both distances of request
+//! Words whose divided chunk is damaged arbitrarily, the others within the radius: each must be read, and both distances of request
 //! P7 hold.
 use crate::counts;
 use crate::tally::Tally;
@@ -33,8 +33,8 @@ fn read(tally: &mut Tally, card: &[u8], behind: &Walk, here: &Walk, bytes: &[u8]
     held(tally, here, bytes, answer, second);
 }
 
-/// A word that was received at a position: where each chunk that is not divided has at most t bits turned, it must be read, no
-/// further off than the bits turned and the residual together, and than twice the bits turned.
+/// A word that was received at a position: where each chunk that is not divided has at most t bits damaged, it must be read, no
+/// further off than the bits damaged and the residual together, and than twice the bits damaged.
 pub fn held(tally: &mut Tally, here: &Walk, bytes: &[u8], answer: Result<Reading, Refusal>, second: Result<Reading, Refusal>) {
     let received = unpacked(bytes);
     let Some(turned) = turned_within_limit(here, &received) else { return };
@@ -61,7 +61,7 @@ pub fn held(tally: &mut Tally, here: &Walk, bytes: &[u8], answer: Result<Reading
     );
 }
 
-/// Counts a word by the bits turned in the divided chunk, if there is one.
+/// Counts a word by the bits damaged in the divided chunk, if there is one.
 fn in_divided(tally: &mut Tally, here: &Walk, received: &[bool]) {
     let code = &here.track.card.code;
     for (places, _) in code.chunks().into_iter().zip(divided(here)).filter(|&(_, divided)| divided) {

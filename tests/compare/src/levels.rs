@@ -42,8 +42,8 @@ pub fn both_read(tally: &mut Tally, card: &[u8], walk: &Walk, levels: &[f32]) ->
     Answers { library, second }
 }
 
-/// Levels 1, -1 and 0, against the word of the position at which a walk stands: where 2 × wrong + lost is below D in every chunk,
-/// they must be read, no further off than 2 × wrong + lost over the whole word.
+/// Levels 1, -1 and 0, against the word of the position at which a walk stands: where 2 × wrong + erased is below D in every chunk,
+/// they must be read, no further off than 2 × wrong + erased over the whole word.
 pub fn promised(tally: &mut Tally, here: &Walk, levels: &[f32], answers: Answers) {
     let Some(damage) = levels::damage_below_distance(&here.track.card.code, &here.word, levels) else { return };
     let off = |answer: Answer| answer.map_or(u64::MAX, |(reading, _)| here.position.abs_diff(reading.position).into());

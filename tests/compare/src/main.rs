@@ -45,7 +45,7 @@ const WITH_MANY: [usize; 3] = [CARD_A, CARD_B, 4];
 /// Every word of levels 1, -1 and 0 is tried up to this number of bits, and of card A, with its twelve.
 const EVERY_WORD: usize = 10;
 
-/// Every plain word whose divided chunk is turned at will is tried up to this number of bits.
+/// Every plain word whose divided chunk is damaged arbitrarily is tried up to this number of bits.
 const EVERY_TURN: usize = 20;
 
 fn main() {
@@ -104,7 +104,7 @@ fn with_levels(tally: &mut Tally, shapes: &[Shape]) {
     }
 }
 
-/// Every word whose divided chunk is turned at will, the others within the radius, of the smallest cards.
+/// Every word whose divided chunk is damaged arbitrarily, the others within the radius, of the smallest cards.
 fn with_divided_chunks(tally: &mut Tally, shapes: &[Shape]) {
     for (i, shape) in shapes.iter().enumerate() {
         let card = cards::sealed(cards::of_shape(shape, i as u16));

@@ -18,7 +18,7 @@ pub fn blocks(tally: &mut Tally, card: &[u8], track: &Track) {
 }
 
 /// The positions, one after the other: words are written, and at some of them words are read, and words of levels; at some also
-/// words whose divided chunk is turned at will, and at the starts of some blocks words with counts at their borders.
+/// words whose divided chunk is damaged arbitrarily, and at the starts of some blocks words with counts at their borders.
 pub fn from_end_to_end(tally: &mut Tally, card: &[u8], track: &Track, id: u64) {
     let mut here = Walk::new(track);
     let mut behind = here.clone();
@@ -90,7 +90,7 @@ fn off(position: u32, answer: Result<Reading, Refusal>) -> u64 {
     answer.map_or(u64::MAX, |reading| position.abs_diff(reading.position).into())
 }
 
-/// A word damaged within the radius: it must be read, no further off than twice the bits turned.
+/// A word damaged within the radius: it must be read, no further off than twice the bits damaged.
 fn bounded(tally: &mut Tally, turned: u64, by_library: u64, by_second: u64) {
     tally.add("words damaged within the radius", true);
     tally.greatest("most bits turned in one of them", turned);

@@ -80,7 +80,7 @@ const LINES: [&str; 110] = [
     "words with t + 1 bits turned in a chunk named, refused 11",
     "words with t + 1 bits turned in a chunk named, refused 12",
     "words with t + 1 bits turned in a chunk named, refused 17",
-    // A chunk that is not divided has at most t bits turned; the divided one is turned at will.
+    // A chunk that is not divided has at most t bits damaged; the divided one is damaged arbitrarily.
     "words within the limits of the chunks that are not divided",
     "words of these with a divided chunk",
     "words of these with more than t bits turned in the divided chunk",
@@ -88,7 +88,7 @@ const LINES: [&str; 110] = [
     "most bits turned in one within these limits",
     "greatest error of one within these limits in steps",
     "errors of the bits turned and the residual together",
-    // Damage is 2 × wrong + lost.
+    // Damage is 2 × wrong + erased.
     "words of levels damaged below D in every chunk",
     "most damage of one of them",
     "greatest error of one of them in steps",

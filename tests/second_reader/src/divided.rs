@@ -1,5 +1,5 @@
 //! What request P7 promises of plain words: which chunks of a position's word are divided, how many bits of a received word are
-//! turned where only these may be turned at will, and the two distances that its reading keeps.
+//! damaged where only these may be damaged arbitrarily, and the two distances that its reading keeps.
 //!
 //! A chunk is divided when some, but not all, of the places in which w(i) and w(i+1) differ there are taken from w(i+1). The block
 //! i is found from the starts, and both words are made anew and compared place by place with the position's, which is the walk's;
@@ -25,7 +25,7 @@ pub fn divided(here: &Walk) -> [bool; 5] {
     })
 }
 
-/// How many bits are turned in all between the word at a walk's position and a received word: in a divided chunk any number may
+/// How many bits are damaged in all between the word at a walk's position and a received word: in a divided chunk any number may
 /// be, in another at most t. None where some chunk that isn't divided has more. Received bits past d aren't looked at.
 pub fn turned_within_limit(here: &Walk, received: &[bool]) -> Option<usize> {
     let code = &here.track.card.code;
@@ -34,8 +34,8 @@ pub fn turned_within_limit(here: &Walk, received: &[bool]) -> Option<usize> {
     within.then(|| turned.iter().sum())
 }
 
-/// Whether the reading of a word of this position, with so many bits turned in all, keeps both distances: it is off by at most
-/// the bits turned plus the residual, and by at most twice the bits turned.
+/// Whether the reading of a word of this position, with so many bits damaged in all, keeps both distances: it is off by at most
+/// the bits damaged plus the residual, and by at most twice the bits damaged.
 pub fn both_distances_hold(position: u32, turned: usize, reading: &Reading) -> bool {
     let off = reading.position.abs_diff(position) as usize;
     off <= turned + reading.residual as usize && off <= 2 * turned
@@ -107,7 +107,7 @@ mod tests {
         // D 2 and A 2, 3, 2.
         let block = "-0-1-2-3-4";
         assert_eq!(marks(card_of_weights_two_and_three()), [block, "-0-11-2-33-4", block, "-"]);
-        // The Reed-Muller code of order 1 in 3 variables: n 8, k 4, D 4. Row 0 has weight 8 and every other 4. Row 0 is turned in
+        // The Reed-Muller code of order 1 in 3 variables: n 8, k 4, D 4. Row 0 has weight 8 and every other 4. Row 0 is damaged in
         // the even blocks of the fifteen.
         let (even, odd) = ("-000-1111111-222-3333333-444", "-000-111-222-333-444");
         let mut blocks = [even, odd].repeat(8);
@@ -132,7 +132,7 @@ mod tests {
     fn bits_turned_are_counted_within_the_limits() {
         let track = track_of(card_b());
         let counts = |position, written| turned_within_limit(&at(&track, position), &bits(written));
-        // At 7 chunk 2 is divided: undamaged, then turned whole, then with one more bit in each other chunk.
+        // At 7 chunk 2 is divided: undamaged, then damaged whole, then with one more bit in each other chunk.
         assert_eq!(counts(7, "111 111 100 000 000"), Some(0));
         assert_eq!(counts(7, "111 111 011 000 000"), Some(3));
         assert_eq!(counts(7, "011 101 011 100 010"), Some(1 + 1 + 3 + 1 + 1));
@@ -170,8 +170,8 @@ mod tests {
         assert!(!hold(2, [3, 1]) && !hold(2, [11, 1]));
     }
 
-    /// For each chunk of the word where a walk stands, the ways in which it may come: with any of its places turned where it is
-    /// free, else with those that `borne` allows. That is given the chunk's size, and the turned places as the bits of a number,
+    /// For each chunk of the word where a walk stands, the ways in which it may come: with any of its places damaged where it is
+    /// free, else with those that `borne` allows. That is given the chunk's size, and the damaged places as the bits of a number,
     /// the first the lowest.
     fn ways(here: &Walk, free: [bool; 5], borne: impl Fn(usize, u64) -> bool) -> [Vec<Word>; 5] {
         let chunks = here.track.card.code.chunks();
@@ -184,13 +184,13 @@ mod tests {
         })
     }
 
-    /// All ways in which each chunk that isn't free has at most t bits turned.
+    /// All ways in which each chunk that isn't free has at most t bits damaged.
     fn within_radius(here: &Walk, free: [bool; 5]) -> [Vec<Word>; 5] {
         let radius = here.track.card.code.radius();
         ways(here, free, |_, turned| turned.count_ones() as usize <= radius)
     }
 
-    /// Of these, the ways in which each chunk that isn't free comes as it was sent, with its first t bits turned or with its last
+    /// Of these, the ways in which each chunk that isn't free comes as it was sent, with its first t bits damaged or with its last
     /// t.
     fn thinned(here: &Walk, free: [bool; 5]) -> [Vec<Word>; 5] {
         let radius = here.track.card.code.radius();
@@ -310,7 +310,7 @@ mod tests {
         assert_eq!(read_from(&Walk::new(&track), &packed(&word)), Err(number), "{written}");
     }
 
-    /// At 4 card B has the word 111 100 000 000 000, and chunk 1 is divided. With chunk 1 turned at will, two bits are too many in
+    /// At 4 card B has the word 111 100 000 000 000, and chunk 1 is divided. With chunk 1 damaged arbitrarily, two bits are too many in
     /// each of the others.
     #[test]
     fn a_second_chunk_at_will_is_too_many() {
@@ -371,7 +371,7 @@ mod tests {
         }
     }
 
-    /// Asserts what a word written down, with so many bits turned against a position's word, reads as: position and residual.
+    /// Asserts what a word written down, with so many bits damaged against a position's word, reads as: position and residual.
     /// Answers whether it is within the limits, and whether both distances hold.
     fn read_with(card: [u8; 512], (position, turned): (u32, usize), written: &str, answer: [u32; 2]) -> [bool; 2] {
         let (track, word) = (track_of(card), bits(written));
@@ -382,36 +382,36 @@ mod tests {
         [turned_within_limit(&here, &word).is_some(), both_distances_hold(position, turned, &reading)]
     }
 
-    /// With too many bits turned in a chunk that isn't divided, a word may also be read, but as a position of another block.
+    /// With too many bits damaged in a chunk that isn't divided, a word may also be read, but as a position of another block.
     #[test]
     fn a_word_outside_the_limits_may_be_far_off() {
-        // On card A 8 has the word 11 110 11 110 00. Code chunk 1 comes as 011, two bits turned: rule 1 with p 3, which allows 24
-        // to 30. The word of 26 is 11 011 11 101 00, and those of 24 to 30 have 4, 3, 2, 3, 2, 3 and 4 bits unlike.
+        // On card A 8 has the word 11 110 11 110 00. Code chunk 1 comes as 011, two bits damaged: rule 1 with p 3, which allows 24
+        // to 30. The word of 26 is 11 011 11 101 00, and those of 24 to 30 have 4, 3, 2, 3, 2, 3 and 4 bits differing.
         assert_eq!(read_with(card_a(), (8, 2), "11 011 11 110 00", [26, 2]), [false, false]);
-        // On the card of two rows 12 has the word 111 11100 111 11100 000. Code chunk 1 comes as 00110, three bits turned and one
+        // On the card of two rows 12 has the word 111 11100 111 11100 000. Code chunk 1 comes as 00110, three bits damaged and one
         // bit from c(3): rule 1 with p 3, which allows 36 to 45. The word of 39 is 111 00111 111 11011 000, and those of 36 to 45
-        // have 7, 6, 5, 4, 5, 6, 5, 6, 7 and 8 bits unlike.
+        // have 7, 6, 5, 4, 5, 6, 5, 6, 7 and 8 bits differing.
         assert_eq!(read_with(card_of_two_rows(), (12, 3), "111 00110 111 11100 000", [39, 4]), [false, false]);
     }
 
-    /// A word within the limits may be off by more than the bits turned, so the residual is needed.
+    /// A word within the limits may be off by more than the bits damaged, so the residual is needed.
     #[test]
     fn the_bits_turned_alone_are_too_few() {
-        // Document 01's 5F 00, position 7 with place 5 turned, within the radius in every chunk: off by 2, which is 1 + 1.
+        // Document 01's 5F 00, position 7 with place 5 damaged, within the radius in every chunk: off by 2, which is 1 + 1.
         assert_eq!(packed(&bits("111 110 100 000 000")), [0x5F, 0x00]);
         assert_eq!(read_with(card_b(), (7, 1), "111 110 100 000 000", [5, 1]), [true, true]);
-        // Position 2 with place 0 turned, in chunk 0, which is divided: rule 3, and the words of 0 to 3 have 1, 2, 1 and 2 bits
+        // Position 2 with place 0 damaged, in chunk 0, which is divided: rule 3, and the words of 0 to 3 have 1, 2, 1 and 2 bits
         // unlike. Off by 2, which is 1 + 1.
         assert_eq!(read_with(card_b(), (2, 1), "010 000 000 000 000", [0, 1]), [true, true]);
     }
 
-    /// The bits turned plus the residual may be below twice the bits turned.
+    /// The bits damaged plus the residual may be below twice the bits damaged.
     #[test]
     fn the_distance_is_sharper() {
-        // Position 1 with place 1 turned is the word of 2: off by 1, which is 1 + 0.
+        // Position 1 with place 1 damaged is the word of 2: off by 1, which is 1 + 0.
         assert_eq!(read_with(card_b(), (1, 1), "110 000 000 000 000", [2, 0]), [true, true]);
-        // Position 8 with chunk 2, which is divided, turned whole: separators 1 0 0, so rule 2, which allows 0 to 9. The words of
-        // 5 to 9 have 2, 1, 2, 3 and 2 bits unlike. Off by 2, and 3 + 1 is below 2 × 3.
+        // Position 8 with chunk 2, which is divided, damaged whole: separators 1 0 0, so rule 2, which allows 0 to 9. The words of
+        // 5 to 9 have 2, 1, 2, 3 and 2 bits differing. Off by 2, and 3 + 1 is below 2 × 3.
         assert_eq!(read_with(card_b(), (8, 3), "111 111 001 000 000", [6, 1]), [true, true]);
     }
 }

@@ -109,7 +109,7 @@ fn every_word_of_the_least_card() {
     assert_eq!(positions, 6);
 }
 
-/// All words of card A, D 2, that come under the promise. A chunk bears one lost bit, which leaves 3 ways for a separator and 4
+/// All words of card A, D 2, that come under the promise. A chunk bears one erased bit, which leaves 3 ways for a separator and 4
 /// for a code chunk: 3 × 4 × 3 × 4 × 3 = 432 words for each of the 31 positions.
 #[test]
 fn every_bearable_word_of_card_a() {
@@ -123,7 +123,7 @@ fn every_bearable_word_of_card_a() {
     }
 }
 
-/// 20,000 of the 3^15 words of card B, D 3, drawn. A chunk bears one turned bit or up to two lost ones, 3 + 1 + 3 + 3 = 10 of its
+/// 20,000 of the 3^15 words of card B, D 3, drawn. A chunk bears one damaged bit or up to two erased ones, 3 + 1 + 3 + 3 = 10 of its
 /// 27 ways, so that about 20,000 × 16 × 10^5 / 27^5, or 2,230, positions come under the promise. Whether or not a word does, if it
 /// is read, its separators bear out the codeword, as request P6 promises; 17 is answered only where they don't.
 #[test]
@@ -145,7 +145,7 @@ fn many_words_of_card_b() {
 }
 
 /// 100 words for each of the 46 positions of the card of two rows, D 3, drawn chunk by chunk from those that come under the
-/// promise: in a separator 10 ways, in a code chunk one turned bit or up to two lost ones, 5 + 1 + 5 + 10 = 21.
+/// promise: in a separator 10 ways, in a code chunk one damaged bit or up to two erased ones, 5 + 1 + 5 + 10 = 21.
 #[test]
 fn many_bearable_words_of_two_rows() {
     let track = track_of(card_of_two_rows());

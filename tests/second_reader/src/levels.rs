@@ -21,7 +21,7 @@ enum Arrival {
 }
 
 impl Arrival {
-    /// A zero of either sign is a lost bit.
+    /// A zero of either sign is an erased bit.
     fn of(level: f32) -> Arrival {
         if level == 0.0 {
             Arrival::Lost
@@ -30,7 +30,7 @@ impl Arrival {
         }
     }
 
-    /// The bit, if it isn't lost: a negative level is a 1.
+    /// The bit, if it isn't erased: a negative level is a 1.
     fn bit(self) -> Option<bool> {
         match self {
             Arrival::Level(level) => Some(level < 0.0),
@@ -53,7 +53,7 @@ pub fn read_levels_from(walk: &Walk, levels: &[f32]) -> Result<(Reading, Strengt
 }
 
 impl Received for [Arrival] {
-    /// A separator reads 1 if its levels sum below zero, else 0. A lost bit adds nothing.
+    /// A separator reads 1 if its levels sum below zero, else 0. An erased bit adds nothing.
     fn separator(&self) -> bool {
         sum_in_order(self.iter().map(|arrival| match arrival {
             Arrival::Level(level) => *level,
@@ -61,7 +61,7 @@ impl Received for [Arrival] {
         })) < 0.0
     }
 
-    /// The first p for whose codeword c(p) 2 × wrong + lost is below D; wrong is the number that it answers beside p.
+    /// The first p for whose codeword c(p) 2 × wrong + erased is below D; wrong is the number that it answers beside p.
     fn code_chunk(&self, code: &Code) -> Option<(usize, usize)> {
         let lost = self.iter().filter(|arrival| arrival.bit().is_none()).count();
         let numbers = 0..code.codewords();
@@ -69,18 +69,18 @@ impl Received for [Arrival] {
         tried.find(|&(_, wrong)| 2 * wrong + lost < code.distance)
     }
 
-    /// Only the bits that aren't lost count.
+    /// Only the bits that aren't erased count.
     fn unlike(&self, word: &[bool]) -> usize {
         wrong(word.iter().copied(), self)
     }
 }
 
-/// In how many places, not lost, the received bit is unlike the one that was sent.
+/// In how many places, not erased, the received bit differs from the one that was sent.
 fn wrong(sent: impl Iterator<Item = bool>, received: &[Arrival]) -> usize {
     sent.zip(received).filter(|(sent, arrival)| arrival.bit() == Some(!sent)).count()
 }
 
-/// The strength of a word's levels. A lost bit's magnitude is zero.
+/// The strength of a word's levels. An erased bit's magnitude is zero.
 fn strength(levels: &[f32]) -> Strength {
     let magnitudes = levels.iter().map(|level| level.abs());
     Strength { sum: sum_in_order(magnitudes.clone()), greatest: magnitudes.fold(0.0, f32::max) }
@@ -108,7 +108,7 @@ mod tests {
     use crate::track::Track;
     use crate::walk::Walk;
 
-    /// The levels of a word written down: -1 for a 1, 1 for a 0, and the two zeros for lost bits, `?` the positive one and `-` the
+    /// The levels of a word written down: -1 for a 1, 1 for a 0, and the two zeros for erased bits, `?` the positive one and `-` the
     /// negative one.
     fn levels(written: &str) -> Vec<f32> {
         let level = |bit| match bit {
@@ -164,38 +164,38 @@ mod tests {
         refused(card_b(), "000 000 111 111 111", 12);
     }
 
-    /// The word of 7 on card B, 111 111 100 000 000, rule 2, with one bit lost in each chunk.
+    /// The word of 7 on card B, 111 111 100 000 000, rule 2, with one bit erased in each chunk.
     #[test]
     fn one_lost_bit_in_each_chunk() {
         // Separator 1 sums to -2. m has |7 - m| places unlike, less place 1 if that is one of them: 0 for 7 alone.
         reads(card_b(), "1?1 111 100 000 000", [7, 0, 2], [None, Some(0)]);
         // Chunk 1 isn't named.
         reads(card_b(), "111 1-1 100 000 000", [7, 0, 2], [None, Some(0)]);
-        // The words of 6 and 7 differ only in place 6, which is lost: the smaller is the answer.
+        // The words of 6 and 7 differ only in place 6, which is erased: the smaller is the answer.
         reads(card_b(), "111 111 ?00 000 000", [6, 0, 2], [None, Some(0)]);
         // Those of 7 and 8 differ only in place 7. Separator 2 sums to -1 + 1 = 0, and reads 0.
         reads(card_b(), "111 111 1-0 000 000", [7, 0, 2], [None, Some(0)]);
-        // Chunk 2 against 000: none wrong and 1 lost, 1.
+        // Chunk 2 against 000: none wrong and 1 erased, 1.
         reads(card_b(), "111 111 100 0?0 000", [7, 0, 2], [None, Some(0)]);
         // Separator 3 sums to 2.
         reads(card_b(), "111 111 100 000 00-", [7, 0, 2], [None, Some(0)]);
     }
 
-    /// D 3. With one bit wrong and one lost, 2 × 1 + 1 = 3 isn't below 3; with two lost, 2 is.
+    /// D 3. With one bit wrong and one erased, 2 × 1 + 1 = 3 isn't below 3; with two erased, 2 is.
     #[test]
     fn a_chunk_of_three_bits_bears_two_lost_or_one_wrong() {
-        // Rule 2. 01? against 000 and against 111: one wrong, one lost.
+        // Rule 2. 01? against 000 and against 111: one wrong, one erased.
         refused(card_b(), "111 111 100 01? 000", 10);
         reads(card_b(), "111 111 100 ?-0 000", [7, 0, 2], [None, Some(0)]);
         refused(card_b(), "111 111 100 ??? 000", 10);
         // ??1 reads as 111, p 1, the last.
         refused(card_b(), "111 111 100 ??1 000", 12);
-        // Rule 1. The word of 12 with bits of chunk 1 turned or lost.
+        // Rule 1. The word of 12 with bits of chunk 1 damaged or erased.
         refused(card_b(), "111 ?01 111 111 000", 10);
         reads(card_b(), "111 1?? 111 111 000", [12, 0, 1], [Some(0), None]);
         refused(card_b(), "111 ?-? 111 111 000", 10);
         refused(card_b(), "111 ??0 111 111 000", 12);
-        // Rule 3. Both chunks are named. m from 0 to 3 has m places unlike, and 1 more where place 4 is turned.
+        // Rule 3. Both chunks are named. m from 0 to 3 has m places unlike, and 1 more where place 4 is damaged.
         reads(card_b(), "000 0-0 000 0?? 000", [0, 0, 3], [Some(0), Some(0)]);
         reads(card_b(), "000 010 000 ?0? 000", [0, 1, 3], [Some(1), Some(0)]);
         refused(card_b(), "000 01? 000 000 000", 10);
@@ -203,21 +203,21 @@ mod tests {
         refused(card_b(), "000 ??1 000 000 000", 11);
     }
 
-    /// D 5: two wrong, one wrong and two lost, or four lost, each 4, are read; one more of either is not.
+    /// D 5: two wrong, one wrong and two erased, or four erased, each 4, are read; one more of either is not.
     #[test]
     fn a_chunk_of_five_bits_bears_four() {
-        // 01?-0: place 6 is wrong, 7 and 8 are lost. ????0: four lost. m from 0 to 5 has 1 + m places unlike.
+        // 01?-0: place 6 is wrong, 7 and 8 are erased. ????0: four erased. m from 0 to 5 has 1 + m places unlike.
         reads(card_of_five(), "00000 01?-0 00000 ????0 00000", [0, 1, 3], [Some(1), Some(0)]);
-        // 10?11: place 6 is wrong, 7 is lost, 2 × 1 + 1 = 3. 01011: places 15 and 17 are wrong, 4. m from 20 to 25 has
+        // 10?11: place 6 is wrong, 7 is erased, 2 × 1 + 1 = 3. 01011: places 15 and 17 are wrong, 4. m from 20 to 25 has
         // 3 + (25 - m) places unlike.
         reads(card_of_five(), "11111 10?11 11111 01011 11111", [25, 3, 3], [Some(1), Some(2)]);
-        // 01?10 has two wrong and one lost against 00000 and against 11111, 01??? one wrong and three lost: 5.
+        // 01?10 has two wrong and one erased against 00000 and against 11111, 01??? one wrong and three erased: 5.
         refused(card_of_five(), "00000 01?10 00000 00000 00000", 10);
         refused(card_of_five(), "00000 00000 00000 01??? 00000", 10);
         refused(card_of_five(), "00000 ????? 00000 00000 00000", 10);
     }
 
-    /// Card A, D 2: one lost bit is read though t is 0, as a codeword follows from any two of its bits. Two lost or one
+    /// Card A, D 2: one erased bit is read though t is 0, as a codeword follows from any two of its bits. Two erased or one
     /// wrong are 2.
     #[test]
     fn a_chunk_of_card_a_bears_one_lost_bit() {
@@ -226,7 +226,7 @@ mod tests {
         reads(card_a(), "11 ?10 11 110 10", [9, 0, 1], [Some(0), None]);
         refused(card_a(), "11 ?-0 11 110 10", 10);
         refused(card_a(), "11 010 11 110 10", 10);
-        // With separator 3 lost, the words of 8, 9 and 10 have no place unlike.
+        // With separator 3 erased, the words of 8, 9 and 10 have no place unlike.
         reads(card_a(), "11 110 11 110 -?", [8, 0, 1], [Some(0), None]);
         // The word of 5, whose separator 2 ties: rule 2, p 0 allows 0 to 2 × 2 + 2 = 6.
         reads(card_a(), "11 110 10 0?0 00", [5, 0, 2], [None, Some(0)]);
@@ -234,12 +234,12 @@ mod tests {
         reads(card_a(), "11 ?11 11 0-1 11", [30, 0, 3], [Some(0), Some(0)]);
     }
 
-    /// A tie, or a separator that is lost whole, reads 0. Here rule 3 is named, which it would not be if they read 1.
+    /// A tie, or a separator that is erased whole, reads 0. Here rule 3 is named, which it would not be if they read 1.
     #[test]
     fn a_separator_sum_of_zero_reads_0() {
-        // The words of 0 to 3 have 1, 0, 1 and 1 places unlike, place 2 being lost.
+        // The words of 0 to 3 have 1, 0, 1 and 1 places unlike, place 2 being erased.
         reads(card_b(), "10? 000 000 000 000", [1, 0, 3], [Some(0), Some(0)]);
-        // They have 1, 1, 2 and 1, place 0 being lost.
+        // They have 1, 1, 2 and 1, place 0 being erased.
         reads(card_b(), "-01 000 000 000 000", [0, 1, 3], [Some(0), Some(0)]);
         // In these two, m has 1 + m.
         reads(card_b(), "000 000 0-1 000 000", [0, 1, 3], [Some(0), Some(0)]);
@@ -280,24 +280,24 @@ mod tests {
         refused(card_a(), "11 000 00 011 00", 12);
     }
 
-    /// Request P6 with lost bits.
+    /// Request P6 with erased bits.
     #[test]
     fn words_with_lost_bits_in_contradiction_are_refused() {
-        // Rule 3: the separators sum to 2, 3 and 2, and read 0; both chunks read 1, with one bit lost and with two.
+        // Rule 3: the separators sum to 2, 3 and 2, and read 0; both chunks read 1, with one bit erased and with two.
         refused(card_b(), "0?0 1-1 000 1?? -00", 17);
-        // Separators that are lost whole read 0.
+        // Separators that are erased whole read 0.
         refused(card_b(), "??? 111 --- 111 ?-?", 17);
-        // With no bit of separator 1 lost, it would be separators 1 0 0: rule 2 with p 1, the last.
+        // With no bit of separator 1 erased, it would be separators 1 0 0: rule 2 with p 1, the last.
         refused(card_b(), "111 111 --- 111 ?-?", 12);
         // Rule 1: separators 0 0 1, and chunk 1 reads 1.
         refused(card_b(), "000 1?? 0-0 000 111", 17);
         // Rule 2: separators 0 1 1, separator 3 summing to -2, and chunk 2 reads 0.
         refused(card_b(), "?00 000 111 0?- 11?", 17);
-        // Rule 1: separators 1 1 0, separator 3 summing to 1. ?01 reads as 101, p 2: one lost, which is below D, 2.
+        // Rule 1: separators 1 1 0, separator 3 summing to 1. ?01 reads as 101, p 2: one erased, which is below D, 2.
         refused(card_a(), "11 ?01 11 000 0?", 17);
         // Rule 2: separators 0 1 1, separator 3 summing to -1. 1?1 reads as 101, p 2.
         refused(card_a(), "00 000 11 1?1 1-", 17);
-        // With separator 3 lost whole, 0 1 0.
+        // With separator 3 erased whole, 0 1 0.
         refused(card_a(), "00 000 11 1?1 ?-", 9);
     }
 
@@ -359,11 +359,11 @@ mod tests {
         levels_read(card_b(), &put([1e6, -0.03, -1e6]), [3, 1, 3], [Some(0), Some(0)]);
     }
 
-    /// The least magnitude above zero, 2^-149, is a level like another, and not lost.
+    /// The least magnitude above zero, 2^-149, is a level like another, and not erased.
     #[test]
     fn the_least_level_is_not_lost() {
         let least = f32::from_bits(1);
-        // The word of 7 with place 10 turned, chunk 2 faint: were those bits lost, they would not count.
+        // The word of 7 with place 10 damaged, chunk 2 faint: were those bits erased, they would not count.
         let faint = levels_with("111 111 100 000 000", 9, &[least, -least]);
         levels_read(card_b(), &faint, [7, 1, 2], [None, Some(1)]);
         // The word of 2: separator 1 sums to -2^-149, and reads 1.
@@ -381,7 +381,7 @@ mod tests {
     #[test]
     fn strength_sums_magnitudes_and_finds_the_greatest() {
         strength_is(&levels("111 111 100 000 000"), 15.0, 1.0);
-        // Three lost bits add nothing.
+        // Three erased bits add nothing.
         strength_is(&levels("-11 1?1 100 000 00-"), 12.0, 1.0);
         // 14 + 7.5, the greatest negative and in the middle; 14 + 2.25, the greatest in the last place, then in the first.
         strength_is(&levels_with("111 111 100 000 000", 4, &[-7.5]), 21.5, 7.5);
@@ -405,7 +405,7 @@ mod tests {
         strength_is(&levels, 1e6 + 0.5, 1e6);
     }
 
-    /// No word that is lost whole is read, n being at least D, so the strength is asked by itself: both zeros are positive.
+    /// No word that is erased whole is read, n being at least D, so the strength is asked by itself: both zeros are positive.
     #[test]
     fn strength_of_lost_bits_is_zero() {
         for lost in [vec![0.0; 15], vec![-0.0; 15], levels("?-? --- ??? -?- ---")] {

@@ -5,7 +5,7 @@
 //! whole word and the next differ; the least distance is found by summing every set of rows, a chunk's codeword by trying all, the
 //! bits that the chunk needed by comparing the two bit by bit, and the nearest allowed position by trying each with its full word.
 //! Where there is a short way and a plain one, this is the plain one: a chunk of a Reed-Muller code too is read by trying all
-//! codewords, not by votes. A word of levels is read by the same search, over the bits that aren't lost.
+//! codewords, not by votes. A word of levels is read by the same search, over the bits that aren't erased.
 //!
 //! The calls below are the library's eight. [`track::Track`] and [`walk::Walk`] are for a caller with many words of one card,
 //! [`reed_muller::ReedMuller`] for one with many chunks of one code. [`separator_promise`] is for holding any reader's answers to

@@ -69,9 +69,9 @@ mod tests {
     fn rule_1_counts_chunk_1_alone() {
         // 111 111 111 111 000 is the word of 12, undamaged.
         reads(card_b(), &[0xFF, 0x0F], [12, 0, 1], [Some(0), None]);
-        // 111 101 111 111 000: 12 with place 4 turned. 101 is one bit from 111; m from 6 to 15 has 1 + |12 - m| bits unlike.
+        // 111 101 111 111 000: 12 with place 4 damaged. 101 is one bit from 111; m from 6 to 15 has 1 + |12 - m| bits differing.
         reads(card_b(), &[0xEF, 0x0F], [12, 1, 1], [Some(1), None]);
-        // 111 111 111 101 000: 12 with place 10 turned. The damage is in chunk 2, which rule 1 doesn't name. The word of 10 has
+        // 111 111 111 101 000: 12 with place 10 damaged. The damage is in chunk 2, which rule 1 doesn't name. The word of 10 has
         // one bit unlike, at place 11, that of 12 one, at place 10: the smaller is the answer.
         reads(card_b(), &[0xFF, 0x0B], [10, 1, 1], [Some(0), None]);
     }
@@ -81,10 +81,10 @@ mod tests {
     fn rule_2_counts_chunk_2_alone() {
         // 111 111 100 000 000 is the word of 7, undamaged.
         reads(card_b(), &[0x7F, 0x00], [7, 0, 2], [None, Some(0)]);
-        // 111 110 100 000 000: 7 with place 5 turned. The damage is in chunk 1, which rule 2 doesn't name. The word of 5 has one
+        // 111 110 100 000 000: 7 with place 5 damaged. The damage is in chunk 1, which rule 2 doesn't name. The word of 5 has one
         // bit unlike, at place 6, that of 7 one, at place 5: the smaller is the answer.
         reads(card_b(), &[0x5F, 0x00], [5, 1, 2], [None, Some(0)]);
-        // 111 111 100 010 000: 7 with place 10 turned. 010 is one bit from 000; m from 0 to 9 has 1 + |7 - m| bits unlike.
+        // 111 111 100 010 000: 7 with place 10 damaged. 010 is one bit from 000; m from 0 to 9 has 1 + |7 - m| bits differing.
         reads(card_b(), &[0x7F, 0x04], [7, 1, 2], [None, Some(1)]);
     }
 
@@ -93,25 +93,25 @@ mod tests {
     fn rule_3_counts_each_chunk() {
         // 000 000 000 000 000 is the word of 0, undamaged.
         reads(card_b(), &[0x00, 0x00], [0, 0, 3], [Some(0), Some(0)]);
-        // 000 010 000 000 000: place 4 turned, in chunk 1. m from 0 to 3 has 1 + m bits unlike.
+        // 000 010 000 000 000: place 4 damaged, in chunk 1. m from 0 to 3 has 1 + m bits differing.
         reads(card_b(), &[0x10, 0x00], [0, 1, 3], [Some(1), Some(0)]);
-        // 000 000 000 010 000: place 10 turned, in chunk 2. m from 0 to 3 has 1 + m bits unlike.
+        // 000 000 000 010 000: place 10 damaged, in chunk 2. m from 0 to 3 has 1 + m bits differing.
         reads(card_b(), &[0x00, 0x04], [0, 1, 3], [Some(0), Some(1)]);
-        // 000 010 000 010 000: both turned. m from 0 to 3 has 2 + m bits unlike.
+        // 000 010 000 010 000: both damaged. m from 0 to 3 has 2 + m bits differing.
         reads(card_b(), &[0x10, 0x04], [0, 2, 3], [Some(1), Some(1)]);
-        // 111 011 111 111 111: the word of 15 with place 3 turned, in chunk 1. 011 is one bit from 111; m from 12 to 15 has
-        // 1 + (15 - m) bits unlike.
+        // 111 011 111 111 111: the word of 15 with place 3 damaged, in chunk 1. 011 is one bit from 111; m from 12 to 15 has
+        // 1 + (15 - m) bits differing.
         reads(card_b(), &[0xF7, 0x7F], [15, 1, 3], [Some(1), Some(0)]);
     }
 
     /// Rule 3 at t 2, with counts that differ and are not 0. p 0 allows 0 to 5, p 1 allows 20 to 25.
     #[test]
     fn rule_3_counts_more_than_one_bit() {
-        // 00000 01010 00000 00100 00000: the word of 0 with places 6, 8 and 17 turned. 01010 is two bits from 00000 and three from
-        // 11111, 00100 one from 00000. m from 0 to 5 has 3 + m bits unlike.
+        // 00000 01010 00000 00100 00000: the word of 0 with places 6, 8 and 17 damaged. 01010 is two bits from 00000 and three from
+        // 11111, 00100 one from 00000. m from 0 to 5 has 3 + m bits differing.
         reads(card_of_five(), &[0x40, 0x01, 0x02, 0x00], [0, 3, 3], [Some(2), Some(1)]);
-        // 11111 11011 11111 10110 11111: the word of 25 with places 7, 16 and 19 turned. 11011 is one bit from 11111, 10110 two.
-        // m from 20 to 25 has 3 + (25 - m) bits unlike.
+        // 11111 11011 11111 10110 11111: the word of 25 with places 7, 16 and 19 damaged. 11011 is one bit from 11111, 10110 two.
+        // m from 20 to 25 has 3 + (25 - m) bits differing.
         reads(card_of_five(), &[0x7F, 0xFF, 0xF6, 0x01], [25, 3, 3], [Some(1), Some(2)]);
     }
 
@@ -134,9 +134,9 @@ mod tests {
     /// Request P6 by rule 3: separator 1 isn't the parity of the p that both chunks read.
     #[test]
     fn rule_3_finds_separator_1_in_contradiction() {
-        // 000 111 000 111 000: p 1, separator 1 is 0. Among 12 to 15, the word of 12 would be nearest, with 6 bits unlike.
+        // 000 111 000 111 000: p 1, separator 1 is 0. Among 12 to 15, the word of 12 would be nearest, with 6 bits differing.
         refused(card_b(), &[0x38, 0x0E], 17);
-        // 100 110 001 101 010: the same with a place turned in every chunk.
+        // 100 110 001 101 010: the same with a place damaged in every chunk.
         refused(card_b(), &[0x19, 0x2B], 17);
         // 111 000 111 000 111: p 0, separator 1 is 1.
         refused(card_b(), &[0xC7, 0x71], 17);

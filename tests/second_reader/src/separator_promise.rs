@@ -38,7 +38,7 @@ pub fn separator_agrees_in_levels(track: &Track, levels: &[f32]) -> Option<bool>
     Some(reads(separator) == code.whole_word(p)[chunks[separator].start])
 }
 
-/// 2 × wrong + lost of levels against the bits that were sent in these places. Each place has 0, 1 or 2.
+/// 2 × wrong + erased of levels against the bits that were sent in these places. Each place has 0, 1 or 2.
 pub fn damage(sent: &[bool], levels: &[f32]) -> usize {
     let in_place = |(sent, level): (&bool, &f32)| match *level < 0.0 {
         _ if *level == 0.0 => 1,
@@ -125,7 +125,7 @@ mod tests {
         assert_eq!(plain_counts(card_a()), added([no_rule, rule_3, rule_1, rule_2]));
     }
 
-    /// All 3^5 words of levels 1, -1 and 0 of the card with D 1: a separator reads 0 in two of three ways, and a lost chunk is 10.
+    /// All 3^5 words of levels 1, -1 and 0 of the card with D 1: a separator reads 0 in two of three ways, and an erased chunk is 10.
     #[test]
     fn every_word_of_levels_of_the_least_card() {
         let track = track_of(card_of_one());
@@ -134,7 +134,7 @@ mod tests {
         let counted = counts(words.map(|levels| (read(&levels), separator_agrees_in_levels(&track, &levels))));
         // 0 1 0 in 2 × 1 × 2 ways and 1 0 1 in 1 × 2 × 1, with 9 ways of the chunks.
         let no_rule = [0, (4 + 2) * 9, 0, 0, 0, 0];
-        // 0 0 0 in 8 ways and 1 1 1 in one. Of the chunks' 9 ways, 5 have a lost one and 2 are unlike; in one p has the
+        // 0 0 0 in 8 ways and 1 1 1 in one. Of the chunks' 9 ways, 5 have an erased one and 2 differ from; in one p has the
         // separators' parity, in one it hasn't.
         let rule_3 = [9, 0, 9 * 5, 9 * 2, 0, 9];
         // With 3 ways of chunk 2: p 1 is read with 1 1 0, in 1 × 1 × 2 ways, and 17 with 0 0 1, in 2 × 2 × 1. p 0 is 12.
@@ -145,7 +145,7 @@ mod tests {
     }
 
     /// Demand 3, which request P6 leaves as it was: every plain word damaged within the radius in every chunk is read, off by at
-    /// most twice the bits turned. Where t is 0 that is the position's word alone; on card B each chunk has 1 + 3 ways, on the card
+    /// most twice the bits damaged. Where t is 0 that is the position's word alone; on card B each chunk has 1 + 3 ways, on the card
     /// of two rows a separator has 1 + 3 and a code chunk 1 + 5.
     #[test]
     fn every_plain_word_within_the_radius_is_read() {
@@ -157,7 +157,7 @@ mod tests {
                 for levels in all {
                     let reading = read_from(&Walk::new(&track), &plain(&levels));
                     let reading = reading.unwrap_or_else(|number| panic!("{levels:?} of {position}: refusal {number}"));
-                    // With no lost bit, the damage is twice the bits turned.
+                    // With no erased bit, the damage is twice the bits damaged.
                     let off = reading.position.abs_diff(position) as usize;
                     assert!(off <= damage(&word, &levels), "{levels:?}: {position} read as {reading:?}");
                 }

@@ -8,7 +8,7 @@ pub struct Walk<'a> {
     pub track: &'a Track,
     pub position: u32,
     pub word: Word,
-    /// The block i in which the last step was made, and the place after the one that it turned. At position 0 both are 0.
+    /// The block i in which the last step was made, and the place after the one that it damaged. At position 0 both are 0.
     pub block: usize,
     pub place: usize,
     /// w(i+1), to which the steps of the block lead.

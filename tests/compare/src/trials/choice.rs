@@ -1,4 +1,4 @@
-//! Which positions of a track are written, at which of them words are read, and words whose divided chunk is turned at will,
+//! Which positions of a track are written, at which of them words are read, and words whose divided chunk is damaged arbitrarily,
 //! and of which codewords there are words with counts at their borders. `id` is the card's number.
 use super::random;
 use second_reader::track::Track;
@@ -19,7 +19,7 @@ pub fn is_read(here: &Walk, id: u64) -> bool {
     is_tried(here, id, at_border)
 }
 
-/// Whether words whose divided chunk is turned at will are read there: at some of the track, and in some blocks where a chunk
+/// Whether words whose divided chunk is damaged arbitrarily are read there: at some of the track, and in some blocks where a chunk
 /// begins to be divided, and where it is for the last time.
 pub fn is_turned_at_will(here: &Walk, id: u64) -> bool {
     is_tried(here, id + 3, at_border_of_division)
@@ -49,7 +49,7 @@ fn at_border(here: &Walk) -> bool {
     here.place < 2 || begins(here.place) || here.word.len() <= here.place + 1
 }
 
-/// Whether the place that the last step turned is the first, or the last but one, of those in which the two words of its block
+/// Whether the place that the last step damaged is the first, or the last but one, of those in which the two words of its block
 /// differ in its chunk.
 fn at_border_of_division(here: &Walk) -> bool {
     let code = &here.track.card.code;

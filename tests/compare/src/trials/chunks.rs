@@ -9,7 +9,7 @@ const READ_ALL: usize = 16;
 /// Of a longer code, about so many damaged codewords are read, and so many random chunks.
 const MANY: usize = 20_000;
 
-/// Chunks of n bits: all of them, or every codeword, codewords with up to t + 2 bits turned, and random bits.
+/// Chunks of n bits: all of them, or every codeword, codewords with up to t + 2 bits damaged, and random bits.
 pub fn of_code(reed_muller: &ReedMuller) -> Vec<u64> {
     let n = reed_muller.code.n;
     if n <= READ_ALL {
@@ -28,7 +28,7 @@ pub fn of_code(reed_muller: &ReedMuller) -> Vec<u64> {
     chunks
 }
 
-/// A codeword with exactly so many bits turned, in one of three ways: anywhere; at places that follow each other; or at places
+/// A codeword with exactly so many bits damaged, in one of three ways: anywhere; at places that follow each other; or at places
 /// where another codeword differs from it, so that the damage leads from the one to the other.
 fn damaged(reed_muller: &ReedMuller, i: usize, count: usize, seed: u64) -> u64 {
     let (n, codewords) = (reed_muller.code.n, &reed_muller.codewords);
@@ -52,7 +52,7 @@ pub fn shuffled(mut places: Vec<usize>, seed: u64) -> Vec<usize> {
 }
 
 /// Chunks with a bit at n or above: each such bit alone, with every bit above it, and with some of these; beside n bits that are
-/// read without it (zeros, ones, the last codeword, and that with t bits turned), and beside n bits that are not, if the code has
+/// read without it (zeros, ones, the last codeword, and that with t bits damaged), and beside n bits that are not, if the code has
 /// such.
 pub fn past_end(reed_muller: &ReedMuller) -> Vec<u64> {
     let n = reed_muller.code.n;

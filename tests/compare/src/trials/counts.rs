@@ -1,11 +1,11 @@
-//! Words for the counts of bits that code chunks need: a codeword in both chunks, with so many bits turned in each of them,
+//! Words for the counts of bits that code chunks need: a codeword in both chunks, with so many bits damaged in each of them,
 //! between whole separators of each rule.
 use super::damage::{turn, Places};
 use super::random;
 use second_reader::code::Code;
 use second_reader::word::{packed, Word};
 
-/// A word, the rule that its separators name, and how many bits of code chunks 1 and 2 are turned.
+/// A word, the rule that its separators name, and how many bits of code chunks 1 and 2 are damaged.
 pub struct Counted {
     pub bytes: Vec<u8>,
     pub rule: u32,
@@ -38,7 +38,7 @@ fn borders(radius: usize) -> Vec<usize> {
     borders
 }
 
-/// A word with so many bits of code chunks 1 and 2 turned, at places that follow each other.
+/// A word with so many bits of code chunks 1 and 2 damaged, at places that follow each other.
 fn turned(code: &Code, word: &Word, counts: [usize; 2], seed: u64) -> Word {
     let mut word = word.clone();
     for (chunk, count) in [1, 3].into_iter().zip(counts) {

@@ -1,10 +1,10 @@
-//! Bits of a word turned, and bits turned counted.
+//! Bits of a word damaged, and bits damaged counted.
 use super::random;
 use second_reader::code::Code;
 use second_reader::word::{unlike, Word};
 use std::ops::Range;
 
-/// Which of a chunk's places are turned.
+/// Which of a chunk's places are damaged.
 #[derive(Clone, Copy)]
 pub enum Places {
     First,
@@ -29,7 +29,7 @@ pub fn turn(word: &mut Word, chunk: Range<usize>, count: usize, which: Places, s
     }
 }
 
-/// The word with so many bits of each of some chunks, 0 to 4, turned.
+/// The word with so many bits of each of some chunks, 0 to 4, damaged.
 pub fn damaged(code: &Code, word: &Word, chunks: Range<usize>, count: usize, which: Places, seed: u64) -> Word {
     let mut word = word.clone();
     for c in chunks {
@@ -38,7 +38,7 @@ pub fn damaged(code: &Code, word: &Word, chunks: Range<usize>, count: usize, whi
     word
 }
 
-/// The bits turned in each chunk between two words, if no chunk has more of them than the radius.
+/// The bits damaged in each chunk between two words, if no chunk has more of them than the radius.
 pub fn turned_within_radius(code: &Code, sent: &Word, received: &Word) -> Option<[u32; 5]> {
     let turned = code.chunks().map(|chunk| unlike(&sent[chunk.clone()], &received[chunk]));
     turned.iter().all(|&bits| bits <= code.radius()).then(|| turned.map(|bits| bits as u32))

@@ -1,4 +1,4 @@
-//! Words of a position whose divided chunk is turned at will, the others within the radius.
+//! Words of a position whose divided chunk is damaged arbitrarily, the others within the radius.
 use super::damage::{turn, Places};
 use super::random;
 use second_reader::divided::divided;
@@ -15,8 +15,8 @@ pub fn at<'a>(here: &'a Walk, id: u64) -> impl Iterator<Item = Word> + 'a {
     chunk.into_iter().flat_map(move |chunk| (0..COUNT).map(move |q| word_number(q, here, chunk, random(seed, q))))
 }
 
-/// Word q. The divided chunk is turned whole, is made that of some codeword's word, or has bits turned at random; the others are
-/// as they were sent in words 0 to 3, have t bits turned in words 4 to 7, and at most t, scattered, in the rest.
+/// Word q. The divided chunk is damaged whole, is made that of some codeword's word, or has bits damaged at random; the others are
+/// as they were sent in words 0 to 3, have t bits damaged in words 4 to 7, and at most t, scattered, in the rest.
 fn word_number(q: u64, here: &Walk, chunk: usize, seed: u64) -> Word {
     let code = &here.track.card.code;
     let mut word = here.word.clone();
@@ -36,7 +36,7 @@ fn word_number(q: u64, here: &Walk, chunk: usize, seed: u64) -> Word {
     word
 }
 
-/// Every word of the position at which `here` stands: the divided chunk turned in all ways, any other in all ways with at most
+/// Every word of the position at which `here` stands: the divided chunk damaged in all ways, any other in all ways with at most
 /// t bits.
 pub fn every(here: &Walk) -> Vec<Word> {
     let code = &here.track.card.code;

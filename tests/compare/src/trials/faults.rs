@@ -6,7 +6,7 @@ pub enum Fault {
     None,
     /// A length other than 512.
     Length(usize),
-    /// The highest bit of this byte of the check is turned.
+    /// The highest bit of this byte of the check is damaged.
     Check(usize),
     /// Something is wrong under a right check.
     Bytes(fn(&mut Card)),

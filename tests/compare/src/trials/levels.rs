@@ -1,5 +1,5 @@
-//! Words of levels 1, -1 and 0, with bits turned and lost up to the borders of what a chunk bears. The damage of some levels,
-//! against a word's bits, is 2 × wrong + lost: each place has 0, 1 or 2.
+//! Words of levels 1, -1 and 0, with bits damaged and erased up to the borders of what a chunk bears. The damage of some levels,
+//! against a word's bits, is 2 × wrong + erased: each place has 0, 1 or 2.
 use super::chunks::shuffled;
 use super::random;
 use super::words::{made_up, word_at};
@@ -44,7 +44,7 @@ pub fn at<'a>(behind: &'a Walk, here: &'a Walk, id: u64) -> impl Iterator<Item =
 
 /// Word q: the position's own; one chunk damaged by D - 1, then by D; every chunk by D - 1, scattered or towards another
 /// codeword; code chunks by D towards another codeword; every chunk by less than D, then by up to D + 1; words made up, damaged by
-/// D - 1 in every chunk, or by 1, or by up to D; levels at random; a separator lost whole; and the places lost that tell
+/// D - 1 in every chunk, or by 1, or by up to D; levels at random; a separator erased whole; and the places erased that tell
 /// neighbours apart.
 fn word_number(q: u64, behind: &Walk, here: &Walk, seed: u64) -> Vec<f32> {
     let code = &here.track.card.code;
@@ -99,15 +99,15 @@ fn least_codeword(code: &Code, seed: u64) -> u64 {
     least.next().expect("D is the weight of a codeword")
 }
 
-/// The levels of a word with these places lost.
+/// The levels of a word with these places erased.
 fn lost(word: &Word, places: Range<usize>, seed: u64) -> Vec<f32> {
     let mut levels = of_bits(word);
     levels[places].fill(zero(seed));
     levels
 }
 
-/// The levels of a position's word with the places lost in which it differs from those of positions up to t before and up to t
-/// after it, so that all of these are as near as it is: as many as bits may be lost where they stand in one chunk.
+/// The levels of a position's word with the places erased in which it differs from those of positions up to t before and up to t
+/// after it, so that all of these are as near as it is: as many as bits may be erased where they stand in one chunk.
 fn neighbours_alike(behind: &Walk, here: &Walk, seed: u64) -> Vec<f32> {
     let steps = here.track.card.code.radius() as u32;
     let back = word_at(behind, behind.position.max(here.position.saturating_sub(steps)));

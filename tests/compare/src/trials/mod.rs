@@ -1,5 +1,5 @@
 //! What the library and the second reader are tried on: cards of every shape, with faults and with offsets, the positions of a
-//! track that are tried, and the words that are read there, damaged in many ways, with the divided chunk turned at will, with
+//! track that are tried, and the words that are read there, damaged in many ways, with the divided chunk damaged arbitrarily, with
 //! counts of code chunks at their borders, and as levels; the chunks of the Reed-Muller codes. All of it follows from numbers
 //! that count the cards, positions, words and chunks, so that every run tries the same.
 pub mod cards;

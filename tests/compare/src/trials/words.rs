@@ -7,7 +7,7 @@ use second_reader::word::{packed, Word};
 /// How many words are read at a position, beside those with a spare bit set.
 const COUNT: u64 = 29;
 
-/// A word that is received, and how many bits of each chunk are turned if no chunk has more of them than the radius.
+/// A word that is received, and how many bits of each chunk are damaged if no chunk has more of them than the radius.
 pub struct Received {
     pub bytes: Vec<u8>,
     pub turned_within_radius: Option<[u32; 5]>,
@@ -98,7 +98,7 @@ pub fn made_up(q: u64, here: &Walk, seed: u64) -> Word {
     }
 }
 
-/// Words 27 and 28, pasted from two telegrams: the position's word up to where a chunk begins, or up to any place, and from there on
+/// Words 27 and 28, mixed from two telegrams: the position's word up to where a chunk begins, or up to any place, and from there on
 /// that of some codeword.
 fn pasted(here: &Walk, place: usize, seed: u64) -> Word {
     let code = &here.track.card.code;

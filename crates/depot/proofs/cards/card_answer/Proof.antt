@@ -1,5 +1,5 @@
 -- `depot::cards::card_answer` meets its contract: a refusal is answered as it stands, and where there is none the code is sound,
--- so its figures are those of the card. Assumes nothing.
+-- so its values are those of the card. Assumes nothing.
 use Rattle.model.specs.Decoded.{meaning}
 use Rattle.code_theory.specs.Promise.{Sound}
 use Rattle.depot.proofs.CheckContract.{card-refused, card-sound}

@@ -1,5 +1,5 @@
 -- `level_reader::telling::word_of_levels` meets its contract: each chunk is told where the layout has it, the strength going on to where the next
--- one begins; bits and places heard are those of the five chunks, and the sums those of the separators. Assumes nothing.
+-- one begins; bits and unerased places are those of the five chunks, and the sums those of the separators. Assumes nothing.
 use mathlib.Core.Path.{_≡_, ap, _∙_}
 use Prim.Native.Nat.{ℕ, _+_, _≤_}
 use native.Mathlib.Omega.{arith}

@@ -1,4 +1,4 @@
--- `levels::chunks::with_received` meets its contract: a lost bit changes nothing, and a level adds its bit, its place among those heard, itself
+-- `levels::chunks::with_received` meets its contract: an erased bit changes nothing, and a level adds its bit, its place among those unerased, itself
 -- and its magnitude. Assumes nothing.
 use mathlib.Core.Path.{refl}
 use native.Mathlib.Omega.{arith}

@@ -1,5 +1,5 @@
 -- `nearest_position::residual::unerased_distance` meets its contract. The loop keeps that `unlike` is the distance of the first `j` bytes over the
--- places heard, which is at most their 8j bits, so the sum fits; a byte more adds the distance of the two bytes. The measure is the bytes
+-- unerased places, which is at most their 8j bits, so the sum fits; a byte more adds the distance of the two bytes. The measure is the bytes
 -- that are left. Assumes nothing.
 use mathlib.Core.Path.{_≡_, refl}
 use Prim.Native.Nat.{_-_, _*_, _≤_}

@@ -1,4 +1,4 @@
--- `nearest_position::scan::next_residual` meets its contract: old, new and received bit are each 0 or 1, and the bit is heard or not, so the rest is
+-- `nearest_position::scan::next_residual` meets its contract: old, new and received bit are each 0 or 1, and the bit is not erased or not, so the rest is
 -- arithmetic; where one is taken, the contract asks for a residual of at least 1. Assumes nothing.
 use mathlib.Core.Path.{_≡_}
 use mathlib.Core.Logic.{⊎-elim}

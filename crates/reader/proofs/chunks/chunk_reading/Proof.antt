@@ -1,4 +1,4 @@
--- `reader::chunks::chunk_reading` meets its contract: the search reads the chunk's bits over the places heard, both as numbers, by the
+-- `reader::chunks::chunk_reading` meets its contract: the search reads the chunk's bits over the unerased places, both as numbers, by the
 -- definition, which looks at no others. Assumes nothing.
 use mathlib.Core.Path.{ap, _∙_}
 use Prim.Native.Nat.{ℕ}
