@@ -14,7 +14,7 @@ use Rattle.model.specs.Order.{gray, lastCodeword, codeword, changedRow, changed
 use Rattle.model.specs.Words.{fiveChunks, word, blockOf, wordAt}
 use Rattle.model.specs.Reading.{majority, chunkDistance, withinRadius, readFirst, chunkReading, unreadable, numberRead, seen}
 use Rattle.model.specs.Reading.{ruleOf, numberBy, separatorOf, parityDiffers, twoEnds, rows9To12, rowsSeen, ruleNamed, rowsOf}
-use Rattle.model.specs.Reading.{allowed, residual, nearestIn, bitsNeeded, nearest}
+use Rattle.model.specs.Reading.{allowed, residual, nearestIn, bitsNeeded, nearestReading}
 use Rattle.model.specs.CheckCard.{summaryOf, cardAnswer}
 use Rattle.model.specs.ReadWord.{spareSet, rowsOfWord, readWord}
 use Rattle.model.specs.CardBytes.{bytesOf, rowBytes, sealed, cardOf}
@@ -38,7 +38,7 @@ unfolding sumBelow distance joinAt
     gray lastCodeword codeword changedRow changedWeight start lastPosition
     fiveChunks word blockOf wordAt
     majority chunkDistance withinRadius readFirst chunkReading unreadable numberRead seen
-    ruleOf numberBy separatorOf parityDiffers twoEnds rows9To12 rowsSeen ruleNamed rowsOf allowed residual nearestIn bitsNeeded nearest
+    ruleOf numberBy separatorOf parityDiffers twoEnds rows9To12 rowsSeen ruleNamed rowsOf allowed residual nearestIn bitsNeeded nearestReading
     summaryOf cardAnswer spareSet rowsOfWord readWord
     bytesOf rowBytes sealed cardOf cardB
     ascii digitsWithin decimal

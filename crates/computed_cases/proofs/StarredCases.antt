@@ -13,7 +13,7 @@ use Rattle.model.specs.Order.{gray, lastCodeword, codeword, changedRow, changed
 use Rattle.model.specs.Words.{chunkSize, placesBefore, fiveChunks, word, blockOf, wordAt, wordBytes}
 use Rattle.model.specs.Reading.{majority, chunkDistance, withinRadius, readFirst, chunkReading, unreadable, numberRead, seen}
 use Rattle.model.specs.Reading.{ruleOf, numberBy, separatorOf, parityDiffers, twoEnds, rows9To12, rowsSeen, ruleNamed, rowsOf}
-use Rattle.model.specs.Reading.{allowed, residual, nearestIn, bitsNeeded, nearest, bitsValue}
+use Rattle.model.specs.Reading.{allowed, residual, nearestIn, bitsNeeded, nearestReading, bitsValue}
 use Rattle.model.specs.WriteWord.{writeRefusal, writeAnswer, lentAfterWrite, writeStatus, writeValues}
 use Rattle.model.specs.ReadWord.{spareSet, rowsOfWord, readRefusal, readAnswer, readStatus, readValues}
 use Rattle.model.specs.CardsToTry.{cardA, cardB}
@@ -29,7 +29,7 @@ unfolding sumBelow distance joinAt
     gray lastCodeword codeword changedRow changedWeight start lastPosition
     chunkSize placesBefore fiveChunks word blockOf wordAt wordBytes
     majority chunkDistance withinRadius readFirst chunkReading unreadable numberRead seen
-    ruleOf numberBy separatorOf parityDiffers twoEnds rows9To12 rowsSeen ruleNamed rowsOf allowed residual nearestIn bitsNeeded nearest
+    ruleOf numberBy separatorOf parityDiffers twoEnds rows9To12 rowsSeen ruleNamed rowsOf allowed residual nearestIn bitsNeeded nearestReading
     writeRefusal writeAnswer lentAfterWrite spareSet rowsOfWord readRefusal readAnswer
     writeStatus writeValues bitsValue readStatus readValues
     bytesOf rowBytes sealed cardOf cardA cardB numbersOf codewordPlaces answerTo starredCases

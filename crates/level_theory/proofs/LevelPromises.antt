@@ -15,7 +15,7 @@ use Rattle.bits.proofs.Searches.{any-none}
 use Rattle.bits.proofs.Places.{length-pack, place-packed}
 use Rattle.model.specs.Card.{Code, cardRefusal, codeOf, SoundCard}
 use Rattle.model.specs.Words.{wordBits, wordBytes}
-use Rattle.model.specs.Reading.{twoEnds, rows9To12, rowsSeen, ruleSeen, separatorBy, nearest}
+use Rattle.model.specs.Reading.{twoEnds, rows9To12, rowsSeen, ruleSeen, separatorBy, nearestReading}
 use Rattle.model.specs.Levels.{anyOutside, receivedAt, seenInLevels, residualUnerased}
 use Rattle.model.specs.ReadWord.{readWord, readRefusal, readAnswer}
 use Rattle.model.specs.ReadLevels.{rowsOfLevels, levelsRefusal, levelsAnswer, positionAnswer}
@@ -127,7 +127,7 @@ module _ (card : List ℕ) (levels : List Float) where
 
 module _ (card : List ℕ) (levels : List Float) where
   pub levels-read-only-if-parity-agrees : LevelsReadOnlyIfParityAgrees card levels (positionAnswer (levelsAnswer card levels))
-  unfolding LevelsReadOnlyIfParityAgrees nearest
+  unfolding LevelsReadOnlyIfParityAgrees nearestReading
   levels-read-only-if-parity-agrees r answered =
       let C = codeOf card in
       let (sound, none, is) = levels-show card levels r answered in

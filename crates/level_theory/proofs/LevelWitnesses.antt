@@ -22,7 +22,7 @@ use Rattle.model.specs.Order.{gray, lastCodeword, codeword, changedRow, changed
 use Rattle.model.specs.Words.{chunk₁, chunk₂, wordBits, chunkSize, placesBefore, fiveChunks, word, blockOf, wordAt, wordBytes}
 use Rattle.model.specs.Reading.{majority, chunkDistance, withinRadius, readFirst, chunkReading, unreadable, numberRead, seen}
 use Rattle.model.specs.Reading.{ruleSeen, ruleOf, numberBy, separatorOf, parityDiffers, twoEnds, rows9To12, rowsSeen, ruleNamed, rowsOf}
-use Rattle.model.specs.Reading.{allowed, residual, nearestIn, bitsNeeded, nearest}
+use Rattle.model.specs.Reading.{allowed, residual, nearestIn, bitsNeeded, nearestReading}
 use Rattle.model.specs.Levels.{magnitude, infinite, outside, anyOutside, receivedLevel, receivedAt, isUnerased, bitOfLevel, plusLevel, sumOfLevels}
 use Rattle.model.specs.Levels.{separatorReading, chunkWrong, withinErasures, erasureReading, seenInLevels, residualUnerased}
 use Rattle.model.specs.ReadWord.{spareSet, rowsOfWord, readRefusal, readAnswer}
@@ -142,7 +142,7 @@ unfolding sumBelow distance distanceUnerased erasedBelow joinAt walk weight plac
     gray lastCodeword codeword changedRow changedWeight start lastPosition
     chunkSize placesBefore fiveChunks word blockOf wordAt wordBytes
     majority chunkDistance withinRadius readFirst chunkReading unreadable numberRead seen
-    ruleOf numberBy separatorOf parityDiffers twoEnds rows9To12 rowsSeen ruleNamed rowsOf allowed residual nearestIn bitsNeeded nearest
+    ruleOf numberBy separatorOf parityDiffers twoEnds rows9To12 rowsSeen ruleNamed rowsOf allowed residual nearestIn bitsNeeded nearestReading
     spareSet rowsOfWord readRefusal readAnswer
     magnitude infinite outside anyOutside receivedLevel receivedAt isUnerased bitOfLevel plusLevel sumOfLevels
     separatorReading chunkWrong withinErasures erasureReading seenInLevels residualUnerased

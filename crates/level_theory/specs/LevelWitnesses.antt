@@ -42,25 +42,25 @@ erased⁻ = 3
 abbrev pub chunks : (s₁ c₁ s₂ c₂ s₃ : List ℕ) → List ℕ
 chunks s₁ c₁ s₂ c₂ s₃ = s₁ ++ (c₁ ++ (s₂ ++ (c₂ ++ s₃)))
 
-abbrev pub zeros : List ℕ
-zeros = 0 ∷ 0 ∷ 0 ∷ []
+abbrev pub allZeros : List ℕ
+allZeros = 0 ∷ 0 ∷ 0 ∷ []
 
-abbrev pub ones : List ℕ
-ones = 1 ∷ 1 ∷ 1 ∷ []
+abbrev pub allOnes : List ℕ
+allOnes = 1 ∷ 1 ∷ 1 ∷ []
 
 -- 7 with one bit of chunk 1 wrong; and between 6 and 7, with the bit erased by which they differ
 abbrev pub sevenWrong : List ℕ
-sevenWrong = chunks ones (1 ∷ 1 ∷ 0 ∷ []) (1 ∷ 0 ∷ 0 ∷ []) zeros zeros
+sevenWrong = chunks allOnes (1 ∷ 1 ∷ 0 ∷ []) (1 ∷ 0 ∷ 0 ∷ []) allZeros allZeros
 
 abbrev pub sixOrSeven : List ℕ
-sixOrSeven = chunks ones ones (erased ∷ 0 ∷ 0 ∷ []) zeros zeros
+sixOrSeven = chunks allOnes allOnes (erased ∷ 0 ∷ 0 ∷ []) allZeros allZeros
 
 -- 15 with one bit of separator 3 wrong, or two erased; either reads as 13, which is just 2 × wrong + erased off
 abbrev pub lastWrong : List ℕ
-lastWrong = chunks ones ones ones ones (1 ∷ 0 ∷ 1 ∷ [])
+lastWrong = chunks allOnes allOnes allOnes allOnes (1 ∷ 0 ∷ 1 ∷ [])
 
 abbrev pub lastErased : List ℕ
-lastErased = chunks ones ones ones ones (1 ∷ erased ∷ erased⁻ ∷ [])
+lastErased = chunks allOnes allOnes allOnes allOnes (1 ∷ erased ∷ erased⁻ ∷ [])
 
 -- 15 with one bit wrong, or two erased, in every chunk
 abbrev pub allDamaged : List ℕ
@@ -68,41 +68,41 @@ allDamaged = chunks (0 ∷ 1 ∷ 1 ∷ []) (erased ∷ erased⁻ ∷ 1 ∷ []) (
 
 -- 0 with two bits of chunk 1 erased and one bit of chunk 2 wrong
 abbrev pub zeroDamaged : List ℕ
-zeroDamaged = chunks zeros (erased ∷ erased⁻ ∷ 0 ∷ []) zeros (0 ∷ 1 ∷ 0 ∷ []) zeros
+zeroDamaged = chunks allZeros (erased ∷ erased⁻ ∷ 0 ∷ []) allZeros (0 ∷ 1 ∷ 0 ∷ []) allZeros
 
 -- 2 × wrong + erased of chunk 1 is D, against either codeword: one bit wrong and one erased, or three erased
 abbrev pub wrongAndErased : List ℕ
-wrongAndErased = chunks zeros (erased ∷ 1 ∷ 0 ∷ []) zeros zeros zeros
+wrongAndErased = chunks allZeros (erased ∷ 1 ∷ 0 ∷ []) allZeros allZeros allZeros
 
 abbrev pub threeErased : List ℕ
-threeErased = chunks zeros (erased ∷ erased ∷ erased ∷ []) zeros zeros zeros
+threeErased = chunks allZeros (erased ∷ erased ∷ erased ∷ []) allZeros allZeros allZeros
 
 -- w(0) with both code chunks from w(1); the same with two bits erased in separator 1 and in chunk 1, and with one wrong in either; with chunk
 -- 2 alone from w(1); and by rules 1 and 2, with a separator besides
 abbrev pub mixed : List ℕ
-mixed = chunks zeros ones zeros ones zeros
+mixed = chunks allZeros allOnes allZeros allOnes allZeros
 
 abbrev pub mixedErased : List ℕ
-mixedErased = chunks (erased ∷ erased⁻ ∷ 0 ∷ []) (erased ∷ erased⁻ ∷ 1 ∷ []) zeros ones zeros
+mixedErased = chunks (erased ∷ erased⁻ ∷ 0 ∷ []) (erased ∷ erased⁻ ∷ 1 ∷ []) allZeros allOnes allZeros
 
 abbrev pub mixedWrong : List ℕ
-mixedWrong = chunks (1 ∷ 0 ∷ 0 ∷ []) (0 ∷ 1 ∷ 1 ∷ []) zeros ones zeros
+mixedWrong = chunks (1 ∷ 0 ∷ 0 ∷ []) (0 ∷ 1 ∷ 1 ∷ []) allZeros allOnes allZeros
 
 abbrev pub mixedInChunk2 : List ℕ
-mixedInChunk2 = chunks zeros zeros zeros ones zeros
+mixedInChunk2 = chunks allZeros allZeros allZeros allOnes allZeros
 
 abbrev pub mixedByRule1 : List ℕ
-mixedByRule1 = chunks zeros ones zeros zeros ones
+mixedByRule1 = chunks allZeros allOnes allZeros allZeros allOnes
 
 abbrev pub mixedByRule2 : List ℕ
-mixedByRule2 = chunks zeros zeros ones zeros ones
+mixedByRule2 = chunks allZeros allZeros allOnes allZeros allOnes
 
 -- the levels of such a word, and mixed ones of which separator 1 has a level of 3 and two of -1, so that it reads 0
 abbrev pub levelsOf : List ℕ → List Float
 levelsOf = map levelOf
 
 abbrev pub mixedLevels : List Float
-mixedLevels = ofInt binary32 (pos 3) ∷ minusOne ∷ minusOne ∷ levelsOf (ones ++ (zeros ++ (ones ++ zeros)))
+mixedLevels = ofInt binary32 (pos 3) ∷ minusOne ∷ minusOne ∷ levelsOf (allOnes ++ (allZeros ++ (allOnes ++ allZeros)))
 
 pub record LevelsWitnessed : Type 0 where
   -- a code chunk of which two of three places are erased is read

@@ -8,7 +8,7 @@ use lib.ListN.{length}
 use Rattle.model.specs.Refusals.{Row, refuses, refusedAs, firstRefusal, unlessRefused}
 use Rattle.model.specs.Card.{Code, cardRefusal, codeOf}
 use Rattle.model.specs.Words.{wordBits}
-use Rattle.model.specs.Reading.{Seen, ruleSeen, twoEnds, rowsSeen, rangeSeen, nearest, readingValues}
+use Rattle.model.specs.Reading.{Seen, ruleSeen, twoEnds, rowsSeen, rangeSeen, nearestReading, readingValues}
 use Rattle.model.specs.Levels.{anyOutside, receivedAt, unerasedIn, bitsIn, seenInLevels, residualUnerased, strengthOf}
 use Rattle.model.specs.ReadWord.{readStatus, readValues}
 use Rattle.model.specs.declared.Reading.{Reading}
@@ -26,7 +26,7 @@ rowsInLevels C word = let s : Seen = seenInLevels C word in rowsSeen (twoEnds C)
 abbrev pub readingInLevels : Code → (word : ℕ → ReceivedLevel) → Reading
 readingInLevels C word =
     let s : Seen = seenInLevels C word in
-    nearest (residualUnerased C (unerasedIn word) (bitsIn word)) s (ruleSeen s) (rangeSeen (twoEnds C) s (ruleSeen s))
+    nearestReading (residualUnerased C (unerasedIn word) (bitsIn word)) s (ruleSeen s) (rangeSeen (twoEnds C) s (ruleSeen s))
 
 -- the rows of a list of levels, once its card is sound: 15 in the place of 6, and 16 in the place of 8
 unfoldable pub rowsOfLevels : Code → (levels : List Float) → List Row

@@ -9,7 +9,7 @@ use Rattle.bits.specs.Searches.{anyBelow}
 use Rattle.model.specs.Refusals.{Row, refuses, refusedAs, firstRefusal, unlessRefused}
 use Rattle.model.specs.Card.{Code, cardRefusal, codeOf}
 use Rattle.model.specs.Words.{wordBits, wordLength}
-use Rattle.model.specs.Reading.{seen, ruleNamed, rowsOf, allowed, residual, nearest, readingValues}
+use Rattle.model.specs.Reading.{seen, ruleNamed, rowsOf, allowed, residual, nearestReading, readingValues}
 use Rattle.model.specs.declared.Reading.{Reading}
 use Rattle.model.specs.declared.ReadAnswer.{ReadAnswer}
 use Rattle.model.specs.declared.ReadAnswer.the-variants.{At, Refused}
@@ -28,7 +28,7 @@ rowsOfWord C received =
 -- the position nearest to the received bytes among the allowed ones, its residual, the rule, and the bits that its chunks needed
 abbrev pub readingOf : Code → (received : List ℕ) → Reading
 readingOf C received =
-    let x : ℕ → ℕ = place received in nearest (residual C x) (seen C x) (ruleNamed C x) (allowed C x)
+    let x : ℕ → ℕ = place received in nearestReading (residual C x) (seen C x) (ruleNamed C x) (allowed C x)
 
 -- the answer for the code of a sound card
 unfoldable pub readWord : Code → (received : List ℕ) → ReadAnswer

@@ -192,8 +192,8 @@ bitsNeeded false read = NotRead
 
 -- the allowed position whose word has fewest bits unlike the received word, the smallest on a tie; that count; the rule; and how many
 -- bits each chunk that the rule names needed, by what is seen of the word
-unfoldable pub nearest : (residual : ℕ → ℕ) → Seen → (rule : ℕ) → Range → Reading
-nearest residual s rule range =
+unfoldable pub nearestReading : (residual : ℕ → ℕ) → Seen → (rule : ℕ) → Range → Reading
+nearestReading residual s rule range =
     let position : ℕ = nearestIn residual range in
     record {
       position = position;

@@ -13,7 +13,7 @@ use Rattle.model.specs.Card.{Code}
 use Rattle.model.specs.Order.{codeword}
 use Rattle.model.specs.Words.{chunkSize, placesBefore, chunk₁, chunk₂, wordAt}
 use Rattle.model.specs.Reading.{chunkDistance, Seen, seen, ruleSeen, namesFirst, namesSecond, numberBy}
-use Rattle.model.specs.Reading.{Rules, twoEnds, residual, bitsNeeded, nearest, bitsValue}
+use Rattle.model.specs.Reading.{Rules, twoEnds, residual, bitsNeeded, nearestReading, bitsValue}
 use Rattle.model.specs.Levels.{withinErasures}
 use Rattle.model.specs.declared.Chunk.{Chunk}
 use Rattle.model.specs.declared.ChunkBits.{ChunkBits}
@@ -42,10 +42,10 @@ module _ (C : Code) where
   -- the reading of whatever is seen of a word of which no row holds, on a track with any rules and by any residual
   pub wrong-of-chunks : (R : Rules) {unerased : ℕ → Bool} {x : ℕ → ℕ} (s : Seen) → SeesChunks C unerased x s → (residual : ℕ → ℕ)
       → refusalOf R s ≡ 0
-      → let r : Reading = nearest residual s (ruleSeen s) (allowedBy R s) in
+      → let r : Reading = nearestReading residual s (ruleSeen s) (allowedBy R s) in
       BitsSeen C R s (λ named. CountsWrong C named (chunk₁ C unerased) (chunk₁ C x))
       (λ named. CountsWrong C named (chunk₂ C unerased) (chunk₂ C x)) (r .rule) (r .chunk1) (r .chunk2)
-  unfolding nearest
+  unfolding nearestReading
   wrong-of-chunks R s sees residual none =
       let reads = rule-reads R s (InCode C) (reads-in-code C sees) none in
       record {
@@ -66,7 +66,7 @@ module _ (C : Code) where
   plain-counts false chunk p answered not-read = not-read
 
   pub bits-of-chunks : ChunkPromise C → (x : ℕ → ℕ) → refusalOf (twoEnds C) (seen C x) ≡ 0
-      → let r : Reading = nearest (residual C x) (seen C x) (ruleSeen (seen C x)) (allowedBy (twoEnds C) (seen C x)) in
+      → let r : Reading = nearestReading (residual C x) (seen C x) (ruleSeen (seen C x)) (allowedBy (twoEnds C) (seen C x)) in
       BitsOfChunks C x (r .rule) (r .chunk1) (r .chunk2)
   bits-of-chunks promise x none =
       let bits = wrong-of-chunks (twoEnds C) (seen C x) (plain-sees-chunks C promise x) (residual C x) none in
@@ -91,10 +91,10 @@ needed-is C false chunk p answered not-read whole holds named = absurd (false≢
 module _ (C : Code) (promise : ChunkPromise C) where
   -- at every position that a word allows: the bits needed are those in which a chunk differs from that of the position's word
   pub differing-allowed : (x : ℕ → ℕ) → refusalOf (twoEnds C) (seen C x) ≡ 0 → (q : ℕ) → InRange (allowedBy (twoEnds C) (seen C x)) q
-      → let r : Reading = nearest (residual C x) (seen C x) (ruleSeen (seen C x)) (allowedBy (twoEnds C) (seen C x)) in
+      → let r : Reading = nearestReading (residual C x) (seen C x) (ruleSeen (seen C x)) (allowedBy (twoEnds C) (seen C x)) in
       (namesFirst (r .rule) ≡ true → bitsValue (r .chunk1) ≡ damagedIn C 1 (wordAt C q) x)
       × (namesSecond (r .rule) ≡ true → bitsValue (r .chunk2) ≡ damagedIn C 3 (wordAt C q) x)
-  unfolding nearest damagedIn placesBefore chunkSize bits-of-chunks wrong-of-chunks
+  unfolding nearestReading damagedIn placesBefore chunkSize bits-of-chunks wrong-of-chunks
   differing-allowed x none q within =
       let bits = bits-of-chunks C promise x none in
       let hold = named-hold C promise (seen C x) (reads-in-code C (plain-sees-chunks C promise x)) none q within in (

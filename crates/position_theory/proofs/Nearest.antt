@@ -9,7 +9,7 @@ use Rattle.bits.proofs.Numbers.{eq-or-ne}
 use Rattle.model.specs.Card.{Code}
 use Rattle.model.specs.Order.{lastPosition}
 use Rattle.model.specs.Words.{wordBits, wordAt}
-use Rattle.model.specs.Reading.{Seen, ruleSeen, Rules, twoEnds, nearestIn, nearest}
+use Rattle.model.specs.Reading.{Seen, ruleSeen, Rules, twoEnds, nearestIn, nearestReading}
 use Rattle.code_theory.specs.Promise.{ChunkPromise}
 use Rattle.code_theory.proofs.RefusalRows.{served-if-none, refused-if-some}
 use Rattle.position_theory.specs.Damage.{Near, residualOf}
@@ -42,7 +42,7 @@ module _ (R : Rules) (d : ℕ) (words : ℕ → ℕ → ℕ) (last : ℕ) (s : S
 
   -- demand 2, reading: for every word
   pub reading-is-nearest : IsReadingOf R last s residual (readingOfSeen R s residual)
-  unfolding readingOfSeen nearest IsReadingOf
+  unfolding readingOfSeen nearestReading IsReadingOf
   reading-is-nearest =
       ⊎-elim (λ (none : refusalOf R s ≡ 0). rw (served-if-none _ _ _ none) (nearest-is none))
       (λ (some : refusalOf R s ≡ 0 → ⊥). rw (refused-if-some _ _ _ some) (refl, some))

@@ -24,7 +24,7 @@ use Rattle.model.specs.Words.{chunk₁, chunk₂, chunkSize, placesBefore, five
 use Rattle.model.specs.Reading.{majority, chunkDistance, withinRadius, readFirst, chunkReading, unreadable, numberRead, seen}
 use Rattle.model.specs.Reading.{ruleOf, numberBy, separatorOf, parityDiffers, twoEnds, rows9To12, rowsSeen, ruleNamed}
 use Rattle.model.specs.Reading.{Seen, Range, Rules, ruleSeen, namesFirst, namesSecond, separatorBy}
-use Rattle.model.specs.Reading.{allowed, residual, nearestIn, bitsNeeded, nearest}
+use Rattle.model.specs.Reading.{allowed, residual, nearestIn, bitsNeeded, nearestReading}
 use Rattle.model.specs.ReadWord.{spareSet}
 use Rattle.model.specs.CardsToTry.{cardA, cardB}
 use Rattle.model.specs.declared.ChunkBits.{ChunkBits}
@@ -193,7 +193,7 @@ unfolding sumBelow distance joinAt walk weight place cut byteOf listOf pack
     gray lastCodeword codeword changedRow changedWeight start lastPosition
     chunkSize placesBefore fiveChunks word blockOf wordAt wordBytes divided
     majority chunkDistance withinRadius readFirst chunkReading unreadable numberRead seen
-    ruleOf numberBy separatorOf parityDiffers twoEnds rows9To12 rowsSeen ruleNamed allowed residual nearestIn bitsNeeded nearest spareSet
+    ruleOf numberBy separatorOf parityDiffers twoEnds rows9To12 rowsSeen ruleNamed allowed residual nearestIn bitsNeeded nearestReading spareSet
     damagedIn damagedInAll damaged
     WrittenIfServable UnchangedIfRefused NeighboursDifferInOneBit NoOtherPositionsWord NearestOfAllowed
     OffByAtMostTwiceDamaged OffByAtMostDamagedAndResidual ReadWithDividedArbitrary ErrorBarHoldsPosition AtMostOneDivided

@@ -12,7 +12,7 @@ use Rattle.bits.proofs.Numbers.{lt-or-le}
 use Rattle.bits.proofs.Distance.{distance-comm}
 use Rattle.bits.proofs.Erasures.{unerased-triangle}
 use Rattle.bits.proofs.Searches.{leastAt-low, leastAt-high, leastAt-least, leastAt-first}
-use Rattle.model.specs.Reading.{Seen, Range, nearestIn, nearest}
+use Rattle.model.specs.Reading.{Seen, Range, nearestIn, nearestReading}
 use Rattle.model.specs.declared.ReadAnswer.the-variants.{At}
 use Rattle.position_theory.specs.Damage.{Near, residualOf}
 
@@ -78,9 +78,9 @@ nearest-in residual range h =
 module _ (d : ℕ) (words : ℕ → ℕ → ℕ) (residual : ℕ → ℕ) (erased : ℕ) (within : WithinResiduals d words residual erased) where
   pub answer-off-by : (s : Seen) (rule : ℕ) (range : Range) → Isometric d words (range .low) (range .high)
       → (position : ℕ) → range .low ≤ position → position ≤ range .high
-      → let answer = At (nearest residual s rule range) in
+      → let answer = At (nearestReading residual s rule range) in
       Near answer position (residual position + residualOf answer + erased) × (residualOf answer ≤ residual position)
-  unfolding nearest Near residualOf
+  unfolding nearestReading Near residualOf
   answer-off-by s rule range far position l h =
       let q : ℕ = nearestIn residual range in
       let n = nearest-in residual range (omega arith) in (

@@ -8,7 +8,7 @@ use Rattle.bits.specs.Places.{place}
 use Rattle.bits.proofs.Places.{place-bit}
 use Rattle.model.specs.Card.{Code, codeOf, cardRefusal}
 use Rattle.model.specs.Words.{word, wordAt, wordBytes}
-use Rattle.model.specs.Reading.{seen, twoEnds, ruleNamed, rows9To12, rowsSeen, rowsOf, allowed, residual, nearest}
+use Rattle.model.specs.Reading.{seen, twoEnds, ruleNamed, rows9To12, rowsSeen, rowsOf, allowed, residual, nearestReading}
 use Rattle.model.specs.ReadWord.{rowsOfWord, readWord, readRefusal, readAnswer}
 use Rattle.model.specs.declared.ReadAnswer.the-variants.{At}
 use Rattle.code_theory.specs.Promise.{ChunkPromise}
@@ -105,7 +105,7 @@ needed-as-damaged card received position sound h d r answered =
 -- ---- the rule's separator: P6
 
 pub read-only-if-parity-agrees : (card received : List ℕ) → ReadOnlyIfParityAgrees card received (readAnswer card received)
-unfolding ReadOnlyIfParityAgrees ruleNamed nearest
+unfolding ReadOnlyIfParityAgrees ruleNamed nearestReading
 read-only-if-parity-agrees card received r answered =
     let C = codeOf card in
     let (sound, none, is) = read-shows card received r answered in

@@ -20,7 +20,7 @@ use Rattle.bits.proofs.ByteLists.{differing-below, packed-distance}
 use Rattle.model.specs.Refusals.{firstRefusal, unlessRefused}
 use Rattle.model.specs.Card.{Code}
 use Rattle.model.specs.Words.{wordBits, blockOf, wordAt, wordBytes, wordLength}
-use Rattle.model.specs.Reading.{Seen, seen, ruleSeen, Rules, twoEnds, ruleNamed, rowsOf, allowed, residual, nearest}
+use Rattle.model.specs.Reading.{Seen, seen, ruleSeen, Rules, twoEnds, ruleNamed, rowsOf, allowed, residual, nearestReading}
 use Rattle.model.specs.ReadWord.{spareSet, rowsOfWord, readWord}
 use Rattle.model.specs.declared.ReadAnswer.{ReadAnswer}
 use Rattle.model.specs.declared.ReadAnswer.the-variants.{At, Refused}
@@ -60,7 +60,7 @@ differing-words C p q = packed-distance (wordBits C) (word-at-bit C p) (word-at-
 
 -- the reading of what is seen of a word: refusals 9 to 12 and 17, or the nearest allowed position
 unfoldable pub readingOfSeen : Rules → Seen → (residual : ℕ → ℕ) → ReadAnswer
-readingOfSeen R s residual = unlessRefused (refusalOf R s) Refused (At (nearest residual s (ruleSeen s) (allowedBy R s)))
+readingOfSeen R s residual = unlessRefused (refusalOf R s) Refused (At (nearestReading residual s (ruleSeen s) (allowedBy R s)))
 
 -- of a plain word, given as a bit function, on a track with two ends
 abbrev pub reading : Code → (x : ℕ → ℕ) → ReadAnswer

@@ -11,7 +11,7 @@ use borrow.Author.Tests.{eq-eqb, ne-eqb}
 use Rattle.bits.proofs.Numbers.{eq-or-ne}
 use Rattle.model.specs.Refusals.{firstRefusal, unlessRefused}
 use Rattle.model.specs.Reading.{unreadable, numberRead, Seen, numberBy, separatorBy, parityDiffers}
-use Rattle.model.specs.Reading.{Range, Rules, rows9To12, rowsSeen, rangeSeen, nearestIn, bitsNeeded, nearest}
+use Rattle.model.specs.Reading.{Range, Rules, rows9To12, rowsSeen, rangeSeen, nearestIn, bitsNeeded, nearestReading}
 use Rattle.model.specs.declared.Chunk.the-variants.{Codeword, Unreadable}
 use Rattle.model.specs.declared.ChunkBits.the-variants.{Differing, NotRead}
 use Rattle.model.specs.declared.ReadAnswer.the-variants.{At, Refused}
@@ -71,8 +71,8 @@ module _ (s : Seen) (p e : ℕ) where
 
 module _ (R : Rules) (s : Seen) (residual : ℕ → ℕ) (rule : ℕ) (read : ChunksRead) (as-read : ReadAs s rule read) where
   answer-of-search : (range : Range) (scan : Scan) → SearchedRange residual range scan
-      → foundAt scan rule read ≡ At (nearest residual s rule range)
-  unfolding foundAt nearest nearestIn
+      → foundAt scan rule read ≡ At (nearestReading residual s rule range)
+  unfolding foundAt nearestReading nearestIn
   answer-of-search range scan searched =
       let scanned = searched .scanned in
       rw (← (searched .low-is), ← (searched .high-is), ← (scanned .nearest), scanned .least, as-read .chunk₁-is, as-read .chunk₂-is)
@@ -87,7 +87,7 @@ module _ (R : Rules) (s : Seen) (residual : ℕ → ℕ) (rule : ℕ) (read : Ch
     contradicted differs = rw (as-read .rows-left R, block, differs)
 
     agreed : parityDiffers (separatorBy s rule) (read .number) ≡ false
-        → At (nearest residual s rule (rangeSeen R s rule)) ≡ answerBy R s residual rule
+        → At (nearestReading residual s rule (rangeSeen R s rule)) ≡ answerBy R s residual rule
     unfolding answerBy firstRefusal unlessRefused
     agreed agrees = rw (as-read .rows-left R, block, agrees)
 
@@ -96,5 +96,5 @@ module _ (R : Rules) (s : Seen) (residual : ℕ → ℕ) (rule : ℕ) (read : Ch
         → SearchedRange residual (R .range rule (read .number)) scan → foundAt scan rule read ≡ answerBy R s residual rule
     answered agrees scan searched =
         answer-of-search (R .range rule (read .number)) scan searched
-        ∙ ap (λ (p : ℕ). At (nearest residual s rule (R .range rule p))) (as-read .number-is)
+        ∙ ap (λ (p : ℕ). At (nearestReading residual s rule (R .range rule p))) (as-read .number-is)
         ∙ agreed agrees

@@ -10,7 +10,7 @@ use Rattle.model.specs.Card.{Code}
 use Rattle.model.specs.Order.{lastCodeword}
 use Rattle.model.specs.Words.{chunk₁, chunk₂}
 use Rattle.model.specs.Reading.{Seen, namesFirst, namesSecond, numberBy, separatorBy, parityDiffers, Rules, rowsSeen, rangeSeen}
-use Rattle.model.specs.Reading.{bitsNeeded, nearest}
+use Rattle.model.specs.Reading.{bitsNeeded, nearestReading}
 use Rattle.model.specs.Levels.{erasureReading}
 use Rattle.model.specs.declared.ReadAnswer.{ReadAnswer}
 use Rattle.model.specs.declared.ReadAnswer.the-variants.{At, Refused}
@@ -34,7 +34,7 @@ foundAt s rule read =
 -- this residual
 unfoldable pub answerBy : Rules → Seen → (residual : ℕ → ℕ) (rule : ℕ) → ReadAnswer
 answerBy R s residual rule =
-    unlessRefused (firstRefusal (rowsSeen R s rule)) Refused (At (nearest residual s rule (rangeSeen R s rule)))
+    unlessRefused (firstRefusal (rowsSeen R s rule)) Refused (At (nearestReading residual s rule (rangeSeen R s rule)))
 
 -- an answer by the rule with this number, whatever else is seen of the word: the rule goes by the code chunks, and by what the rule's
 -- separator reads

@@ -19,14 +19,14 @@ use Rattle.reed_muller_theory.proofs.LowestVariable.{weight-digit, sum-
 -- ---- the law
 
 -- at how many positions of class c of S the product of T is 1
-abbrev pub onesIn : (m S T c : ℕ) → ℕ
-onesIn m S T c = sumBelow (λ p. member S c p * product T p) (2 ^ m)
+abbrev pub onesInClass : (m S T c : ℕ) → ℕ
+onesInClass m S T c = sumBelow (λ p. member S c p * product T p) (2 ^ m)
 
 -- the factor that the lowest variable makes: s, t and c are the lowest bits of S, T and the class
 abbrev factor : (s t c : ℕ) → ℕ
 factor s t c = memberLow s c 0 * productLow t 0 + memberLow s c 1 * productLow t 1
 
-by-lowest : (m S T c : ℕ) → onesIn (suc m) S T c ≡ factor (S % 2) (T % 2) (c % 2) * onesIn m (S / 2) (T / 2) (c / 2)
+by-lowest : (m S T c : ℕ) → onesInClass (suc m) S T c ≡ factor (S % 2) (T % 2) (c % 2) * onesInClass m (S / 2) (T / 2) (c / 2)
 by-lowest m S T c =
     sum-ext (2 ^ suc m) (λ p l. rw (member-digit S c p, product-digit T p) (exchange _ _ _ _))
     ∙ sum-by-lowest (λ b. memberLow (S % 2) (c % 2) b * productLow (T % 2) b) (λ q. member (S / 2) (c / 2) q * product (T / 2) q) m
@@ -59,7 +59,7 @@ both-one (suc zero) b e = (refl, omega arith)
 both-one (suc (suc a)) zero e = absurd (omega arith)
 both-one (suc (suc a)) (suc b) e = absurd (omega arith)
 
-pub own-product : (m S c : ℕ) → S < 2 ^ m → c < 2 ^ m → product S c ≡ 1 → onesIn m S S c ≡ 1
+pub own-product : (m S c : ℕ) → S < 2 ^ m → c < 2 ^ m → product S c ≡ 1 → onesInClass m S S c ≡ 1
 unfolding sumBelow product
 own-product zero S c hS hc e = let zS : S ≡ 0 = omega arith in let zc : c ≡ 0 = omega arith in rw (zS, zc) refl
 own-product (suc m) S c hS hc e =
@@ -74,7 +74,7 @@ even-left a b e = let half : a ≡ 2 * (a / 2) = omega arith in rw half (omega a
 pub even-right : (a b : ℕ) → b % 2 ≡ 0 → a * b % 2 ≡ 0
 even-right a b e = let half : b ≡ 2 * (b / 2) = omega arith in rw half (omega arith)
 
-pub other-product : (m S T c : ℕ) → S < 2 ^ m → T < 2 ^ m → weight m T ≤ weight m S → (T ≡ S → ⊥) → onesIn m S T c % 2 ≡ 0
+pub other-product : (m S T c : ℕ) → S < 2 ^ m → T < 2 ^ m → weight m T ≤ weight m S → (T ≡ S → ⊥) → onesInClass m S T c % 2 ≡ 0
 other-product zero S T c hS hT no-more ne = absurd (ne (omega arith))
 other-product (suc m) S T c hS hT no-more ne =
     ap (λ (x : ℕ). x % 2) (by-lowest m S T c)
@@ -83,11 +83,11 @@ other-product (suc m) S T c hS hT no-more ne =
     let s : S % 2 ≡ 1 = omega arith in
     let t : T % 2 ≡ 0 = omega arith in
     let even : factor (S % 2) (T % 2) (c % 2) % 2 ≡ 0 = rw (s, t) (lacking-factor (c % 2) (omega arith)) in
-    even-left (factor (S % 2) (T % 2) (c % 2)) (onesIn m (S / 2) (T / 2) (c / 2)) even)
+    even-left (factor (S % 2) (T % 2) (c % 2)) (onesInClass m (S / 2) (T / 2) (c / 2)) even)
     (λ (has : S % 2 ≡ T % 2 + 1 → ⊥).
     let sizes : T % 2 + weight m (T / 2) ≤ S % 2 + weight m (S / 2) = omega (arith, weight-digit m T, weight-digit m S) in
     let low : S % 2 ≤ T % 2 = omega arith in
-    even-right (factor (S % 2) (T % 2) (c % 2)) (onesIn m (S / 2) (T / 2) (c / 2))
+    even-right (factor (S % 2) (T % 2) (c % 2)) (onesInClass m (S / 2) (T / 2) (c / 2))
     (other-product m (S / 2) (T / 2) (c / 2) (omega arith) (omega arith) (omega arith)
     (λ (halves : T / 2 ≡ S / 2). omega (arith, ap (weight m) halves, ne-digits halves))))
     (eq-or-ne (S % 2) (T % 2 + 1))

@@ -20,7 +20,7 @@ use Rattle.bits.proofs.Places.{number-below, bit-of-number}
 use Rattle.model.specs.Card.{sumOfRows}
 use Rattle.model.specs.ReedMuller.{product, setOf, countOfSets, productRow, productOf}
 use Rattle.reed_muller_theory.proofs.LowestVariable.{member, sum-scaled}
-use Rattle.reed_muller_theory.proofs.Classes.{onesIn, own-product, other-product, even-right, sum-exchange}
+use Rattle.reed_muller_theory.proofs.Classes.{onesInClass, own-product, other-product, even-right, sum-exchange}
 use Rattle.reed_muller_theory.proofs.Sets.{sum-over-rows, rowOfSet, row-of-set}
 
 -- ---- polynomials
@@ -37,19 +37,19 @@ pub class-of-polynomial : (m S c : ℕ) (H : ℕ → ℕ) → S < 2 ^ m → c < 
     → sumBelow (λ p. member S c p * valueAt m H p) (2 ^ m) % 2 ≡ H S % 2
 class-of-polynomial m S c H hS hc named degree =
     ap (λ (x : ℕ). x % 2) by-sets
-    ∙ sum-one-odd (λ T. H T * onesIn m S T c) (2 ^ m) S hS (λ T l ne. others T l ne)
+    ∙ sum-one-odd (λ T. H T * onesInClass m S T c) (2 ^ m) S hS (λ T l ne. others T l ne)
     ∙ rw (own-product m S c hS hc named) (omega arith)
   where
-    by-sets : sumBelow (λ p. member S c p * valueAt m H p) (2 ^ m) ≡ sumBelow (λ T. H T * onesIn m S T c) (2 ^ m)
+    by-sets : sumBelow (λ p. member S c p * valueAt m H p) (2 ^ m) ≡ sumBelow (λ T. H T * onesInClass m S T c) (2 ^ m)
     by-sets =
         sum-ext (2 ^ m) (λ p l. sym (sum-scaled (member S c p) (λ T. H T * product T p) (2 ^ m)))
         ∙ sum-exchange (λ p T. member S c p * (H T * product T p)) (2 ^ m) (2 ^ m)
         ∙ sum-ext (2 ^ m) (λ T l. sum-ext (2 ^ m) (λ p k. omega arith) ∙ sum-scaled (H T) (λ p. member S c p * product T p) (2 ^ m))
 
-    others : (T : ℕ) → T < 2 ^ m → (T ≡ S → ⊥) → H T * onesIn m S T c % 2 ≡ 0
+    others : (T : ℕ) → T < 2 ^ m → (T ≡ S → ⊥) → H T * onesInClass m S T c % 2 ≡ 0
     others T l ne =
-        ⊎-elim (λ (more : weight m S < weight m T). rw (degree T l more, zero-mul (onesIn m S T c)))
-        (λ (no-more : weight m T ≤ weight m S). even-right (H T) (onesIn m S T c) (other-product m S T c hS l no-more ne))
+        ⊎-elim (λ (more : weight m S < weight m T). rw (degree T l more, zero-mul (onesInClass m S T c)))
+        (λ (no-more : weight m T ≤ weight m S). even-right (H T) (onesInClass m S T c) (other-product m S T c hS l no-more ne))
         (lt-or-le (weight m S) (weight m T))
 
 -- ---- codewords
