@@ -21,7 +21,7 @@ use Rattle.model.specs.CardBytes.{bytesOf, rowBytes, sealed, cardOf}
 use Rattle.model.specs.CardsToTry.{cardB}
 use Rattle.report.specs.Text.{ascii, digitsWithin, decimal}
 use Rattle.report.specs.Lines.{cardLine, bitsText, ruleAndBits, wordLine, shortLine, lastLine}
-use Rattle.report.specs.Report.{wordLines, readCount, wordsRead, wordsReport, reportOf}
+use Rattle.report.specs.Report.{wordLines, countIfRead, wordsRead, wordsReport, reportOf}
 
 -- the words of the example
 abbrev words : List ℕ
@@ -43,5 +43,5 @@ unfolding sumBelow distance joinAt
     bytesOf rowBytes sealed cardOf cardB
     ascii digitsWithin decimal
     cardLine bitsText ruleAndBits wordLine shortLine lastLine
-    wordLines readCount wordsRead wordsReport reportOf
+    wordLines countIfRead wordsRead wordsReport reportOf
 example = refl

@@ -41,12 +41,12 @@ module _ (r m : ℕ) where
 
 module _ (track r m : ℕ) where
   -- what the contract says of the card: within the limits it is made, and is the code's
-  abbrev pub MadeWithinLimits : MadeCard → Type 0
-  MadeWithinLimits answer = orderWithinLimits r m ≡ true → (answer .refusal ≡ 0) × IsReedMullerCard track r m (answer .bytes)
+  abbrev pub CardIfWithinLimits : MadeCard → Type 0
+  CardIfWithinLimits answer = orderWithinLimits r m ≡ true → (answer .refusal ≡ 0) × IsReedMullerCard track r m (answer .bytes)
 
   -- the clauses of the contract beside the equation
   abbrev MakeClauses : MadeCard → Type 0
-  MakeClauses answer = (answer .refusal ≡ makeRefusal r m) × MadeWithinLimits answer
+  MakeClauses answer = (answer .refusal ≡ makeRefusal r m) × CardIfWithinLimits answer
 
   abbrev MakeMeets : MadeCard → Type 0
   MakeMeets = Meets MakeClauses (makeAnswer track r m)
@@ -61,6 +61,6 @@ module _ (track r m : ℕ) where
   card-made fits within bytes is = rw is (rw within, (rw within, λ _. (refl, is-reed-muller-card track r m within fits)))
 
   -- a caller has seen no refusal
-  pub unrefused-card : {answer : MadeCard} → answer .refusal ≡ makeRefusal r m → MadeWithinLimits answer → answer .refusal ≡ 0
+  pub unrefused-card : {answer : MadeCard} → answer .refusal ≡ makeRefusal r m → CardIfWithinLimits answer → answer .refusal ≡ 0
       → IsReedMullerCard track r m (answer .bytes)
   unrefused-card refusal made none = made (limits-passed r m (sym refusal ∙ none)) .1

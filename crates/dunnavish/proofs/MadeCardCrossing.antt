@@ -7,7 +7,7 @@ use lib.ListN.{length}
 use Rattle.model.specs.MakeCard.{makeRefusal, makeAnswer}
 use Rattle.model.specs.declared.MadeCard.{MadeCard}
 use Rattle.code_theory.proofs.SoundCard.{card-tests}
-use Rattle.depot.proofs.MadeCardContract.{MadeWithinLimits as CardIfWithin, unrefused-card}
+use Rattle.depot.proofs.MadeCardContract.{CardIfWithinLimits, unrefused-card}
 use Rattle.dunnavish.specs.Crossing.{wrongCount, cardBytes, statusFor, leftBy, UnchangedUnlessZero}
 use Rattle.dunnavish.specs.Demands.{MadeWithinLimits}
 use Rattle.dunnavish.proofs.Lent.{Crosses, wrong-count-crosses, refusal-crosses, values-cross, unchanged-by}
@@ -15,7 +15,7 @@ use Rattle.dunnavish.proofs.Lent.{Crosses, wrong-count-crosses, refusal
 -- what the library's contract says of what it made
 abbrev Made : (track r m : ℕ) (card : MadeCard) → Type 0
 Made track r m card =
-    (card ≡ makeAnswer track r m) × ((card .refusal ≡ makeRefusal r m) × CardIfWithin track r m card)
+    (card ≡ makeAnswer track r m) × ((card .refusal ≡ makeRefusal r m) × CardIfWithinLimits track r m card)
 
 -- a card that is not refused is sound, so it has the bytes of a card
 pub whole-card : (track r m : ℕ) (card : MadeCard) → Made track r m card → card .refusal ≡ 0 → length (card .bytes) ≡ cardBytes

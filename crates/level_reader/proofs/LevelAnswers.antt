@@ -36,7 +36,7 @@ use Rattle.reader.specs.declared.naming.NamedRule.{NamedRule}
 use Rattle.nearest_position.specs.Received.{NothingSpare}
 use Rattle.reader.specs.RuleAnswers.{SeesIn}
 use Rattle.reader.specs.RuleAnswers.{AnswersRule, answerBy}
-use Rattle.nearest_position.specs.Way.{residualIn}
+use Rattle.nearest_position.specs.Residuals.{residualIn}
 use Rattle.level_reader.specs.LevelWords.{LevelWordOf}
 use Rattle.level_reader.specs.declared.level_word.LevelWord.{LevelWord}
 

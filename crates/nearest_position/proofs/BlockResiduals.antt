@@ -26,7 +26,7 @@ use Rattle.nearest_position.specs.declared.scan.Scan.{Scan}
 use Rattle.nearest_position.specs.Received.{receivedDistance, NothingSpare}
 use Rattle.nearest_position.specs.Scanned.{Scanned}
 use Rattle.nearest_position.specs.Passing.{stepsTo, passedTo, residualTo, ResidualsAlong, Passes, Searched}
-use Rattle.nearest_position.specs.Way.{positionAt, ResidualsOf, residualIn}
+use Rattle.nearest_position.specs.Residuals.{positionAt, ResidualsOf, residualIn}
 use Rattle.nearest_position.proofs.Passing.{passed-above}
 
 -- ---- on a track with two ends

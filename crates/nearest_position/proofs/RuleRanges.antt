@@ -14,7 +14,7 @@ use Rattle.model.specs.Reading.{twoEnds}
 use Rattle.code_theory.specs.Promise.{Sound}
 use Rattle.code_theory.proofs.Promise.{promise}
 use Rattle.position_theory.proofs.Blocks.{apart, apart-separator₁, apart-chunk₁, apart-separator₂, apart-chunk₂, start-on-track}
-use Rattle.nearest_position.specs.Way.{positionAt}
+use Rattle.nearest_position.specs.Residuals.{positionAt}
 
 -- whether there is none, by the rule's number
 module _ (C : Code) (p : ℕ) where

@@ -1,4 +1,4 @@
 pub mod Received
 pub mod Scanned
 pub mod Passing
-pub mod Way
+pub mod Residuals

@@ -8,7 +8,7 @@ ghost use Rattle.model.specs.Words.{wordBits, word};
 ghost use Rattle.code_theory.specs.Promise.{Sound};
 ghost use Rattle.nearest_position.specs.Received.{receivedDistance, NothingSpare};
 ghost use Rattle.nearest_position.specs.Scanned.{Scanned};
-ghost use Rattle.nearest_position.specs.Way.{positionAt, ResidualsOf};
+ghost use Rattle.nearest_position.specs.Residuals.{positionAt, ResidualsOf};
 use super::received::ReceivedWord;
 use super::scan;
 use super::scan::Scan;

@@ -9,7 +9,7 @@ ghost use Rattle.model.specs.Reading.{range₁, range₂, range₃, twoEnds};
 ghost use Rattle.code_theory.specs.Promise.{Sound};
 ghost use Rattle.nearest_position.specs.Received.{ReceivedIn};
 ghost use Rattle.nearest_position.specs.Scanned.{Scanned, SearchedRange};
-ghost use Rattle.nearest_position.specs.Way.{residualIn};
+ghost use Rattle.nearest_position.specs.Residuals.{residualIn};
 use super::block;
 use super::received::ReceivedWord;
 use super::scan;

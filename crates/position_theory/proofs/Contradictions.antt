@@ -23,7 +23,7 @@ use Rattle.position_theory.specs.Nearest.{refusalOf}
 use Rattle.position_theory.specs.Contradictions.{ParityAgrees, separatorChunk, NamedChunk, unlessContradicted}
 use Rattle.position_theory.proofs.Separators.{of-every-rule}
 use Rattle.position_theory.proofs.WordChunkLaws.{word-chunk}
-use Rattle.position_theory.proofs.WholeChunks.{ChunkReads, Sees, first-reads, second-reads, word-reads}
+use Rattle.position_theory.proofs.WholeChunks.{ChunkReads, Sees, chunk₁-reads, chunk₂-reads, word-reads}
 use Rattle.position_theory.proofs.RuleReads.{BothRead, InCode, RuleReads, number-of, reads-in-code, rule-reads}
 
 -- ---- whatever is seen of a word, where no row holds
@@ -57,10 +57,10 @@ module _ (C : Code) (R : Rules) {unerased : ℕ → Bool} {x : ℕ → ℕ} {s :
   chunk-from j c in-code named below reads =
       ⊎-elim
       (λ (is, first).
-      let reads-as = first-reads C sees (word C j) j in-code (word-chunk C j 1 (omega arith)) (rw is at below) in
+      let reads-as = chunk₁-reads C sees (word C j) j in-code (word-chunk C j 1 (omega arith)) (rw is at below) in
       sym (number-of (s .read₁) (reads .first first)) ∙ number-of (s .read₁) reads-as)
       (λ (is, second).
-      let reads-as = second-reads C sees (word C j) j in-code (word-chunk C j 3 (omega arith)) (rw is at below) in
+      let reads-as = chunk₂-reads C sees (word C j) j in-code (word-chunk C j 3 (omega arith)) (rw is at below) in
       sym (number-of (s .read₂) (reads .second second)) ∙ number-of (s .read₂) reads-as)
       named
 

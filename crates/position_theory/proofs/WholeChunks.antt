@@ -64,15 +64,15 @@ code-reads C {unerased} {y} sees j u h hu d =
 
 -- so does what is seen of either code chunk of a word u that holds c(j) there
 module _ (C : Code) {unerased : ℕ → Bool} {x : ℕ → ℕ} {s : Seen} (sees : SeesChunks C unerased x s) where
-  pub first-reads : (u : ℕ → ℕ) (j : ℕ) → j ≤ lastCodeword C
+  pub chunk₁-reads : (u : ℕ → ℕ) (j : ℕ) → j ≤ lastCodeword C
       → ((p : ℕ) → p < chunkSize (C .D) (C .n) 1 → chunkOf C 1 u p ≡ content C j 1 p) → ChunkBelowD C unerased u x 1 → ReadsAs (s .read₁) j
   unfolding chunkSize placesBefore content wrongIn erasedIn
-  first-reads u j h same d = code-reads C (sees .first) j _ h same d
+  chunk₁-reads u j h same d = code-reads C (sees .first) j _ h same d
 
-  pub second-reads : (u : ℕ → ℕ) (j : ℕ) → j ≤ lastCodeword C
+  pub chunk₂-reads : (u : ℕ → ℕ) (j : ℕ) → j ≤ lastCodeword C
       → ((p : ℕ) → p < chunkSize (C .D) (C .n) 3 → chunkOf C 3 u p ≡ content C j 3 p) → ChunkBelowD C unerased u x 3 → ReadsAs (s .read₂) j
   unfolding chunkSize placesBefore content wrongIn erasedIn
-  second-reads u j h same d = code-reads C (sees .second) j _ h same d
+  chunk₂-reads u j h same d = code-reads C (sees .second) j _ h same d
 
 module _ (C : Code) {unerased : ℕ → Bool} {x : ℕ → ℕ} {s : Seen} (sees : Sees C unerased x s) where
   -- chunk c of a word u that holds there what w(j) holds, with 2 × wrong + erased below D
@@ -80,9 +80,9 @@ module _ (C : Code) {unerased : ℕ → Bool} {x : ℕ → ℕ} {s : Seen} (sees
       → ((p : ℕ) → p < chunkSize (C .D) (C .n) c → chunkOf C c u p ≡ content C j c p) → ChunkBelowD C unerased u x c → ChunkReads s c j
   unfolding ChunkReads chunkSize placesBefore content wrongIn erasedIn
   chunk-reads u zero j b h same d = sees .separator₁ .reads (j % 2) (fromPlace 0 u) (omega arith) same d
-  chunk-reads u (suc zero) j b h same d = first-reads C (sees .chunks) u j h same d
+  chunk-reads u (suc zero) j b h same d = chunk₁-reads C (sees .chunks) u j h same d
   chunk-reads u (suc (suc zero)) j b h same d = sees .separator₂ .reads (j % 2) _ (omega arith) same d
-  chunk-reads u (suc (suc (suc zero))) j b h same d = second-reads C (sees .chunks) u j h same d
+  chunk-reads u (suc (suc (suc zero))) j b h same d = chunk₂-reads C (sees .chunks) u j h same d
   chunk-reads u (suc (suc (suc (suc zero)))) j b h same d = sees .separator₃ .reads (j % 2) _ (omega arith) same d
   chunk-reads u (suc (suc (suc (suc (suc c))))) j b h same d = absurd (omega arith)
 

@@ -29,7 +29,7 @@ use Rattle.nearest_position.specs.declared.received.ReceivedWord.{ReceivedWord}
 use Rattle.nearest_position.specs.Received.{PlainWord}
 use Rattle.reader.specs.RuleAnswers.{SeesIn}
 use Rattle.reader.specs.RuleAnswers.{AnswersRule, answerBy}
-use Rattle.nearest_position.specs.Way.{residualIn}
+use Rattle.nearest_position.specs.Residuals.{residualIn}
 
 -- a plain word, all of whose places are marked
 module _ (C : Code) (sound : Sound C) (received : List ℕ) (x : ReceivedWord) (plain : PlainWord received x) where

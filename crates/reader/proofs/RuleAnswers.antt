@@ -18,7 +18,7 @@ use Rattle.model.specs.declared.ReadAnswer.the-variants.{At, Refused}
 use Rattle.reader.specs.declared.chunks.ChunksRead.{ChunksRead}
 use Rattle.nearest_position.specs.declared.scan.Scan.{Scan}
 use Rattle.nearest_position.specs.Scanned.{SearchedRange}
-use Rattle.reader.specs.RuleAnswers.{foundAt, answerBy, ReadAs}
+use Rattle.reader.specs.RuleAnswers.{foundAt, answerBy, ChunksReadAs}
 
 -- ---- what the chunks read as
 
@@ -53,23 +53,23 @@ module _ (s : Seen) (R : Rules) (residual : ℕ → ℕ) where
     rule₃-differs q f r′ differ = rw (r, r′, ne-eqb p q differ)
 
 module _ (s : Seen) (p e : ℕ) where
-  pub rule₁-read : s .read₁ ≡ Codeword p e → ReadAs s 1 (record { number = p; chunk1 = Differing e; chunk2 = NotRead })
+  pub rule₁-read : s .read₁ ≡ Codeword p e → ChunksReadAs s 1 (record { number = p; chunk1 = Differing e; chunk2 = NotRead })
   unfolding rowsSeen rows9To12 unreadable numberBy numberRead bitsNeeded firstRefusal
   rule₁-read r = record { number-is = rw r; chunk₁-is = rw r; chunk₂-is = refl; rows-left = λ R. rw r }
 
-  pub rule₂-read : s .read₂ ≡ Codeword p e → ReadAs s 2 (record { number = p; chunk1 = NotRead; chunk2 = Differing e })
+  pub rule₂-read : s .read₂ ≡ Codeword p e → ChunksReadAs s 2 (record { number = p; chunk1 = NotRead; chunk2 = Differing e })
   unfolding rowsSeen rows9To12 unreadable numberBy numberRead bitsNeeded firstRefusal
   rule₂-read r = record { number-is = rw r; chunk₁-is = refl; chunk₂-is = rw r; rows-left = λ R. rw r }
 
   pub rule₃-read : (q f : ℕ) → s .read₁ ≡ Codeword p e → s .read₂ ≡ Codeword q f → p ≡ q
-      → ReadAs s 3 (record { number = p; chunk1 = Differing e; chunk2 = Differing f })
+      → ChunksReadAs s 3 (record { number = p; chunk1 = Differing e; chunk2 = Differing f })
   unfolding rowsSeen rows9To12 unreadable numberBy numberRead bitsNeeded firstRefusal
   rule₃-read q f r r′ same =
       record { number-is = rw r; chunk₁-is = rw r; chunk₂-is = rw r′; rows-left = λ R. rw (r, r′, eq-eqb p q same) }
 
 -- ---- what the rule answers of chunks that are read
 
-module _ (R : Rules) (s : Seen) (residual : ℕ → ℕ) (rule : ℕ) (read : ChunksRead) (as-read : ReadAs s rule read) where
+module _ (R : Rules) (s : Seen) (residual : ℕ → ℕ) (rule : ℕ) (read : ChunksRead) (as-read : ChunksReadAs s rule read) where
   answer-of-search : (range : Range) (scan : Scan) → SearchedRange residual range scan
       → foundAt scan rule read ≡ At (nearestReading residual s rule range)
   unfolding foundAt nearestReading nearestIn

@@ -47,7 +47,7 @@ abbrev pub rows12And17 : Rules → (rule separator p : ℕ) → List Row
 rows12And17 R rule separator p = refuses 12 (R .noBlock rule p) ∷ refuses 17 (parityDiffers separator p) ∷ []
 
 -- of what is seen of a word the rule's chunks have been read so: none of rows 9 to 11 holds
-pub record ReadAs (s : Seen) (rule : ℕ) (read : ChunksRead) : Type 0 where
+pub record ChunksReadAs (s : Seen) (rule : ℕ) (read : ChunksRead) : Type 0 where
   pub number-is : read .number ≡ numberBy s rule
   pub chunk₁-is : read .chunk1 ≡ bitsNeeded (namesFirst rule) (s .read₁)
   pub chunk₂-is : read .chunk2 ≡ bitsNeeded (namesSecond rule) (s .read₂)
@@ -58,4 +58,4 @@ pub record ReadAs (s : Seen) (rule : ℕ) (read : ChunksRead) : Type 0 where
 unfoldable pub ReadsNamed : Code → ReceivedWord → (rule : ℕ) → NamedChunks → Type 0
 ReadsNamed C x rule (ChunksRefused refusal) =
     (s : Seen) → SeesIn C x s → (R : Rules) (residual : ℕ → ℕ) → Refused refusal ≡ answerBy R s residual rule
-ReadsNamed C x rule (Read read) = (read .number ≤ lastCodeword C) × ((s : Seen) → SeesIn C x s → ReadAs s rule read)
+ReadsNamed C x rule (Read read) = (read .number ≤ lastCodeword C) × ((s : Seen) → SeesIn C x s → ChunksReadAs s rule read)

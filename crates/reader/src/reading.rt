@@ -8,8 +8,8 @@ ghost use Rattle.model.specs.Order.{lastCodeword};
 ghost use Rattle.model.specs.Reading.{Seen, separatorBy, twoEnds};
 ghost use Rattle.code_theory.specs.Promise.{Sound};
 ghost use Rattle.nearest_position.specs.Received.{ReceivedIn};
-ghost use Rattle.reader.specs.RuleAnswers.{foundAt, answerBy, AnswersRule, ReadAs};
-ghost use Rattle.nearest_position.specs.Way.{residualIn};
+ghost use Rattle.reader.specs.RuleAnswers.{foundAt, answerBy, AnswersRule, ChunksReadAs};
+ghost use Rattle.nearest_position.specs.Residuals.{residualIn};
 use super::chunks;
 use super::chunks::ChunksRead;
 use super::chunks::NamedChunks;
@@ -50,7 +50,7 @@ fn by_chunks(
     read: ChunksRead,
 ) -> ReadAnswer
     requires { ⌜ ReceivedIn (meaning code) at x × (1 ≤ named .rule) × (named .rule ≤ 3) × (read .number ≤ lastCodeword (meaning code)) ⌝ }
-    ensures { λ r. ⌜ ((s : Seen) → ReadAs s (named .rule) read → separatorBy s (named .rule) ≡ named .separator
+    ensures { λ r. ⌜ ((s : Seen) → ChunksReadAs s (named .rule) read → separatorBy s (named .rule) ≡ named .separator
         → r ≡ answerBy (twoEnds (meaning code)) s (residualIn (meaning code) x) (named .rule)) ⌝ }
 {
     if two_ends::no_block(code, named.rule, read.number) {

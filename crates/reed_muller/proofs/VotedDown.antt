@@ -24,8 +24,8 @@ use Rattle.model.specs.ReedMuller.{setsOf, setsUpTo, countOfSets, reedMuller, c
 use Rattle.model.specs.ReedMuller.{product, votedRows, votedNumber, votedDistance, votedWithin, votedReading}
 use Rattle.model.specs.declared.Chunk.the-variants.{Codeword, Unreadable}
 use Rattle.reed_muller_theory.proofs.Vote.{vote-bit}
-use Rattle.reed_muller_theory.proofs.ReedMullerDistance.{least-distance}
-use Rattle.reed_muller_theory.proofs.VotedReading.{rows-below, number-is, tied-is-unreadable}
+use Rattle.reed_muller_theory.proofs.ReedMullerDistance.{reed-muller-distance}
+use Rattle.reed_muller_theory.proofs.VotedReading.{voted-rows-below, number-is, tied-is-unreadable}
 use Rattle.reed_muller_theory.proofs.LeftOver.{left-count}
 use Rattle.reed_muller.specs.RoundResult.{bitsThen, rowsAfter, Tied, LeftBy}
 use Rattle.reed_muller.proofs.RoundSteps.{bits-bound}
@@ -184,7 +184,7 @@ module _ (r m chunk left rows : ℕ) (order : r ≤ m) (here : VotedDown r m chu
 
   -- t, by the least distance
   t-is : (t : ℕ) → t ≡ (2 ^ (m - r) - 1) / 2 → radius (reedMuller r m) ≡ t
-  t-is t is = ap (λ (d : ℕ). (d - 1) / 2) (least-distance r m order) ∙ sym is
+  t-is t is = ap (λ (d : ℕ). (d - 1) / 2) (reed-muller-distance r m order) ∙ sym is
 
   pub not-accepted : (t differing : ℕ) → t ≡ (2 ^ (m - r) - 1) / 2 → differing ≡ ones left → t < differing → Unreadable ≡ votedReading r m (bit chunk)
   unfolding votedReading votedWithin votedDistance withinRadius
@@ -197,7 +197,7 @@ module _ (r m chunk left rows : ℕ) (order : r ≤ m) (here : VotedDown r m chu
   accepted t differing number is count near named below =
       let found : rows ≡ votedRows r m (bit chunk) = here .counted in
       let is-number : votedNumber r m (bit chunk) ≡ number =
-      number-is r m (bit chunk) number (below (countOfSets r m) (rw found (rows-below r m (bit chunk)))) (named ∙ found) in
+      number-is r m (bit chunk) number (below (countOfSets r m) (rw found (voted-rows-below r m (bit chunk)))) (named ∙ found) in
       let within : leb (votedDistance r m (bit chunk)) (radius (reedMuller r m)) ≡ true =
       le-leb (votedDistance r m (bit chunk)) (radius (reedMuller r m)) (omega (arith, left-ones, t-is t is)) in
       rw within (ap₂ Codeword (sym is-number) (count ∙ left-ones))

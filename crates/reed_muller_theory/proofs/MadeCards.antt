@@ -10,13 +10,13 @@ use Rattle.code_theory.specs.Promise.{Sound}
 use Rattle.code_theory.proofs.CardFields.{n-of-written, k-of-written, track-of-written, offset-of-written}
 use Rattle.code_theory.proofs.CardFields.{written-card-sound, code-of-written}
 use Rattle.reed_muller_theory.specs.MadeCards.{IsReedMullerCard}
-use Rattle.reed_muller_theory.proofs.OrderLimits.{limits-of-test}
+use Rattle.reed_muller_theory.proofs.OrderLimits.{order-limits-of-test}
 use Rattle.reed_muller_theory.proofs.Polynomials.{no-row}
-use Rattle.reed_muller_theory.proofs.ReedMullerDistance.{least-distance, sound-code}
+use Rattle.reed_muller_theory.proofs.ReedMullerDistance.{reed-muller-distance, sound-code}
 
 module _ (track r m : ℕ) (within : orderWithinLimits r m ≡ true) where
   sound : Sound (reedMuller r m)
-  sound = let (_, six, order, twelve) = limits-of-test r m within in sound-code r m six order twelve
+  sound = let (_, six, order, twelve) = order-limits-of-test r m within in sound-code r m six order twelve
 
   none-past : (z : ℕ) → 12 ≤ z → productOf r m z ≡ 0
   none-past z past = no-row r m z (le-trans (sound .k-high) past)
@@ -28,13 +28,13 @@ module _ (track r m : ℕ) (within : orderWithinLimits r m ≡ true) where
   pub is-reed-muller-card : track < 65536 → IsReedMullerCard track r m (reedMullerCard track r m)
   unfolding reedMullerCard
   is-reed-muller-card fits =
-      let (_, _, order, _) = limits-of-test r m within in
+      let (_, _, order, _) = order-limits-of-test r m within in
       let C : Code = reedMuller r m in
       record {
         sound = written-card-sound C sound track none-past;
         n-is = n-of-written (C .n) (C .k) track (C .row);
         k-is = k-of-written (C .n) (C .k) track (C .row);
-        D-is = ap (λ (read : Code). read .D) code-of-made ∙ least-distance r m order;
+        D-is = ap (λ (read : Code). read .D) code-of-made ∙ reed-muller-distance r m order;
         track-is = track-of-written (C .n) (C .k) track (C .row) fits;
         offset-is = offset-of-written (C .n) (C .k) track (C .row);
         code-is = code-of-made;

@@ -100,9 +100,9 @@ unfolding orderWithinLimits
 too-many-variables r m more = rw (le-leb 1 m (omega arith), lt-leb m 6 more)
 
 -- what the limits say
-pub limits-of-test : (r m : ℕ) → orderWithinLimits r m ≡ true → (1 ≤ m) × (m ≤ 6) × (r ≤ m) × (countOfSets r m ≤ 12)
+pub order-limits-of-test : (r m : ℕ) → orderWithinLimits r m ≡ true → (1 ≤ m) × (m ≤ 6) × (r ≤ m) × (countOfSets r m ≤ 12)
 unfolding orderWithinLimits
-limits-of-test r m e =
+order-limits-of-test r m e =
     let three : (leb 1 m && leb m 6 && leb r m) ≡ true = and-true-left _ (leb (countOfSets r m) 12) e in
     let two : (leb 1 m && leb m 6) ≡ true = and-true-left _ (leb r m) three in (
       leb-true 1 m (and-true-left _ (leb m 6) two),
@@ -132,7 +132,7 @@ count-at-least r m order =
 
 pub order-at-most-three : (r m : ℕ) → orderWithinLimits r m ≡ true → r ≤ 3
 order-at-most-three r m e =
-    let (_, _, order, twelve) = limits-of-test r m e in
+    let (_, _, order, twelve) = order-limits-of-test r m e in
     ⊎-elim (λ (more : 3 < r). omega (arith, count-at-least r m order, pow-mono {i = 4} {j = r} more)) (λ (l : r ≤ 3). l) (lt-or-le 3 r)
 
 -- an entry of the table is such an order too

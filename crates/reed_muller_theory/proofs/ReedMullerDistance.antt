@@ -168,8 +168,8 @@ module _ (r m : ℕ) (order : r ≤ m) where
         ap (weight (2 ^ m)) row ∙ sum-ext (2 ^ m) (λ p h. product-row-bit m S p h) ∙ classes-of-largest S below size,
       )
 
-  pub least-distance : reedMuller r m .D ≡ 2 ^ (m - r)
-  least-distance = le-antisymm (at-most lightest) (at-least (least-some (2 ^ m) rows (2 ^ countOfSets r m)))
+  pub reed-muller-distance : reedMuller r m .D ≡ 2 ^ (m - r)
+  reed-muller-distance = le-antisymm (at-most lightest) (at-least (least-some (2 ^ m) rows (2 ^ countOfSets r m)))
     where
       at-most : (g : ℕ) × (0 < g) × (g < 2 ^ countOfSets r m) × (weight (2 ^ m) (rows g) ≡ 2 ^ (m - r))
           → leastWeight (2 ^ m) rows (2 ^ countOfSets r m) ≤ 2 ^ (m - r)

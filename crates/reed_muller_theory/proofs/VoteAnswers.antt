@@ -17,7 +17,7 @@ use Rattle.model.specs.declared.Chunk.the-variants.{Codeword, Unreadable}
 use Rattle.model.specs.declared.VoteAnswer.{VoteAnswer}
 use Rattle.model.specs.declared.VoteAnswer.the-variants.{Voted, Refused}
 use Rattle.reed_muller_theory.specs.Votes.{ReadAsPromised, KeepsPromise, AnswersAsSearch, VotePromises}
-use Rattle.reed_muller_theory.proofs.OrderLimits.{limits-of-test}
+use Rattle.reed_muller_theory.proofs.OrderLimits.{order-limits-of-test}
 use Rattle.reed_muller_theory.proofs.ReedMullerDistance.{sound-code}
 use Rattle.reed_muller_theory.proofs.MadeCards.{code-of-made}
 use Rattle.reed_muller_theory.proofs.VotedReading.{voting-keeps, votes-as-search}
@@ -47,7 +47,7 @@ module _ (r m chunk : ℕ) (within : orderWithinLimits r m ≡ true) (narrow : c
   promised : ReadAsPromised r m chunk (voteAnswer r m chunk)
   unfolding answerFor
   promised =
-      let (_, _, order, _) = limits-of-test r m within in
+      let (_, _, order, _) = order-limits-of-test r m within in
       let keeps = voting-keeps r m order in
       record {
         reads = λ p l near. answer-is ∙ ap answerFor (keeps .reads (bit chunk) p l near);
@@ -61,7 +61,7 @@ module _ (r m chunk : ℕ) (within : orderWithinLimits r m ≡ true) (narrow : c
 
   alike : (track : ℕ) → voteAnswer r m chunk ≡ answerFor (chunkReading (codeOf (reedMullerCard track r m)) (bit chunk))
   alike track =
-      let (_, six, order, twelve) = limits-of-test r m within in
+      let (_, six, order, twelve) = order-limits-of-test r m within in
       answer-is
       ∙ ap answerFor
       (votes-as-search r m order (sound-code r m six order twelve) (bit chunk)

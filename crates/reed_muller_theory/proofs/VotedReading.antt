@@ -26,7 +26,7 @@ use Rattle.code_theory.proofs.Gray.{gray-below, gray-injective, gray-onto}
 use Rattle.code_theory.proofs.Promise.{promise, readers-agree}
 use Rattle.reed_muller_theory.proofs.Sets.{set-below, set-size}
 use Rattle.reed_muller_theory.proofs.Polynomials.{valueAt, coefficientOf, degree-of-codeword, codeword-is-polynomial}
-use Rattle.reed_muller_theory.proofs.ReedMullerDistance.{coefficient-bit, coefficient-of-row, least-distance}
+use Rattle.reed_muller_theory.proofs.ReedMullerDistance.{coefficient-bit, coefficient-of-row, reed-muller-distance}
 use Rattle.reed_muller_theory.proofs.Vote.{vote-bit, Damaged}
 use Rattle.reed_muller_theory.proofs.Rounds.{voted-right, voted-clear}
 
@@ -37,9 +37,9 @@ module _ (r m : ℕ) (y : ℕ → ℕ) where
   unfolding voted
   voted-bit S = vote-bit m (afterRounds r m y (r - weight m S)) S
 
-  pub rows-below : votedRows r m y < 2 ^ countOfSets r m
+  pub voted-rows-below : votedRows r m y < 2 ^ countOfSets r m
   unfolding votedRows
-  rows-below = number-below (λ z. voted r m y (setOf r m z)) (λ z. voted-bit (setOf r m z)) (countOfSets r m)
+  voted-rows-below = number-below (λ z. voted r m y (setOf r m z)) (λ z. voted-bit (setOf r m z)) (countOfSets r m)
 
   -- row z is among the rows voted for where the coefficient of its set is 1
   pub row-voted : (z : ℕ) → z < countOfSets r m → bit (votedRows r m y) z ≡ voted r m y (setOf r m z)
@@ -55,7 +55,7 @@ module _ (r m : ℕ) (y : ℕ → ℕ) where
 
   pub number-found : (votedNumber r m y < 2 ^ countOfSets r m) × (gray (votedNumber r m y) ≡ votedRows r m y)
   number-found =
-      let (p, l, e) = gray-onto (countOfSets r m) (votedRows r m y) rows-below in
+      let (p, l, e) = gray-onto (countOfSets r m) (votedRows r m y) voted-rows-below in
       let is : votedNumber r m y ≡ p = number-is p l e in
       rw is (l, e)
 
@@ -81,7 +81,7 @@ module _ (r m : ℕ) (order : r ≤ m) (x : ℕ → ℕ) (p : ℕ) (last : p ≤
   unfolding withinRadius chunkDistance distance
   few =
       let within : sumBelow differenceAt (2 ^ m) ≤ radius (reedMuller r m) = leb-true (sumBelow differenceAt (2 ^ m)) (radius (reedMuller r m)) near in
-      omega (arith, least-distance r m order, pow-pos (m - r))
+      omega (arith, reed-muller-distance r m order, pow-pos (m - r))
 
   below : p < 2 ^ countOfSets r m
   unfolding lastCodeword
@@ -90,7 +90,7 @@ module _ (r m : ℕ) (order : r ≤ m) (x : ℕ → ℕ) (p : ℕ) (last : p ≤
   -- every vote finds the codeword's coefficient ...
   same-rows : votedRows r m x ≡ gray p
   same-rows =
-      bit-ext-below (countOfSets r m) (votedRows r m x) (gray p) (rows-below r m x) (gray-below (countOfSets r m) p below)
+      bit-ext-below (countOfSets r m) (votedRows r m x) (gray p) (voted-rows-below r m x) (gray-below (countOfSets r m) p below)
       (λ z l.
       row-voted r m x z l
       ∙ voted-right r m order H differenceAt (coefficient-bit r m order (gray p)) (degree-of-codeword r m (gray p)) few x damaged

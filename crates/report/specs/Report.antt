@@ -35,13 +35,13 @@ wordLines C bytes met zero = []
 wordLines C bytes met (suc m) = wordLines C bytes met m ++ wordLine (met + m + 1) (answerAt C bytes m)
 
 -- 1 for a word that is read, 0 for one that is refused
-unfoldable pub readCount : ReadAnswer → ℕ
-readCount (At r) = 1
-readCount (Refused refusal) = 0
+unfoldable pub countIfRead : ReadAnswer → ℕ
+countIfRead (At r) = 1
+countIfRead (Refused refusal) = 0
 
 -- how many of the first m words of some bytes are read
 unfoldable pub wordsRead : Code → (bytes : List ℕ) (m : ℕ) → ℕ
-wordsRead C bytes m = sumBelow (λ i. readCount (answerAt C bytes i)) m
+wordsRead C bytes m = sumBelow (λ i. countIfRead (answerAt C bytes i)) m
 
 -- what is printed after the card's line: a line for each whole word, the bytes short of a word, and the last line
 unfoldable pub wordsReport : Code → List ℕ → List ℕ

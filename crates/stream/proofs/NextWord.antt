@@ -13,7 +13,7 @@ use Rattle.model.specs.Words.{wordLength}
 use Rattle.model.specs.ReadWord.{readWord}
 use Rattle.report.specs.Lines.{wordLine, lineRoom}
 use Rattle.report.specs.Puts.{Puts}
-use Rattle.report.specs.Report.{answerAt, wordLines, readCount, wordsRead}
+use Rattle.report.specs.Report.{answerAt, wordLines, countIfRead, wordsRead}
 
 -- of `words` words of w bytes, which stand from place `first` on, the lines of the first i have been put, at most `lineRoom` bytes each,
 -- and of these words those that were read are counted; word i starts at place `from`
@@ -32,7 +32,7 @@ module _ (C : Code) (bytes : List ℕ) (i : ℕ) where
   unfolding wordLines
   lines-next met = rw (← add-assoc, add-one i)
 
-  pub read-next : wordsRead C bytes (i + 1) ≡ wordsRead C bytes i + readCount (answerAt C bytes i)
+  pub read-next : wordsRead C bytes (i + 1) ≡ wordsRead C bytes i + countIfRead (answerAt C bytes i)
   unfolding wordsRead sumBelow
   read-next = rw (add-one i)
 

@@ -12,7 +12,7 @@ use Rattle.bits.proofs.Sums.{sum-ext, sum-split}
 use Rattle.model.specs.Card.{Code}
 use Rattle.model.specs.Words.{wordLength}
 use Rattle.model.specs.ReadWord.{readWord}
-use Rattle.report.specs.Report.{wordPart, answerAt, wordLines, readCount, wordsRead}
+use Rattle.report.specs.Report.{wordPart, answerAt, wordLines, countIfRead, wordsRead}
 
 -- word i lies within the first m words
 pub within : (w i m : ℕ) → i < m → i * w + w ≤ m * w
@@ -70,11 +70,11 @@ module _ (C : Code) (m : ℕ) (first second : List ℕ) (whole : length first �
   -- the words read among the words of the first piece are not changed by what follows it
   pub read-of-first : wordsRead C (first ++ second) m ≡ wordsRead C first m
   unfolding wordsRead
-  read-of-first = sum-ext m (λ i h. ap readCount (answer-of-first i h))
+  read-of-first = sum-ext m (λ i h. ap countIfRead (answer-of-first i h))
 
   -- the words read add up
   pub read-in-pieces : (more : ℕ) → wordsRead C (first ++ second) (m + more) ≡ wordsRead C first m + wordsRead C second more
   unfolding wordsRead
   read-in-pieces more =
-      sum-split (λ i. readCount (answerAt C (first ++ second) i)) m more
-      ∙ rw (read-of-first, sum-ext more (λ i h. ap readCount (answer-of-second i)))
+      sum-split (λ i. countIfRead (answerAt C (first ++ second) i)) m more
+      ∙ rw (read-of-first, sum-ext more (λ i h. ap countIfRead (answer-of-second i)))

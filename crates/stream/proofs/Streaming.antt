@@ -16,7 +16,7 @@ use Rattle.model.specs.declared.ReadAnswer.{ReadAnswer}
 use Rattle.model.specs.declared.ReadAnswer.the-variants.{At, Refused}
 use Rattle.report.specs.Lines.{shortLine, lastLine}
 use Rattle.report.specs.Puts.{Puts}
-use Rattle.report.specs.Report.{answerAt, wordLines, readCount, wordsRead, wordsReport}
+use Rattle.report.specs.Report.{answerAt, wordLines, countIfRead, wordsRead, wordsReport}
 use Rattle.stream.specs.declared.turn.Progress.{Progress}
 use Rattle.stream.specs.declared.turn.Taken.{Taken}
 use Rattle.stream.specs.Streamed.{Streamed, Follows, Completes}
@@ -28,8 +28,8 @@ pub text-at-front : {out text out′ : List ℕ} {next : ℕ} → Puts out 0 tex
 text-at-front {out} {text} p = rw (p .bytes, p .place, zero-add) (take-append-seam text (drop (length text) out))
 
 -- a word counts once at most
-count-low : (answer : ReadAnswer) → readCount answer < 2
-unfolding readCount
+count-low : (answer : ReadAnswer) → countIfRead answer < 2
+unfolding countIfRead
 count-low (At r) = omega arith
 count-low (Refused refusal) = omega arith
 
@@ -49,7 +49,7 @@ module _ (C : Code) {all text input : List ℕ} {p : Progress} (s : Streamed C a
   -- no more words are read than met
   pub few-read : p .read ≤ p .met
   unfolding wordsRead
-  few-read = rw (s .read) (sum-of-bits (λ i. readCount (answerAt C all i)) (p .met) (λ i. count-low (answerAt C all i)))
+  few-read = rw (s .read) (sum-of-bits (λ i. countIfRead (answerAt C all i)) (p .met) (λ i. count-low (answerAt C all i)))
 
   -- fewer bytes are held than a word has
   pub few-held : 1 ≤ wordLength C → p .held < wordLength C

@@ -7,7 +7,7 @@ ghost use Rattle.model.specs.Decoded.{meaning};
 ghost use Rattle.code_theory.specs.Promise.{Sound};
 ghost use Rattle.report.specs.Lines.{lineRoom};
 ghost use Rattle.report.specs.Puts.{Puts};
-ghost use Rattle.report.specs.Report.{readCount, wordLines, wordsRead};
+ghost use Rattle.report.specs.Report.{countIfRead, wordLines, wordsRead};
 use model::DecodedCode;
 use model::ReadAnswer;
 use position::layout;
@@ -15,8 +15,8 @@ use reader::reading;
 use report::lines;
 
 // 1 for a word that is read, 0 for one that is refused.
-fn read_count(answer: ReadAnswer) -> u64
-    ensures { λ r. ⌜ (r ≡ readCount answer) × (r ≤ 1) ⌝ }
+fn count_if_read(answer: ReadAnswer) -> u64
+    ensures { λ r. ⌜ (r ≡ countIfRead answer) × (r ≤ 1) ⌝ }
 {
     match answer {
         ReadAnswer::At(_) => 1,
@@ -59,7 +59,7 @@ pub fn put_words(
         let answer = reading::read(code, &bytes[from..to]);
         i += 1;
         next = lines::put_word_line(out, next, met + i as u64, answer);
-        read += read_count(answer);
+        read += count_if_read(answer);
         from = to;
     }
     WordsPut { next, read }

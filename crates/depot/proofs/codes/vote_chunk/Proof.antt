@@ -6,7 +6,7 @@ use Prim.Native.Nat.{_^_, _<_}
 use borrow.Author.Needs.{needs}
 use borrow.Author.Tests.{not-true, not-false}
 use Rattle.model.specs.ReedMuller.{orderWithinLimits}
-use Rattle.reed_muller_theory.proofs.OrderLimits.{limits-of-test}
+use Rattle.reed_muller_theory.proofs.OrderLimits.{order-limits-of-test}
 use Rattle.depot.proofs.VoteContract.{vote-outside, vote-too-wide, narrow-enough, vote-unreadable, vote-read}
 use Rattle.depot.proofs.codes.vote_chunk.Statement.{statement}
 use Rattle.depot.proofs.codes.vote_chunk.Tie as tie
@@ -19,7 +19,7 @@ within : (c : tie.Else1) → orderWithinLimits (c .before .before .args .r) (c .
 within c = sym (c .before .order-within-limits .ensures) ∙ not-false _ (c .if1 .left)
 
 all-positions-requires : tie.Need-all-positions-requires
-all-positions-requires c κs = limits-of-test _ _ (within c) .1
+all-positions-requires c κs = order-limits-of-test _ _ (within c) .1
 
 returns-2 : tie.Need-returns-2
 returns-2 c = vote-too-wide _ _ _ (within (c .before .before)) _ (c .before .all-positions .ensures) (c .if2 .taken)

@@ -5,7 +5,7 @@ use native.Mathlib.Omega.{arith}
 use borrow.Author.Needs.{needs}
 use Rattle.model.specs.Decoded.{meaning}
 use Rattle.code_theory.proofs.Starts.{last-codeword-bound}
-use Rattle.nearest_position.specs.Way.{positionAt}
+use Rattle.nearest_position.specs.Residuals.{positionAt}
 use Rattle.nearest_position.proofs.BlockResiduals.{residuals-of-block}
 use Rattle.nearest_position.proofs.RuleRanges.{at-start, at-chunk₂}
 use Rattle.nearest_position.proofs.two_ends.nearest_after.Statement.{statement}

@@ -7,7 +7,7 @@ use borrow.Author.Needs.{needs}
 use Rattle.model.specs.Decoded.{meaning}
 use Rattle.model.specs.Order.{lastCodeword}
 use Rattle.code_theory.proofs.Starts.{last-codeword-bound}
-use Rattle.nearest_position.specs.Way.{residualIn}
+use Rattle.nearest_position.specs.Residuals.{residualIn}
 use Rattle.nearest_position.proofs.BlockResiduals.{residual-of-start, residuals-of-block}
 use Rattle.nearest_position.proofs.RuleRanges.{at-chunk₁, track-ends, track-goes-on}
 use Rattle.nearest_position.proofs.two_ends.nearest_around.Statement.{statement}

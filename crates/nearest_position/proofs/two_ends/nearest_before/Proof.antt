@@ -12,7 +12,7 @@ use Rattle.code_theory.proofs.Promise.{promise}
 use Rattle.code_theory.proofs.Starts.{last-position-bound}
 use Rattle.position.specs.LayoutOf.{LayoutOf}
 use Rattle.position_theory.proofs.Blocks.{start-on-track}
-use Rattle.nearest_position.specs.Way.{positionAt}
+use Rattle.nearest_position.specs.Residuals.{positionAt}
 use Rattle.nearest_position.proofs.BlockResiduals.{residuals-of-block}
 use Rattle.nearest_position.proofs.RuleRanges.{at-separator₂, at-end}
 use Rattle.nearest_position.proofs.two_ends.nearest_before.Statement.{statement}

@@ -11,7 +11,7 @@ use Rattle.code_theory.specs.Promise.{Sound}
 use Rattle.code_theory.proofs.Promise.{promise}
 use Rattle.code_theory.proofs.Starts.{start-zero}
 use Rattle.position.specs.LayoutOf.{LayoutOf}
-use Rattle.nearest_position.specs.Way.{positionAt, residualIn}
+use Rattle.nearest_position.specs.Residuals.{positionAt, residualIn}
 use Rattle.nearest_position.proofs.BlockResiduals.{residual-of-start, residuals-of-block, distance-held}
 use Rattle.nearest_position.proofs.RuleRanges.{at-separator₃, at-end}
 use Rattle.nearest_position.proofs.Scanning.{scanned-first}

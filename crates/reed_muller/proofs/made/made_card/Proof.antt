@@ -4,13 +4,13 @@ use native.Mathlib.Omega.{arith}
 use borrow.Author.Needs.{needs}
 use lib.Pow.{pow-mono}
 use Rattle.model.specs.ReedMuller.{countOfSets, reedMullerCard}
-use Rattle.reed_muller_theory.proofs.OrderLimits.{limits-of-test}
+use Rattle.reed_muller_theory.proofs.OrderLimits.{order-limits-of-test}
 use Rattle.reed_muller.proofs.made.made_card.Statement.{statement}
 use Rattle.reed_muller.proofs.made.made_card.Tie as tie
 
 -- what the limits say of m and k
 limits : (c : tie.Start) → (c .args .m ≤ 6) × (countOfSets (c .args .r) (c .args .m) ≤ 12)
-limits c = let (_, six, _, twelve) = limits-of-test (c .args .r) (c .args .m) (c .pre) in (six, twelve)
+limits c = let (_, six, _, twelve) = order-limits-of-test (c .args .r) (c .args .m) (c .pre) in (six, twelve)
 
 two-to-requires : tie.Need-two-to-requires
 two-to-requires c κs = omega (arith, limits (c .before .before) .0)

@@ -10,7 +10,7 @@ use lib.Dec.{ltb}
 use lib.ListN.{getD}
 use borrow.Author.Tests.{ltb-true, ltb-false}
 use Rattle.model.specs.ReedMuller.{setsUpTo, countOfSets, productRow, productOf}
-use Rattle.reed_muller_theory.proofs.OrderLimits.{limits-of-test, order-at-most-three, count-grows}
+use Rattle.reed_muller_theory.proofs.OrderLimits.{order-limits-of-test, order-at-most-three, count-grows}
 use Rattle.reed_muller_theory.proofs.Sets.{count-low}
 use Rattle.reed_muller_theory.proofs.FewerVariables.{others-not-empty}
 use Rattle.reed_muller.specs.Table.{setsBefore}
@@ -28,7 +28,7 @@ abbrev μ-loop : tie.MeasureT-loop
 -- what the limits say of r and m
 limits : (c : tie.Start Inv-loop μ-loop) → (c .args .m ≤ 6) × (c .args .r ≤ 3) × (countOfSets (c .args .r) (c .args .m) ≤ 12)
 limits c =
-    let (_, six, _, twelve) = limits-of-test (c .args .r) (c .args .m) (c .pre) in
+    let (_, six, _, twelve) = order-limits-of-test (c .args .r) (c .args .m) (c .pre) in
     (six, order-at-most-three (c .args .r) (c .args .m) (c .pre), twelve)
 
 all-positions-requires : tie.Need-all-positions-requires Inv-loop μ-loop

@@ -9,7 +9,7 @@ use lib.Bits.{bitXor}
 use lib.Count.{ones, ones-le}
 use lib.Pow.{pow-mono, pow-pos}
 use Rattle.model.specs.ReedMuller.{countOfSets}
-use Rattle.reed_muller_theory.proofs.OrderLimits.{limits-of-test, order-at-most-three}
+use Rattle.reed_muller_theory.proofs.OrderLimits.{order-limits-of-test, order-at-most-three}
 use Rattle.reed_muller.proofs.VotedDown.{VotedDown, few-rows, voting-starts, voting-goes-on, voting-tied, setsBelow, not-accepted, accepted}
 use Rattle.reed_muller.proofs.LastRound.{taken-off, not-taken-off, ones-damaged}
 use Rattle.reed_muller.proofs.voting.vote.Statement.{statement}
@@ -30,7 +30,7 @@ record Limits (r m : ℕ) : Type 0 where
 
 limits : (c : tie.Start Inv-loop μ-loop) → Limits (c .args .r) (c .args .m)
 limits c =
-    let (_, six, order, twelve) = limits-of-test (c .args .r) (c .args .m) (c .pre .0) in
+    let (_, six, order, twelve) = order-limits-of-test (c .args .r) (c .args .m) (c .pre .0) in
     record { six = six; order = order; three = order-at-most-three (c .args .r) (c .args .m) (c .pre .0); twelve = twelve }
 
 loop-holds : tie.Need-loop-holds Inv-loop μ-loop

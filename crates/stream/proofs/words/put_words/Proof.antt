@@ -78,8 +78,8 @@ add-put-word-line c = search needs
 put-word-line-requires : tie.Need-put-word-line-requires Inv-loop μ-loop
 put-word-line-requires c κs = search needs
 
-read-count-requires : tie.Need-read-count-requires Inv-loop μ-loop
-read-count-requires c κs = search needs
+count-if-read-requires : tie.Need-count-if-read-requires Inv-loop μ-loop
+count-if-read-requires c κs = search needs
 
 add-read : tie.Need-add-read Inv-loop μ-loop
 add-read c = search needs
@@ -109,7 +109,7 @@ loop-again c =
           rw (lines-next C bytes i (args .met), ← answer)
           (puts-then (omega arith) (loop .inv .lines) (line .put-word-line .ensures .0));
       room = omega arith;
-      counted = rw (read-next C bytes i, ← answer, c .read-count .ensures .0, loop .inv .counted);
+      counted = rw (read-next C bytes i, ← answer, c .count-if-read .ensures .0, loop .inv .counted);
       few = omega arith;
       same-length = line .put-word-line .kept .0 ∙ loop .inv .same-length;
     }
@@ -141,7 +141,7 @@ put-words-spec =
     add-i
     add-put-word-line
     put-word-line-requires
-    read-count-requires
+    count-if-read-requires
     add-read
     loop-less
     loop-again
