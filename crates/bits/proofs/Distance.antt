@@ -1,6 +1,6 @@
 -- The Hamming distance is symmetric, and adds up over parts of a word, and along a third word that agrees at each place with one of the
--- two; and some differing place has any smaller number of them before it. (The triangle inequality stands in Erasures.antt, with erased places.)
--- Assumes nothing.
+-- two; and some differing place has any smaller number of them before it. (The triangle inequality stands in Erasures.antt, with erased
+-- places.) Assumes nothing.
 use mathlib.Core.Path.{_≡_, refl, _∙_}
 use mathlib.Core.Logic.{_⊎_, ⊎-elim}
 use Prim.Native.Nat.{ℕ, zero, suc, _+_, _≤_, _<_}

@@ -17,7 +17,7 @@ pub none-erased : (unerased : ℕ → Bool) (d : ℕ) → ((p : ℕ) → p < d �
 unfolding erasedBelow
 none-erased unerased d all = sum-zero d (λ p b. rw (all p b))
 
--- they are fixed by what is not erased below d, and the bits there
+-- the distance and the count of erased places are fixed by which places below d are erased, and by the bits there
 pub unerased-ext : {unerased unerased′ : ℕ → Bool} {u u′ v v′ : ℕ → ℕ} (d : ℕ) → ((p : ℕ) → p < d → unerased p ≡ unerased′ p)
     → ((p : ℕ) → p < d → u p ≡ u′ p) → ((p : ℕ) → p < d → v p ≡ v′ p) → distanceUnerased unerased d u v ≡ distanceUnerased unerased′ d u′ v′
 unfolding distanceUnerased
@@ -31,13 +31,13 @@ pub erased-ext : {unerased unerased′ : ℕ → Bool} (d : ℕ) → ((p : ℕ) 
 unfolding erasedBelow
 erased-ext d hh = sum-ext d (λ p b. rw (hh p b))
 
--- it adds up over parts of a word
+-- the distance adds up over parts of a word
 pub unerased-split : (unerased : ℕ → Bool) (a b : ℕ) (u v : ℕ → ℕ)
     → distanceUnerased unerased (a + b) u v ≡ distanceUnerased unerased a u v + distanceUnerased (fromPlace a unerased) b (fromPlace a u) (fromPlace a v)
 unfolding distanceUnerased
 unerased-split unerased a b u v = sum-split (λ p. cond (unerased p) (difference (u p) (v p)) 0) a b
 
--- where u and v are alike at each place unerased from place a on, it is the distance of the places before a
+-- where u and v are alike at each unerased place from place a on, it is the distance of the places before a
 pub unerased-alike-after : (unerased : ℕ → Bool) (a d : ℕ) (u v : ℕ → ℕ) → a ≤ d
     → ((p : ℕ) → a ≤ p → p < d → unerased p ≡ true → u p ≡ v p) → distanceUnerased unerased d u v ≡ distanceUnerased unerased a u v
 unfolding distanceUnerased
@@ -68,7 +68,7 @@ unerased-le unerased d u v = sum-of-bits (λ p. cond (unerased p) (difference (u
     at-place true i j = omega arith
     at-place false i j = omega arith
 
--- two words are no further apart than each from a third one where it is not erased, and the erased places
+-- the distance of two words is at most their distances from a third one over the unerased places and the count of erased places, added up
 pub unerased-triangle : (unerased : ℕ → Bool) (d : ℕ) (u w x : ℕ → ℕ)
     → distance d u w ≤ distanceUnerased unerased d u x + distanceUnerased unerased d w x + erasedBelow unerased d
 unfolding distance distanceUnerased erasedBelow

@@ -36,7 +36,7 @@ cut-distance n a b h ha hb hh =
     at-place i j (suc zero) hi hj hc = omega arith
     at-place i j (suc (suc c)) hi hj hc = absurd (omega arith)
 
--- the places of h, and those that are erased
+-- the places of h and the erased ones are n in all
 pub ones-and-erased : (n h : ℕ) → h < 2 ^ n → erasedBelow (marked (bit h)) n + ones h ≡ n
 unfolding erasedBelow weight
 ones-and-erased n h hh =

@@ -1,5 +1,5 @@
 -- The walk of m steps from u to v. It has passed place p if u and v differ in fewer than m places before p; so it is v up to some
--- place and u from there on, and walks of m and m′ steps are |m - m′| bits apart: one step turns one bit. Assumes nothing.
+-- place and u from there on, and walks of m and m′ steps are |m - m′| bits apart: one step flips one bit. Assumes nothing.
 use mathlib.Core.Path.{_≡_, refl, sym}
 use mathlib.Core.Bool.{Bool, true, false, cond, _&&_}
 use mathlib.Core.Logic.{⊎-elim}
@@ -82,7 +82,7 @@ module _ {u v : ℕ → ℕ} (hu : (p : ℕ) → u p < 2) (hv : (p : ℕ) → v 
       (lt-or-le (distance d u v) m′))
       (lt-or-le (distance d u v) m)
 
-  -- each step turns one bit
+  -- each step flips one bit
   pub walk-isometry : (d m m′ : ℕ) → m ≤ m′ → m′ ≤ distance d u v → distance d (walk u v m) (walk u v m′) + m ≡ m′
   walk-isometry d m m′ h h′ = omega (arith, walk-apart d m m′ h)
 

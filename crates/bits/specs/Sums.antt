@@ -27,7 +27,7 @@ distance d u v = sumBelow (λ p. difference (u p) (v p)) d
 unfoldable pub distanceUnerased : (unerased : ℕ → Bool) (d : ℕ) (u v : ℕ → ℕ) → ℕ
 distanceUnerased unerased d u v = sumBelow (λ p. cond (unerased p) (difference (u p) (v p)) 0) d
 
--- how many of the places 0 to d - 1 are erased, so not unerased
+-- how many of the places 0 to d - 1 are erased
 unfoldable pub erasedBelow : (unerased : ℕ → Bool) (d : ℕ) → ℕ
 erasedBelow unerased d = sumBelow (λ p. cond (unerased p) 0 1) d
 
@@ -35,11 +35,11 @@ erasedBelow unerased d = sumBelow (λ p. cond (unerased p) 0 1) d
 abbrev pub marked : (m : ℕ → ℕ) (p : ℕ) → Bool
 marked m p = eqb (m p) 1
 
--- every place is not erased: nothing is erased
+-- no place is erased
 abbrev pub everywhere : ℕ → Bool
 everywhere p = true
 
--- the part that starts at place a of what stands at places: bits, or what else is told of a place
+-- the part that starts at place a of what stands at the places: bits, or whatever else each place has
 abbrev pub fromPlace : {A : Type 0} (a : ℕ) (x : ℕ → A) (p : ℕ) → A
 fromPlace a x p = x (a + p)
 

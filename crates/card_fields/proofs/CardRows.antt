@@ -1,4 +1,4 @@
--- The rows of a card: the twelve are its bytes from 4 on, and past the twelfth all are zero; and a shift tells one that is too wide.
+-- The rows of a card: the twelve are its bytes from 4 on, and past the twelfth all are zero; and a shift shows one that is too wide.
 -- Assumes nothing.
 use Prim.Native.Nat.{ℕ, _+_, _*_, _/_, _^_, _≤_, _<_}
 use mathlib.Core.Path.{_≡_, _∙_, fun-ext}

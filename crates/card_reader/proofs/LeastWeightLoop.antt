@@ -1,6 +1,6 @@
 -- The outer loop of the least weight. Each set of rows is a set of the low rows, whose sums stand in the table, and a set of the
 -- rows behind them, whose sums the loop steps through; both go in Gray order, and so meet each set once. The least that is kept is
--- the greatest number that is at most n and each weight met: that tells it, in whichever order the sets are met.
+-- the greatest number that is at most n and each weight met: that fixes it, in whichever order the sets are met.
 -- Assumes nothing.
 use mathlib.Core.Path.{_≡_, sym, ap, _∙_}
 use mathlib.Core.List.{List}

@@ -60,7 +60,7 @@ module _ (near : ℕ → Bool) (count : ℕ → ℕ) (many : ℕ) where
       let no : _≡_ {A = ℕ} 0 1 = cc in absurd (omega arith))
       (lt-or-le found many)
 
--- chunks of which the same places are not erased and agree below n read alike
+-- chunks that below n have the same unerased places and the same bits read alike
 pub erasure-reading-ext : (C : Code) {unerased unerased′ : ℕ → Bool} {x y : ℕ → ℕ} → ((p : ℕ) → p < C .n → unerased p ≡ unerased′ p)
     → ((p : ℕ) → p < C .n → x p ≡ y p) → erasureReading C unerased x ≡ erasureReading C unerased′ y
 unfolding erasureReading withinErasures chunkWrong

@@ -1,7 +1,6 @@
--- D is the least distance of two different codewords. The exclusive-or of two codewords is a codeword, whose weight is their
--- distance, and a nonzero one has weight D at least. So of a chunk at most one codeword has 2 × wrong + erased below D; where nothing is erased,
--- it lies within the radius, less than half of D.
--- Assumes nothing.
+-- D is the least distance of two different codewords. The exclusive-or of two codewords is a codeword, whose weight is their distance, and
+-- a nonzero one has weight D at least. So of a chunk at most one codeword has 2 × wrong + erased below D; where nothing is erased, it lies
+-- within the radius, less than half of D. Assumes nothing.
 use mathlib.Core.Path.{_≡_, refl, sym, ap, _∙_}
 use mathlib.Core.Bool.{Bool}
 use mathlib.Core.Logic.{_⊎_, inl, inr, ⊎-elim}
@@ -128,7 +127,7 @@ module _ (C : Code) (S : Sound C) where
             ∙ light,
       )
 
-  -- two codewords never both have 2 × wrong + erased below D of a chunk
+  -- of one chunk, two codewords never both have 2 × wrong + erased below D
   pub one-within-erasures : (unerased : ℕ → Bool) (x : ℕ → ℕ) (i j : ℕ) → i ≤ lastCodeword C → j ≤ lastCodeword C
       → 2 * chunkWrong C unerased x i + erasedBelow unerased (C .n) < C .D → 2 * chunkWrong C unerased x j + erasedBelow unerased (C .n) < C .D → i ≡ j
   unfolding chunkWrong

@@ -1,5 +1,5 @@
--- A sound card's code keeps the chunk promise: the first codeword within the radius, or for which 2 × wrong + erased is below D, is the only
--- one, blocks follow one another, and consecutive codewords differ in one row. Two readers that keep a promise answer alike, so where
+-- A sound card's code keeps the chunk promise: the first codeword within the radius, or for which 2 × wrong + erased is below D, is the
+-- only one, blocks follow one another, and consecutive codewords differ in one row. Two readers that keep a promise answer alike, so where
 -- nothing is erased a chunk reads by either half of it as by the other. Assumes nothing.
 use mathlib.Core.Path.{_∙_, _≡_, refl, sym, fun-ext}
 use mathlib.Core.Bool.{Bool, true}
@@ -80,7 +80,7 @@ readers-agree f g F G x = by-answer (f x) refl (g x) refl
         let is = G .within x p e k in F .reads x p (is .0) (is .1) ∙ rw (← (is .2)) (sym k)
     by-answer Unreadable h Unreadable k = h ∙ sym k
 
--- where every place is not erased, a reader that promises to read plain chunks promises just what one over the unerased places does
+-- where no place is erased, a reader that promises to read plain chunks promises just what one over the unerased places does
 pub plain-as-unerased : (C : Code) → 1 ≤ C .D → {read : (ℕ → ℕ) → Chunk} → ReadsChunks C read → ReadsWithErasures C everywhere read
 plain-as-unerased C D-pos keeps = rw (fun-ext (plain-near C D-pos), fun-ext (plain-count C)) at keeps
 

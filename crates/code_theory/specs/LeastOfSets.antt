@@ -1,4 +1,4 @@
--- The least weight of the sums of nonempty sets of rows, zero sums included: the one number that tells whether the rows are
+-- The least weight of the sums of nonempty sets of rows, zero sums included: the one number that shows whether the rows are
 -- dependent, and D where they are not. Assumes nothing.
 use Prim.Native.Nat.{ℕ, zero, suc, min}
 use Rattle.bits.specs.Places.{weight}

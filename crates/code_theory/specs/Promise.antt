@@ -24,15 +24,15 @@ pub record Sound (C : Code) : Type 0 where
   pub independent : (g : ℕ) → 0 < g → g < 2 ^ C .k → sumOfRows (C .row) (C .k) g ≡ 0 → ⊥
   pub least : C .D ≡ leastWeight (C .n) (sumOfRows (C .row) (C .k)) (2 ^ C .k)
 
--- What a reader of chunks promises, whatever its search, of codewords 0 to `last`, a test which of them are near to a chunk, and a
--- count of the places in which the two differ from. Two readers that promise it answer alike (`readers-agree`).
+-- What a reader of chunks promises, whatever its search, of codewords 0 to `last`, a test which of them are near to a chunk, and a count of
+-- the places in which the two differ. Two readers that promise it answer alike (`readers-agree`).
 pub record ReadsNear (X : Type 0) (last : ℕ) (near : X → ℕ → Bool) (count : X → ℕ → ℕ) (read : X → Chunk) : Type 0 where
   -- a chunk to which codeword p is near reads p, with the count
   pub reads : (x : X) (p : ℕ) → p ≤ last → near x p ≡ true → read x ≡ Codeword p (count x p)
   -- codeword p, one of the code's, is near to a chunk that reads p, and the count is theirs
   pub within : (x : X) (p e : ℕ) → read x ≡ Codeword p e → (p ≤ last) × (near x p ≡ true) × (e ≡ count x p)
 
--- what a reader of code chunks promises where only these places are not erased: the codeword for which 2 × wrong + erased is below D, and how
+-- what a reader of code chunks promises where just these places are unerased: the codeword for which 2 × wrong + erased is below D, and how
 -- many places are wrong
 abbrev pub ReadsWithErasures : Code → (unerased : ℕ → Bool) → ((ℕ → ℕ) → Chunk) → Type 0
 ReadsWithErasures C unerased read = ReadsNear (ℕ → ℕ) (lastCodeword C) (withinErasures C unerased) (chunkWrong C unerased) read
@@ -43,7 +43,7 @@ ReadsChunks C read = ReadsNear (ℕ → ℕ) (lastCodeword C) (withinRadius C) (
 
 -- The chunk promise: all that the laws of words and reading know of the code and its order (only the bounds on the size of numbers,
 -- which code needs, go by the card's limits). Of the reading of chunks it has two halves: words of plain bits ask the first alone, which
--- the reader that votes keeps as well, and words of which bits may be erased the second.
+-- the reader that votes keeps as well, and words whose bits may be erased the second.
 pub record ChunkPromise (C : Code) : Type 0 where
   pub D-pos : 1 ≤ C .D
   -- there are two codewords at least, so every position lies on the way from one to the next

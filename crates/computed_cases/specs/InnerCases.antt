@@ -1,6 +1,6 @@
--- Figures of document 02's P1, P2, P4 and P7 that no call answers, so that no program can try them: the bytes beside refusal 13, an offset at
--- the ends of the numbers of 32 bits (such a card is refused by 14), a distance at a position that no sound card reaches, the sums on the way
--- to a block's start; and at which positions each chunk is divided. That the definitions give them is computed, `inner-cases` and
+-- Values of document 02's P1, P2, P4 and P7 that no call answers, so that no program can try them: the bytes beside refusal 13, an offset
+-- at the ends of the numbers of 32 bits (such a card is refused by 14), a distance at a position that no sound card reaches, the sums on
+-- the way to a block's start; and at which positions each chunk is divided. That the definitions give them is computed, `inner-cases` and
 -- `divided-cases`. Assumes nothing.
 use mathlib.Core.List.{List, [], _∷_, _++_, map}
 use Prim.Native.Nat.{ℕ, suc}

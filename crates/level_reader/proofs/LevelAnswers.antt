@@ -40,11 +40,11 @@ use Rattle.nearest_position.specs.Residuals.{residualIn}
 use Rattle.level_reader.specs.LevelWords.{LevelWordOf}
 use Rattle.level_reader.specs.declared.level_word.LevelWord.{LevelWord}
 
--- what the rule with this number answers of a word of told bits
+-- what the rule with this number answers of a word of received levels
 abbrev pub answerInLevels : Code → (word : ℕ → ReceivedLevel) (rule : ℕ) → ReadAnswer
 answerInLevels C word rule = answerBy (twoEnds C) (seenInLevels C word) (residualUnerased C (unerasedIn word) (bitsIn word)) rule
 
--- ---- the struct that holds the word of told bits
+-- ---- the struct that holds the word of received levels
 
 module _ (C : Code) (word : ℕ → ReceivedLevel) (w : LevelWord) (holds : LevelWordOf C word w) where
   mark : (t : Bool) (m : ℕ) → m ≡ cond t 1 0 → eqb m 1 ≡ t

@@ -1,4 +1,4 @@
--- What is told of the five chunks of a word gives them as numbers: its bits, and its unerased places. Assumes nothing.
+-- The five chunks of a word of levels as numbers: their bits, and their unerased places. Assumes nothing.
 use mathlib.Core.Path.{_≡_}
 use Prim.Native.Nat.{ℕ, _+_, _<_}
 use Rattle.bits.specs.Sums.{fromPlace}
@@ -36,7 +36,7 @@ module _ (u : ℕ → ℕ) (bits : (p : ℕ) → u p < 2) where
           separator₃-bits = rw (laid .separator₃-at) at (bits-from (l .separator3) (C .D) s₃ fifth);
         }
 
--- what is told of the five chunks of a word, where the layout has them
+-- what the levels of the five chunks of a word give, where the layout has them
 module _ (C : Code) (l : Layout) (laid : LayoutOf C l) (word : ℕ → ReceivedLevel) (a b c d e : LevelChunk)
     (first : LevelChunkOf word 0 (C .D) a) (second : LevelChunkOf word (l .chunk1) (C .n) b)
     (third : LevelChunkOf word (l .separator2) (C .D) c) (fourth : LevelChunkOf word (l .chunk2) (C .n) d)

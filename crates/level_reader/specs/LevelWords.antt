@@ -1,4 +1,4 @@
--- A word of levels that is told, in the struct that the code folds it into. Assumes nothing.
+-- A word of levels, in the struct that the code folds it into. Assumes nothing.
 use mathlib.Core.Path.{_≡_}
 use Prim.Native.Nat.{ℕ}
 use Rattle.model.specs.Card.{Code}

@@ -1,5 +1,5 @@
-// A word of levels, told once: its five chunks in order, each level of them told and folded into one struct that is passed by value.
-// Separators and code chunks are read from that struct, and nothing behind it looks at a level.
+// A word of levels, folded once: its five chunks in order, each level of them taken as a received level and added to one struct that is
+// passed by value. Separators and code chunks are read from that struct, and nothing behind it looks at a level.
 ghost use mathlib.Core.Path.{_≡_};
 ghost use lib.ListN.{length};
 ghost use Rattle.model.specs.Decoded.{meaning};
@@ -24,7 +24,7 @@ pub struct LevelWord {
     pub strength: Strength,
 }
 
-// The d levels of a word, told chunk by chunk, the strength going on from one to the next.
+// The d levels of a word, folded chunk by chunk, the strength going on from one to the next.
 pub fn word_of_levels(code: DecodedCode, at: Layout, levels: &[f32]) -> LevelWord
     requires { ⌜ LayoutOf (meaning code) at × (length (now levels) ≡ wordBits (meaning code)) ⌝ }
     ensures { λ r. ⌜ LevelWordOf (meaning code) (receivedAt (now (levels .entry))) r ⌝ }

@@ -1,4 +1,4 @@
-// Reading a word of levels, document 02, P5: the second way to see a word. Its levels are told once; then its separators are read by the
+// Reading a word of levels, document 02, P5: the second way to see a word. Its levels are folded once; then its separators are read by the
 // sums of their levels, and its code chunks and the nearest position by the rules of crate reader, over the bits that aren't erased.
 ghost use mathlib.Core.Path.{_≡_};
 ghost use Rattle.model.specs.ReadLevels.{readLevels};

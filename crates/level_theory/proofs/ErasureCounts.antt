@@ -1,4 +1,4 @@
--- Counts of told bits: each place is erased, or unerased as 0, or unerased as 1. Assumes nothing.
+-- Counts of received levels: each place is erased, or received as 0, or received as 1. Assumes nothing.
 use mathlib.Core.Path.{_≡_, refl}
 use mathlib.Core.Bool.{Bool, true, false, cond}
 use Prim.Native.Nat.{ℕ, zero, suc, _+_, _-_, _<_}
@@ -12,13 +12,13 @@ use Rattle.model.specs.declared.ReceivedLevel.{ReceivedLevel}
 use Rattle.model.specs.declared.ReceivedLevel.the-variants.{Lost, Level}
 use Rattle.level_theory.specs.UnitLevels.{zerosUnerased, onesUnerased}
 
--- a told bit is 0 or 1
+-- the bit of a received level is 0 or 1
 pub level-bit : (b : ReceivedLevel) → bitOfLevel b < 2
 unfolding bitOfLevel
 level-bit Lost = omega arith
 level-bit (Level x) = by-test (λ n. n < 2) (lt x zeroLevel) (λ _. omega arith) (λ _. omega arith)
 
--- a place is erased, or unerased as 0, or unerased as 1
+-- a place is erased, or received as 0, or received as 1
 one-of-three : (unerased : Bool) (x : ℕ) → x < 2 → cond unerased (1 - x) 0 + cond unerased x 0 + cond unerased 0 1 ≡ 1
 one-of-three true x h = omega arith
 one-of-three false x h = refl
@@ -29,7 +29,7 @@ module _ (t : ℕ → ReceivedLevel) where
   places-in-all zero = refl
   places-in-all (suc m) = omega (arith, places-in-all m, one-of-three (isUnerased (t m)) (bitOfLevel (t m)) (level-bit (t m)))
 
-  -- of bits that were all 0 those unerased as 1 are wrong, and of bits that were all 1 those unerased as 0
+  -- of bits that were all 0 those received as 1 are wrong, and of bits that were all 1 those received as 0
   pub wrong-zeros : (m : ℕ) (u : ℕ → ℕ) → ((p : ℕ) → p < m → u p ≡ 0) → distanceUnerased (unerasedIn t) m u (bitsIn t) ≡ onesUnerased t m
   unfolding distanceUnerased onesUnerased
   wrong-zeros m u hu =
@@ -40,7 +40,7 @@ module _ (t : ℕ → ReceivedLevel) where
   wrong-ones m u hu =
       sum-ext m (λ p b. let e : difference (u p) (bitOfLevel (t p)) ≡ 1 - bitOfLevel (t p) = omega (arith, hu p b, level-bit (t p)) in rw e)
 
-  -- where every place is not erased, the ones are those of the bits
+  -- where no place is erased, the ones are those of the bits
   pub ones-all-unerased : (m : ℕ) → ((p : ℕ) → p < m → isUnerased (t p) ≡ true) → onesUnerased t m ≡ sumBelow (bitsIn t) m
   unfolding onesUnerased
   ones-all-unerased m unerased = sum-ext m (λ p b. rw (unerased p b))

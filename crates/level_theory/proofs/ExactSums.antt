@@ -1,5 +1,5 @@
--- Levels that are 1, -1 or erased add up exactly: the sum of up to 2^24 of them is the float of the zeros unerased less the ones unerased, so
--- it is below zero exactly if more ones than zeros are not erased. Assumes nothing.
+-- Levels that are 1, -1 or erased add up exactly: the sum of up to 2^24 of them is the float of the unerased zeros less the unerased ones,
+-- so it is below zero exactly if there are more unerased ones than zeros. Assumes nothing.
 use mathlib.Core.Path.{_≡_, refl, ap, _∙_}
 use mathlib.Core.Bool.{cond}
 use Prim.Native.Nat.{ℕ, zero, suc, _+_, _-_, _^_, _≤_, _<_}
@@ -27,7 +27,7 @@ differences-add a b c d ha hb hc hd =
     integers-add binary32 (minus a b) (minus c d) (difference-in-float binary32 a b ha hb) (difference-in-float binary32 c d hc hd)
     ∙ ap (ofInt binary32) (sum-of-differences a b c d)
 
--- one told bit more
+-- one received level more
 bit-added : {b : ReceivedLevel} → UnitOrErased b → (zeros ones : ℕ) → zeros ≤ 2 ^ 24 → ones ≤ 2 ^ 24
     → plusLevel (difference zeros ones) b
     ≡ difference (zeros + cond (isUnerased b) (1 - bitOfLevel b) 0) (ones + cond (isUnerased b) (bitOfLevel b) 0)
@@ -42,14 +42,14 @@ unfolding ofInt
 zero-float = refl
 
 module _ (t : ℕ → ReceivedLevel) where
-  -- no more zeros are not erased than there are places, and no more ones
+  -- there are no more unerased zeros than places, and no more unerased ones
   few-zeros : (m : ℕ) → m ≤ 2 ^ 24 → zerosUnerased t m ≤ 2 ^ 24
   few-zeros m h = omega (arith, places-in-all t m)
 
   few-ones : (m : ℕ) → m ≤ 2 ^ 24 → onesUnerased t m ≤ 2 ^ 24
   few-ones m h = omega (arith, places-in-all t m)
 
-  -- the sum of m levels is the float of the zeros unerased less the ones unerased
+  -- the sum of m levels is the float of the unerased zeros less the unerased ones
   pub sum-exact : (m : ℕ) → m ≤ 2 ^ 24 → ((p : ℕ) → p < m → UnitOrErased (t p))
       → sumOfLevels t m ≡ zerosLessOnes t m
   unfolding sumOfLevels zerosUnerased onesUnerased sumBelow
@@ -62,7 +62,7 @@ module _ (t : ℕ → ReceivedLevel) where
     in-float : T (inFloat binary32 (minus (zerosUnerased t m) (onesUnerased t m)))
     in-float = difference-in-float binary32 (zerosUnerased t m) (onesUnerased t m) (few-zeros m h) (few-ones m h)
 
-    -- nothing of it is rounded off: it has the value of that difference, negative where more ones are not erased
+    -- nothing of it is rounded off: it has the value of that difference, negative where there are more unerased ones than zeros
     pub sum-value : HasValue (sumOfLevels t m) (ltb (zerosUnerased t m) (onesUnerased t m))
         ((zerosUnerased t m - onesUnerased t m) + (onesUnerased t m - zerosUnerased t m)) 1
     sum-value =
@@ -70,14 +70,14 @@ module _ (t : ℕ → ReceivedLevel) where
         (rw (← (difference-absolute (zerosUnerased t m) (onesUnerased t m)))
         (integer-value binary32 (minus (zerosUnerased t m) (onesUnerased t m)) in-float))
 
-    -- it is below zero exactly if more ones are not erased than zeros
+    -- it is below zero exactly if there are more unerased ones than zeros
     pub below-zero : lt (sumOfLevels t m) zeroLevel ≡ ltb (zerosUnerased t m) (onesUnerased t m)
     below-zero =
         rw (sum-exact m h units)
         (integer-below-zero binary32 (minus (zerosUnerased t m) (onesUnerased t m)) in-float
         ∙ difference-negative (zerosUnerased t m) (onesUnerased t m))
 
-    -- so a separator reads 1 exactly if more ones are not erased in it
+    -- so a separator reads 1 exactly if it has more unerased ones than zeros
     pub separator-by-count : separatorReading m t ≡ cond (ltb (zerosUnerased t m) (onesUnerased t m)) 1 0
     unfolding separatorReading
     separator-by-count = rw below-zero

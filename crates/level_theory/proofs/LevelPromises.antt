@@ -1,5 +1,5 @@
 -- The theorems of a read of levels, of the answer that the definition gives to any card and levels: each is a law of whatever is seen of a
--- word, so it holds of what the levels tell, by the chunk promise that a sound card's code keeps. Assumes nothing.
+-- word, so it holds of what is seen of the levels, by the chunk promise that a sound card's code keeps. Assumes nothing.
 use mathlib.Core.Path.{_≡_, refl, sym, _∙_}
 use mathlib.Core.Bool.{true, false}
 use mathlib.Core.List.{List}
@@ -42,7 +42,7 @@ use Rattle.level_theory.proofs.ErasureCounts.{level-bit}
 use Rattle.level_theory.proofs.LevelsSeen.{levels-see-chunks, levels-see, as-plain-seen, as-plain-residual}
 use Rattle.level_theory.proofs.LevelsAnswered.{position-answered, read-if-inside, levels-sound, levels-show}
 
--- ---- the nearest allowed position over bits that aren't erased
+-- ---- the nearest allowed position over the bits that aren't erased
 
 pub nearest-over-unerased : (card : List ℕ) (levels : List Float) → NearestOverUnerased card levels (positionAnswer (levelsAnswer card levels))
 unfolding NearestOverUnerased

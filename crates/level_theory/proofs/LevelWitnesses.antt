@@ -96,7 +96,7 @@ within-damage position e bits whole size on-track few is answer promise =
     let near = promise position card-B-sound on-track whole (rw size at (unit-levels bits)) few in
     near-within answer position e (rw is at near)
 
--- ---- what is told of chunks
+-- ---- what is counted of chunks
 
 -- the rule is the one that the separators name
 counts-by-rule : (card : List ℕ) (levels : List Float) (r : Reading) → CountsWrongOfChunks card levels (At r)
@@ -112,7 +112,7 @@ count-is : (C : Code) (unerased : ℕ → Bool) (chunk : ℕ → ℕ) (p q : ℕ
 unfolding CountsWrong
 count-is C unerased chunk p q bits is (count, as-read, counted, few) = as-read ∙ ap Differing (rw is at counted)
 
--- and 2 × wrong + erased is below D: nothing is told of a chunk for which that holds of no codeword
+-- and 2 × wrong + erased is below D: nothing is counted of a chunk for which that holds of no codeword
 no-count : (C : Code) (unerased : ℕ → Bool) (chunk : ℕ → ℕ) (p last : ℕ) (bits : ChunkBits)
     → anyBelow (withinErasures C unerased chunk) (suc last) ≡ false → p ≤ last → CountsWrong C true unerased chunk p bits → ⊥
 unfolding CountsWrong withinErasures

@@ -1,4 +1,4 @@
--- What the theorems of levels begin with: the position answer is the refusal, or what the levels tell; on a sound card it is that of the
+-- What the theorems of levels begin with: the position answer is the refusal, or what the levels read as; on a sound card it is that of the
 -- inner call; and what it shows that a word of levels is read. Assumes nothing.
 use mathlib.Core.Path.{_≡_, refl, sym, _∙_}
 use mathlib.Core.Bool.{false}
@@ -47,7 +47,7 @@ pub levels-sound : (card : List ℕ) (levels : List Float) → SoundCard card �
 unfolding levelsAnswer levelsRefusal readLevels firstRefusal
 levels-sound card levels sound = rw (eq-eqb (cardRefusal card) 0 sound)
 
--- a word that is read shows that its card is sound and that no row holds of what its levels tell, and the answer is its reading
+-- a word that is read shows that its card is sound and that no row holds of what is seen of its levels, and the answer is its reading
 pub levels-show : (card : List ℕ) (levels : List Float) (r : Reading) → positionAnswer (levelsAnswer card levels) ≡ At r
     → (cardRefusal card ≡ 0) × (refusalOf (twoEnds (codeOf card)) (seenInLevels (codeOf card) (receivedAt levels)) ≡ 0)
     × (readingInLevels (codeOf card) (receivedAt levels) ≡ r)

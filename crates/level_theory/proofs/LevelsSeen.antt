@@ -1,5 +1,6 @@
--- What is seen of a word of told bits: its code chunks are read over the unerased places; and its separators tell where each bit is
--- erased or told as the level 1 or -1. Where every level is 1 or -1, it is what is seen of the plain word of these bits. Assumes nothing.
+-- What is seen of a word of received levels: its code chunks are read over the unerased places; and its separators read a parity where each
+-- bit is erased or received as the level 1 or -1. Where every level is 1 or -1, it is what is seen of the plain word of these bits. Assumes
+-- nothing.
 use mathlib.Core.Path.{_≡_, refl, sym, ap, fun-ext, _∙_}
 use mathlib.Core.Bool.{true}
 use Prim.Native.Nat.{ℕ, _+_, _^_, _≤_, _<_}

@@ -1,4 +1,4 @@
--- What separators of levels tell: of bits that were all b, with 2 × wrong + erased below D, the levels sum to the side of b; and where
+-- What separators of levels read: of bits that were all b, with 2 × wrong + erased below D, the levels sum to the side of b; and where
 -- nothing is erased they read as the majority of their bits does. Assumes nothing.
 use mathlib.Core.Path.{_≡_, _∙_}
 use mathlib.Core.Bool.{true}

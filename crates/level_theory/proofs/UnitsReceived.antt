@@ -1,4 +1,4 @@
--- What the levels 1, -1 and 0 are told as: bits 0 and 1, and an erased bit; and none of them is outside the limits of a level.
+-- What the levels 1, -1 and 0 are taken as: bits 0 and 1, and an erased bit; and none of them is outside the limits of a level.
 -- Assumes nothing.
 use mathlib.Core.Path.{_≡_, refl}
 use mathlib.Core.Bool.{Bool, true, false}
@@ -44,7 +44,7 @@ pub minus-one-bit : bitOfLevel (Level minusOne) ≡ 1
 unfolding bitOfLevel lt ofInt
 minus-one-bit = refl
 
--- a bit that is erased, or told as the level 1 or -1
+-- a bit that is erased, or received as the level 1 or -1
 pub data UnitOrErased : ReceivedLevel → Type 0 where
   erased : UnitOrErased Lost
   plus : UnitOrErased (Level plusOne)
@@ -58,7 +58,7 @@ pub unit-received : {x : Float} → UnitLevel x → UnitOrErased (receivedLevel 
 unit-received (one level) = one-received level
 unit-received (zero-level negative) = rw (received-zero negative) erased
 
--- 1 and -1 are not erased
+-- 1 and -1 are unerased
 pub one-unerased : {x : Float} → OneLevel x → isUnerased (receivedLevel x) ≡ true
 unfolding isUnerased
 one-unerased plus-one = rw received-plus-one

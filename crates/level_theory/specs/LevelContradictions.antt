@@ -1,5 +1,5 @@
--- Document 02, P6, of words of levels: that levels are mixed from two telegrams, and what was answered without P6. The definitions are those
--- of plain words, applied to what the levels tell. Assumes nothing.
+-- Document 02, P6, of words of levels: that levels are mixed from two telegrams, and what was answered without P6. The definitions are
+-- those of plain words, applied to what the levels give. Assumes nothing.
 use mathlib.Core.Path.{_≡_}
 use mathlib.Core.Bool.{not}
 use mathlib.Core.List.{List, _∷_}

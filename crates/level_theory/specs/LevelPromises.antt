@@ -1,5 +1,5 @@
--- Document 02, P5 and P6: what is promised of a read of levels, as the contract of the call states it of the card, the levels and the position
--- answer, which is the answer but for the strength. Assumes nothing.
+-- Document 02, P5 and P6: what is promised of a read of levels, as the contract of the call states it of the card, the levels and the
+-- position answer, which is the answer but for the strength. Assumes nothing.
 use mathlib.Core.Path.{_≡_}
 use mathlib.Core.Bool.{false}
 use mathlib.Core.List.{List}
@@ -37,7 +37,7 @@ OffByAtMostTwiceWrongAndErased card levels answer =
 
 -- ---- the clause `promises`
 
--- For a sound card and d levels, none of them outside the limits: the answer is the allowed position nearest to the word over bits that
+-- For a sound card and d levels, none of them outside the limits: the answer is the allowed position nearest to the word over the bits that
 -- aren't erased, the smallest on a tie, with its residual over these bits; or the refusal by the first of rows 9 to 12 and 17 that holds
 unfoldable pub NearestOverUnerased : (card : List ℕ) (levels : List Float) → ReadAnswer → Type 0
 NearestOverUnerased card levels answer =

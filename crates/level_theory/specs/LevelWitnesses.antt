@@ -1,6 +1,6 @@
--- The promises of the reading of levels, held from below, as position_theory's Witnesses.antt holds those of the plain reading: of card B,
--- a damaged word of levels and whatever is answered, each row says what the promise alone gives, with 2 × wrong + erased just below D. So a
--- premise that nobody can meet, or a bound looser than document 02's, no longer gives its row. Assumes nothing.
+-- The promises of the reading of levels, held from below, as position_theory's PositionWitnesses.antt holds those of the plain reading: of
+-- card B, a damaged word of levels and whatever is answered, each row says what the promise alone gives, with 2 × wrong + erased just below
+-- D. So a premise that nobody can meet, or a bound looser than document 02's, no longer gives its row. Assumes nothing.
 use mathlib.Core.Path.{_≡_}
 use mathlib.Core.Bool.{true, false}
 use mathlib.Core.List.{List, [], _∷_, _++_, map}
@@ -77,8 +77,8 @@ wrongAndErased = chunks allZeros (erased ∷ 1 ∷ 0 ∷ []) allZeros allZeros a
 abbrev pub threeErased : List ℕ
 threeErased = chunks allZeros (erased ∷ erased ∷ erased ∷ []) allZeros allZeros allZeros
 
--- w(0) with both code chunks from w(1); the same with two bits erased in separator 1 and in chunk 1, and with one wrong in either; with chunk
--- 2 alone from w(1); and by rules 1 and 2, with a separator besides
+-- w(0) with both code chunks from w(1); the same with two bits erased in separator 1 and in chunk 1, and with one wrong in either; with
+-- chunk 2 alone from w(1); and by rules 1 and 2, with a separator besides
 abbrev pub mixed : List ℕ
 mixed = chunks allZeros allOnes allZeros allOnes allZeros
 
@@ -107,7 +107,7 @@ mixedLevels = ofInt binary32 (pos 3) ∷ minusOne ∷ minusOne ∷ levelsOf (all
 pub record LevelsWitnessed : Type 0 where
   -- a code chunk of which two of three places are erased is read
   pub two-erased : ChunksReadBelowD cardB → erasureReading (codeOf cardB) (λ p. eqb p 1) (λ p. 1) ≡ Codeword 1 0
-  -- the nearest over unerased bits: 6 and 7 are as near, or 13 and 15, and the smallest is answered; a mixed word is refused by 17
+  -- the nearest over the unerased bits: 6 and 7 are as near, or 13 and 15, and the smallest is answered; a mixed word is refused by 17
   pub smaller-of-two : (answer : ReadAnswer) → NearestOverUnerased cardB (levelsOf sixOrSeven) answer → ReadAs 6 0 2 answer
   pub smallest-of-wrong : (answer : ReadAnswer) → NearestOverUnerased cardB (levelsOf lastWrong) answer → ReadAs 13 1 3 answer
   pub smallest-of-erased : (answer : ReadAnswer) → NearestOverUnerased cardB (levelsOf lastErased) answer → ReadAs 13 0 3 answer

@@ -1,4 +1,4 @@
--- What the levels of a word tell: the unerased places, the bits there, what is seen of the word, and the word of these bits. Assumes
+-- What the levels of a word give: the unerased places, the bits there, what is seen of the word, and the word of these bits. Assumes
 -- nothing.
 use mathlib.Core.Bool.{Bool}
 use mathlib.Core.List.{List}

@@ -9,7 +9,7 @@ use Rattle.model.specs.Order.{lastCodeword}
 use Rattle.model.specs.Levels.{chunkWrong, erasureReading}
 use Rattle.model.specs.declared.Chunk.the-variants.{Codeword}
 
--- codeword p is one for which 2 × wrong + erased is below D, of a chunk of which these places are not erased
+-- codeword p is one for which 2 × wrong + erased is below D, of a chunk with these unerased places
 abbrev pub BelowD : Code → (unerased : ℕ → Bool) (chunk : ℕ → ℕ) (p : ℕ) → Type 0
 BelowD C unerased chunk p = (p ≤ lastCodeword C) × (2 * chunkWrong C unerased chunk p + erasedBelow unerased (C .n) < C .D)
 
@@ -20,6 +20,6 @@ pub record ReadsBelowD (C : Code) (unerased : ℕ → Bool) (chunk : ℕ → ℕ
   pub read : (p : ℕ) → BelowD C unerased chunk p → erasureReading C unerased chunk ≡ Codeword p (chunkWrong C unerased chunk p)
   pub below : (p e : ℕ) → erasureReading C unerased chunk ≡ Codeword p e → BelowD C unerased chunk p × (e ≡ chunkWrong C unerased chunk p)
 
--- for every sound card, every chunk and whichever places of it are not erased
+-- for every sound card, every chunk and whichever of its places are unerased
 unfoldable pub ChunksReadBelowD : (card : List ℕ) → Type 0
 ChunksReadBelowD card = SoundCard card → (unerased : ℕ → Bool) (chunk : ℕ → ℕ) → ReadsBelowD (codeOf card) unerased chunk

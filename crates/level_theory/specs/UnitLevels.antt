@@ -37,7 +37,7 @@ UnitLevels levels d = (p : ℕ) → p < d → UnitLevel (getD levels p nan)
 abbrev pub UnitLevelsFrom : (at : ℕ) (levels : List Float) (D : ℕ) → Type 0
 UnitLevelsFrom at levels D = (q : ℕ) → q < D → UnitLevel (getD levels (at + q) nan)
 
--- how many of the bits at the first m unerased places are 0, and how many are 1
+-- how many of the unerased bits at the first m places are 0, and how many are 1
 unfoldable pub zerosUnerased : (t : ℕ → ReceivedLevel) (m : ℕ) → ℕ
 zerosUnerased t m = sumBelow (λ p. cond (isUnerased (t p)) (1 - bitOfLevel (t p)) 0) m
 

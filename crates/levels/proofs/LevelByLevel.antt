@@ -1,4 +1,4 @@
--- The levels of a chunk told one by one: the bits and the unerased places are numbers that grow by one place a level, and the strength goes on
+-- The levels of a chunk, one by one: the bits and the unerased places are numbers that grow by one place a level, and the strength goes on
 -- from level to level. Assumes nothing.
 use mathlib.Core.Path.{_≡_, refl}
 use mathlib.Core.Bool.{Bool, true, false, cond}
@@ -17,7 +17,7 @@ use Rattle.level_theory.proofs.ErasureCounts.{level-bit}
 use Rattle.levels.specs.LevelChunks.{unerasedBits, OneLevelMore, LevelChunkOf}
 use Rattle.levels.specs.declared.level_chunk.LevelChunk.{LevelChunk}
 
--- a place is not erased or not: 1 or 0
+-- a place is unerased or not: 1 or 0
 flag-bit : (t : Bool) → cond t 1 0 < 2
 flag-bit true = omega arith
 flag-bit false = omega arith

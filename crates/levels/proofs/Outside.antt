@@ -1,5 +1,6 @@
--- A level is outside if its magnitude is above the limit, or differs from itself: an infinite one is above every number, and only what is not
--- a number differs from itself. Where the flags of levels are joined, one of them is outside just if the joined flag is set. Assumes nothing.
+-- A level is outside if its magnitude is above the limit, or differs from itself: an infinite one is above every number, and only what is
+-- not a number differs from itself. Where the flags of levels are joined, one of them is outside just if the joined flag is set. Assumes
+-- nothing.
 use mathlib.Core.Path.{_≡_, refl, sym, _∙_}
 use mathlib.Core.Bool.{Bool, true, false, not, cond, true≢false, _||_}
 use mathlib.Core.List.{List}

@@ -1,4 +1,4 @@
--- What is told of the levels of a chunk, in the struct that the code folds it into: bits and unerased places as numbers, and the strength; and
+-- What the levels of a chunk give, in the struct that the code folds it into: bits and unerased places as numbers, and the strength; and
 -- what a separator reads by its sum. Assumes nothing.
 use mathlib.Core.Path.{_≡_}
 use mathlib.Core.Bool.{cond}
@@ -9,7 +9,7 @@ use Rattle.model.specs.declared.ReceivedLevel.{ReceivedLevel}
 use Rattle.model.specs.Levels.{zeroLevel, isUnerased, bitOfLevel, unerasedIn, bitsIn, plusLevel, withLevel, strengthOf}
 use Rattle.levels.specs.declared.level_chunk.LevelChunk.{LevelChunk}
 
--- 1 for each place that is not erased
+-- 1 for each unerased place
 abbrev pub unerasedBits : (word : ℕ → ReceivedLevel) (p : ℕ) → ℕ
 unerasedBits word p = cond (unerasedIn word p) 1 0
 

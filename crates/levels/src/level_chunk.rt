@@ -1,5 +1,5 @@
-// What is told of the levels of a chunk, folded in order into a struct that is passed by value: bits, unerased places, the sum of the
-// levels, and the receiver's strength. Behind this nothing looks at a level.
+// What the levels of a chunk give, folded in order into a struct that is passed by value: bits, unerased places, the sum of the levels, and
+// the receiver's strength. Behind this nothing looks at a level.
 ghost use mathlib.Core.Path.{_≡_};
 ghost use Prim.Native.Nat.{_+_, _*_, _^_, _≤_, _<_};
 ghost use lib.ListN.{length};
@@ -14,8 +14,8 @@ use super::strength;
 use model::ReceivedLevel;
 use model::Strength;
 
-// The bits of a chunk and a 1 for each that is not erased, place 0 lowest, an erased bit 0 in both; the sum of the chunk's levels; and the strength
-// over the levels of the word up to the chunk's last.
+// The bits of a chunk and a 1 for each unerased one, place 0 lowest, an erased bit 0 in both; the sum of the chunk's levels; and the
+// strength over the levels of the word up to the chunk's last.
 pub struct LevelChunk {
     pub bits: u64,
     pub unerased: u64,
@@ -60,10 +60,10 @@ fn with_received(chunk: LevelChunk, worth: u64, received: ReceivedLevel) -> Leve
     }
 }
 
-// The `len` levels from place `at` on, told one by one, where `before` is the strength over the levels before them. Document 01 names the
+// The `len` levels from place `at` on, folded one by one, where `before` is the strength over the levels before them. Document 01 names the
 // forms: an enum with Level(f32) and Lost, made from each incoming f32 before separators and chunks are read; a separator sum in f32,
-// bit-exact against the fold's definition (`folded`), and exact where levels are 1, -1 or 0 (`exact`): then it is the zeros that are not erased
-// less the ones; and a struct of f32 sum of magnitudes and f32 greatest, passed by value through the word's levels. (It begins float by
+// bit-exact against the fold's definition (`folded`), and exact where levels are 1, -1 or 0 (`exact`): then it is the unerased zeros less
+// the unerased ones; and a struct of f32 sum of magnitudes and f32 greatest, passed by value through the word's levels. (It begins float by
 // float: copied whole it would be moved through an integer at each level.)
 pub fn chunk_of_levels(levels: &[f32], at: u32, len: u32, before: Strength) -> LevelChunk
     requires { ⌜ (at + len ≤ length (now levels)) × (at + len ≤ 320) × (len ≤ 64) ⌝ }

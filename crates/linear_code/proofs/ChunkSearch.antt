@@ -24,7 +24,7 @@ pub one-counted : (d count rest : ℕ) → count + ones rest ≡ ones d → (res
     → count + 1 + ones (bitAnd rest (rest - 1)) ≡ ones d
 one-counted d count rest all more = omega (arith, one-fewer rest (omega arith))
 
--- what the count tells at its end: it is the whole count, or it is past t and so is the whole
+-- what the count shows at its end: it is the whole count, or it is past t and so is the whole
 pub record Counted (t d count : ℕ) : Type 0 where
   pub whole : count ≤ t → count ≡ ones d
   pub past : t < count → t < ones d

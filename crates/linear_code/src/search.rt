@@ -80,11 +80,11 @@ fn search(k: u32, rows: [u64; 12], x: u64, limit: u32) -> Chunk
     found
 }
 
-// What the chunk `x` reads as, of which the places marked in `unerased` are not erased: the codeword for which 2 × wrong + erased is below D, with
-// the count of wrong places. Rows and chunk are cut to the unerased places, so that the search counts wrong places alone; and its
-// limit is the most that may be wrong. Of a plain chunk, all of which is not erased, this is the codeword within the radius, with the count of
-// places in which the two differ: the status is 0, and the values are the codeword's number and the count; the status is 10 where
-// there is no such codeword.
+// What the chunk `x` reads as, whose unerased places are those marked in `unerased`: the codeword for which 2 × wrong + erased is below D,
+// with the count of wrong places. Rows and chunk are cut to the unerased places, so that the search counts wrong places alone; and its
+// limit is the most that may be wrong. Of a plain chunk, with nothing erased, this is the codeword within the radius, with the count of
+// places in which the two differ: the status is 0, and the values are the codeword's number and the count; the status is 10 where there is
+// no such codeword.
 pub fn read_chunk(code: DecodedCode, x: u64, unerased: u64) -> Chunk
     requires { ⌜ Sound (meaning code) × (x < 2 ^ code .n) × (unerased < 2 ^ code .n) ⌝ }
     ensures unerased { λ r. ⌜ r ≡ erasureReading (meaning code) (marked (bit unerased)) (bit x) ⌝ }

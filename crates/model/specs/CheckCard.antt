@@ -1,5 +1,6 @@
--- Document 01, "Where a call can be turned down", and 02: the check of a card. Its rows are those of the card itself, `cardRefusal`: 1 to 5 and
--- 14. That an answer's status and values are the refusal and, where the card is sound, the values is in the call's contract. Assumes nothing.
+-- Document 01, "Where a call can be turned down", and 02: the check of a card. Its rows are those of the card itself, `cardRefusal`: 1 to 5
+-- and 14. That an answer's status and values are the refusal and, where the card is sound, those of `cardExpected` is in the call's
+-- contract. Assumes nothing.
 use mathlib.Core.List.{List, [], _∷_}
 use Prim.Native.Nat.{ℕ}
 use Rattle.model.specs.Refusals.{unlessRefused}
@@ -37,7 +38,7 @@ unfoldable pub cardValues : CardAnswer → List ℕ
 cardValues (Sound s) = s .n ∷ s .k ∷ s .track ∷ s .distance ∷ s .radius ∷ s .bits ∷ s .last ∷ []
 cardValues (Refused refusal) = []
 
--- the values of a sound card by their meaning: n, k, track, D, t, d and the last position
+-- the values expected of a sound card, by the definitions: n, k, track, D, t, d and the last position
 unfoldable pub cardExpected : List ℕ → List ℕ
 cardExpected b =
     let C : Code = codeOf b in C .n ∷ C .k ∷ trackOf b ∷ C .D ∷ radius C ∷ wordBits C ∷ lastPosition C ∷ []

@@ -1,8 +1,8 @@
--- Document 02, P5: words from a receiver that gives levels. What an arriving level is told as, how separators and code chunks read, the
--- residual over bits that aren't erased, and the receiver's strength. An erased bit is an erasure, and a bit that is not erased one that is not
--- erased: 2 × wrong + erased below D is the bound of errors-and-erasures decoding. A word is seen as `Seen` again, so that rules, rows and
--- ranges are those of Reading.antt; a level is a float of single precision, in the toolchain's own account of IEEE 754 (lib.Ieee).
--- Assumes nothing.
+-- Document 02, P5: words from a receiver that gives levels. What an arriving level is taken as, how separators and code chunks read, the
+-- residual over the bits that aren't erased, and the receiver's strength. A place whose level is zero is erased (the document says lost),
+-- and every other place is unerased: 2 × wrong + erased below D is the bound of errors-and-erasures decoding. A word is seen as `Seen`
+-- again, so that rules, rows and ranges are those of Reading.antt; a level is a float of single precision, in the toolchain's own account
+-- of IEEE 754 (lib.Ieee). Assumes nothing.
 use mathlib.Core.Bool.{Bool, true, false, cond, _||_}
 use mathlib.Core.List.{List}
 use Prim.Native.Nat.{ℕ, zero, suc, _+_, _*_, _^_}
@@ -44,15 +44,15 @@ outside x = isNan x || infinite x || lt (ofInt binary32 (pos 1000000)) (magnitud
 unfoldable pub anyOutside : (d : ℕ) (levels : List Float) → Bool
 anyOutside d levels = anyBelow (λ p. outside (getD levels p nan)) d
 
--- each arriving level is told either as a level or, when it is zero of either sign, as an erased bit
+-- the received level: an arriving level is taken as an erased bit when it is zero of either sign, and otherwise as a level
 unfoldable pub receivedLevel : Float → ReceivedLevel
 receivedLevel x = cond (eq x zeroLevel) Lost (Level x)
 
--- what the levels of a word are told as, place by place
+-- the received levels of a word, place by place
 unfoldable pub receivedAt : (levels : List Float) (p : ℕ) → ReceivedLevel
 receivedAt levels p = receivedLevel (getD levels p nan)
 
--- whether a bit is not erased, and which it is: negative for 1 (of an erased bit this means nothing)
+-- whether a bit is unerased, and which it is: negative for 1 (of an erased bit this means nothing)
 unfoldable pub isUnerased : ReceivedLevel → Bool
 isUnerased Lost = false
 isUnerased (Level x) = true
@@ -61,7 +61,7 @@ unfoldable pub bitOfLevel : ReceivedLevel → ℕ
 bitOfLevel Lost = 0
 bitOfLevel (Level x) = cond (lt x zeroLevel) 1 0
 
--- the places of a word that are not erased, and its bits
+-- the unerased places of a word, and its bits
 abbrev pub unerasedIn : (word : ℕ → ReceivedLevel) (p : ℕ) → Bool
 unerasedIn word p = isUnerased (word p)
 
@@ -82,7 +82,7 @@ sumOfLevels separator (suc D) = plusLevel (sumOfLevels separator D) (separator D
 unfoldable pub separatorReading : (D : ℕ) (separator : ℕ → ReceivedLevel) → ℕ
 separatorReading D separator = cond (lt (sumOfLevels separator D) zeroLevel) 1 0
 
--- of a code chunk against c(p): wrong are the unerased places and in which the two differ
+-- of a code chunk against c(p): wrong are the unerased places in which the two differ
 unfoldable pub chunkWrong : Code → (unerased : ℕ → Bool) (x : ℕ → ℕ) (p : ℕ) → ℕ
 chunkWrong C unerased x p = distanceUnerased unerased (C .n) (bit (codeword C p)) x
 
@@ -95,11 +95,11 @@ withinErasures C unerased x p = ltb (2 * chunkWrong C unerased x p + erasedBelow
 unfoldable pub erasureReading : Code → (unerased : ℕ → Bool) (x : ℕ → ℕ) → Chunk
 erasureReading C unerased x = readFirst (withinErasures C unerased x) (chunkWrong C unerased x) (2 ^ C .k)
 
--- what a code chunk of told bits reads as
+-- what a code chunk of received levels reads as
 abbrev pub levelsChunkReading : Code → (chunk : ℕ → ReceivedLevel) → Chunk
 levelsChunkReading C chunk = erasureReading C (unerasedIn chunk) (bitsIn chunk)
 
--- what is seen of a word of told bits
+-- what is seen of a word of received levels
 unfoldable pub seenInLevels : Code → (word : ℕ → ReceivedLevel) → Seen
 seenInLevels C word =
     record {
@@ -110,7 +110,7 @@ seenInLevels C word =
       read₂ = levelsChunkReading C (chunk₂ C word);
     }
 
--- the residual of a position over bits that aren't erased: in how many of them its word differs from the received word
+-- the residual of a position over the bits that aren't erased: in how many of them its word differs from the received word
 unfoldable pub residualUnerased : Code → (unerased : ℕ → Bool) (x : ℕ → ℕ) (position : ℕ) → ℕ
 residualUnerased C unerased x position = distanceUnerased unerased (wordBits C) (wordAt C position) x
 

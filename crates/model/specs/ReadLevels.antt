@@ -19,7 +19,7 @@ use Rattle.model.specs.declared.Strength.{Strength}
 use Rattle.model.specs.declared.LevelsAnswer.{LevelsAnswer}
 use Rattle.model.specs.declared.LevelsAnswer.the-variants.{At, Refused}
 
--- the rows of what is seen of a word of told bits, and the position nearest to it over bits that aren't erased
+-- the rows of what is seen of a word of received levels, and the position nearest to it over the bits that aren't erased
 abbrev pub rowsInLevels : Code → (word : ℕ → ReceivedLevel) → List Row
 rowsInLevels C word = let s : Seen = seenInLevels C word in rowsSeen (twoEnds C) s (ruleSeen s)
 
@@ -68,7 +68,7 @@ unfoldable pub strengthValues : LevelsAnswer → List Float
 strengthValues (At reading strength) = strength .sum ∷ strength .greatest ∷ []
 strengthValues (Refused refusal) = []
 
--- the values of a word of levels that is read, by their meaning; and beside them the strength's two floats
+-- the values expected of a word of levels that is read, by the definitions; and beside them the strength's two floats
 unfoldable pub levelsExpected : (card : List ℕ) (levels : List Float) → List ℕ
 levelsExpected card levels = readingValues (readingInLevels (codeOf card) (receivedAt levels))
 

@@ -51,6 +51,6 @@ unfoldable pub readValues : ReadAnswer → List ℕ
 readValues (At r) = readingValues r
 readValues (Refused refusal) = []
 
--- the values of a word that is read, by their meaning
+-- the values expected of a word that is read, by the definitions
 unfoldable pub readExpected : (card received : List ℕ) → List ℕ
 readExpected card received = readingValues (readingOf (codeOf card) received)

@@ -44,7 +44,7 @@ chunkReading C x = readFirst (withinRadius C x) (chunkDistance C x) (2 ^ C .k)
 unfoldable pub chunkRefusal : Code → (x : ℕ → ℕ) → ℕ
 chunkRefusal C x = firstRefusal (refuses 10 (not (ltb (first (withinRadius C x) (2 ^ C .k)) (2 ^ C .k))) ∷ [])
 
--- the values of a chunk that is read: the codeword's number, and in how many bits the two differ
+-- the values expected of a chunk that is read, by the definitions: the codeword's number, and in how many bits the two differ
 unfoldable pub chunkExpected : Code → (x : ℕ → ℕ) → List ℕ
 chunkExpected C x = let p : ℕ = first (withinRadius C x) (2 ^ C .k) in p ∷ chunkDistance C x p ∷ []
 
@@ -190,8 +190,8 @@ bitsNeeded true (Codeword p e) = Differing e
 bitsNeeded true Unreadable = NotRead
 bitsNeeded false read = NotRead
 
--- the allowed position whose word has fewest bits unlike the received word, the smallest on a tie; that count; the rule; and how many
--- bits each chunk that the rule names needed, by what is seen of the word
+-- the allowed position whose word differs from the received word in the fewest bits, the smallest on a tie; that count; the rule; and how
+-- many bits each chunk that the rule names needed, by what is seen of the word
 unfoldable pub nearestReading : (residual : ℕ → ℕ) → Seen → (rule : ℕ) → Range → Reading
 nearestReading residual s rule range =
     let position : ℕ = nearestIn residual range in

@@ -1,5 +1,5 @@
 -- Document 02, P1: Reed-Muller codes by their order r and number of variables m, and the majority voting of document 004.
--- A set of variables is an m-bit number S, whose bit v tells whether variable v is in it. A position p of the code, one of 2^m, gives
+-- A set of variables is an m-bit number S, whose bit v says whether variable v is in it. A position p of the code, one of 2^m, gives
 -- variable v the value of its bit v. A bit function y gives each position 0 or 1. Assumes nothing.
 use mathlib.Core.Bool.{Bool, cond, _&&_}
 use mathlib.Core.List.{List, _++_}

@@ -32,6 +32,6 @@ unfoldable pub voteValues : VoteAnswer → List ℕ
 voteValues (Voted number differing) = number ∷ differing ∷ []
 voteValues (Refused refusal) = []
 
--- the values of a chunk that is read by voting, by their meaning: the codeword's number, and in how many bits the two differ
+-- the values expected of a chunk that is read by voting, by the definitions: the codeword's number, and in how many bits the two differ
 unfoldable pub voteExpected : (r m chunk : ℕ) → List ℕ
 voteExpected r m chunk = votedNumber r m (bit chunk) ∷ votedDistance r m (bit chunk) ∷ []

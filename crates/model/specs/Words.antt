@@ -32,7 +32,7 @@ placesBefore D n zero = 0
 placesBefore D n (suc zero) = D
 placesBefore D n (suc (suc c)) = placesBefore D n (suc c) + chunkSize D n (suc c)
 
--- chunk c of a word, from its first place on: of its bits, or of what else is told of each place
+-- chunk c of a word, from its first place on: of its bits, or of whatever else each place has
 abbrev pub chunkOf : {A : Type 0} → Code → (c : ℕ) (x : ℕ → A) → ℕ → A
 chunkOf C c = fromPlace (placesBefore (C .D) (C .n) c)
 

@@ -48,8 +48,8 @@ pub enum WriteAnswer {
     Refused(u32),
 }
 
-// How many bits a code chunk of a word needed: in how many of those that are not erased it and the codeword that it reads as differ; or the
-// word's rule does not name the chunk, and it was not read.
+// How many bits a code chunk of a word needed: in how many of the unerased bits it and the codeword that it reads as differ; or the word's
+// rule does not name the chunk, and it was not read.
 pub enum ChunkBits {
     Differing(u32),
     NotRead,
@@ -70,7 +70,7 @@ pub enum ReadAnswer {
     Refused(u32),
 }
 
-// What an arriving level is told as: an erased bit, or a level. Document 01 names the form: an enum with Level(f32) and Lost.
+// What an arriving level is taken as: an erased bit, or a level. Document 01 names the form: an enum with Level(f32) and Lost.
 pub enum ReceivedLevel {
     Lost,
     Level(f32),

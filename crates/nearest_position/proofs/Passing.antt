@@ -43,7 +43,7 @@ differs : (u v : List ℕ) (q : ℕ) → (place u q ≡ place v q → ⊥) → d
 differs u v q differ = omega (arith, place-bit u q, place-bit v q)
 
 module _ (u v : List ℕ) (q : ℕ) where
-  -- the bit at place q of the exclusive-or of the two bytes that hold it tells whether the two bits differ
+  -- the bit at place q of the exclusive-or of the two bytes that hold it says whether the two bits differ
   pub joined-bit : (t : ℕ) → ((w : List ℕ) → getD w (q / 8) 0 ≡ bitXor (getD u (q / 8) 0) (getD v (q / 8) 0) → t ≡ place w q)
       → t ≡ difference (place u q) (place v q)
   unfolding place
@@ -89,14 +89,14 @@ module _ (u v : List ℕ) (x : ReceivedWord) (at q : ℕ) (s t : Scan) (from-at 
 
   -- a place that differs
   module _ (differ : place u q ≡ place v q → ⊥) where
-    -- a turn to what was received takes one from the residual, where the bit is not erased
+    -- a flip to what was received takes one from the residual, where the bit is not erased
     pub residual-positive : place (x .unerased) q ≡ 1 → place (x .bits) q ≡ place v q → 1 ≤ t .residual
     residual-positive unerased e =
         let alike : difference (place v q) (place (x .bits) q) ≡ 0 = rw e (omega arith) in
         let differing : difference (place u q) (place (x .bits) q) ≡ 1 = rw e (differs u v q differ) in
         omega (arith, so-far .residual, rw unerased at (residual-more u v x q room))
 
-    -- `next` is the residual after the bit was damaged to v's, and r the search one position on with that residual
+    -- `next` is the residual after the bit was flipped to v's, and r the search one position on with that residual
     pub pass-differing : (next : ℕ)
         → ((old : ℕ) → old < 2 → difference old (place v q) ≡ 1
         → next + differenceUnerased (place (x .unerased) q) old (place (x .bits) q) ≡ t .residual + differenceUnerased (place (x .unerased) q) (place v q) (place (x .bits) q))

@@ -25,7 +25,7 @@ passedTo u v q p = cond (ltb p q) (v p) (u p)
 abbrev pub residualTo : (u v : List ℕ) → ReceivedWord → (q : ℕ) → ℕ
 residualTo u v x q = receivedDistance 320 (passedTo (place u) (place v) q) x
 
--- what one place adds to that: 1 where it is not erased and the two bits differ
+-- what one place adds to that: 1 where it is unerased and the two bits differ
 abbrev pub differenceUnerased : (unerased a b : ℕ) → ℕ
 differenceUnerased unerased a b = cond (eqb unerased 1) (difference a b) 0
 

@@ -1,16 +1,16 @@
-// A received word, as the reader hands it on: its bits, and the places of it that are not erased, all of a plain word and those that aren't
-// erased of one that comes as levels.
+// A received word, as the reader hands it on: its bits and its unerased places, which are all places of a plain word, and of one that comes
+// as levels those whose level is not zero.
 ghost use Prim.Native.Nat.{_≤_};
 ghost use lib.ListN.{length};
 ghost use Rattle.nearest_position.specs.Received.{PlainWord};
 
-// The bits, with zeros after them, and a 1 for each place that is not erased.
+// The bits, with zeros after them, and a 1 for each unerased place.
 pub struct ReceivedWord {
     pub bits: [u8; 40],
     pub unerased: [u8; 40],
 }
 
-// A plain word: its bytes, with zeros after them, and all of it is not erased.
+// A plain word: its bytes, with zeros after them, and nothing erased.
 pub fn plain(word: &[u8]) -> ReceivedWord
     requires { ⌜ length (now word) ≤ 40 ⌝ }
     ensures { λ r. ⌜ PlainWord (now (word .entry)) r ⌝ }

@@ -1,5 +1,6 @@
-// The search for the nearest position through the places of two words, the first of which is damaged into the second: positions
-// are passed one after the other, the residual going up or down by one where the bit is not erased. It knows arrays and numbers alone, no code.
+// The search for the nearest position through the places of two words, the first of which is flipped bit by bit into the second: positions
+// are passed one after the other, the residual going up or down by one where the bit is not erased. It knows arrays and numbers alone, no
+// code.
 ghost use mathlib.Core.Path.{_≡_};
 ghost use Prim.Native.Nat.{ℕ, _+_, _≤_, _<_};
 ghost use Rattle.bits.specs.Sums.{difference};
@@ -36,8 +37,8 @@ pub fn begin(w: [u8; 40], x: ReceivedWord, low: u32) -> Scan
     }
 }
 
-// The residual after a bit was damaged to `new`: one less if that is what was received, one more if not, and as it was if the bit is erased.
-// A word has at most 320 bits, so a residual is at most that.
+// The residual after a bit was flipped to `new`: one less if that is what was received, one more if not, and as it was if the bit is
+// erased. A word has at most 320 bits, so a residual is at most that.
 fn next_residual(residual: u32, new: u32, received: u32, unerased: u32) -> u32
     requires { ⌜ (residual ≤ 320) × (new < 2) × (received < 2) × (unerased < 2) × (unerased ≡ 1 → received ≡ new → 1 ≤ residual) ⌝ }
     ensures { λ r. ⌜ ((old : ℕ) → old < 2 → difference old new ≡ 1 → r + differenceUnerased unerased old received ≡ residual + differenceUnerased unerased new received) ⌝ }

@@ -1,5 +1,5 @@
--- `card_writer::put_high_first` meets its contract. The loop's invariant: what is left of the number, put into the bytes that are left, makes
--- what the whole number makes of the bytes as they were. The measure is the bytes that are left. Assumes nothing.
+-- `card_writer::put_high_first` meets its contract. The loop's invariant: what is left of the number, put into the bytes that are left,
+-- makes what the whole number makes of the bytes as they were. The measure is the bytes that are left. Assumes nothing.
 use Prim.Native.Nat.{_+_, _-_, _≤_}
 use mathlib.Core.Path.{_≡_, sym, _∙_}
 use borrow.Author.Needs.{needs}

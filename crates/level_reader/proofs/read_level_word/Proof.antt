@@ -1,5 +1,5 @@
--- `level_reader::read` meets its contract: 15 and 16; then the levels are told, and 9 or what the named rule answers, with the strength
--- where the word is read. Assumes nothing.
+-- `level_reader::read_level_word` meets its contract: 15 and 16; then the levels are folded, and 9 or what the named rule answers, with the
+-- strength where the word is read. Assumes nothing.
 use mathlib.Core.Path.{_≡_, sym, ap, _∙_}
 use mathlib.Core.Bool.{false}
 use mathlib.Core.List.{List}
@@ -56,7 +56,7 @@ returns-2 c = let test = c .before in refused-16 _ _ (whole test) (sym (tested t
 word-of-levels-requires : tie.Need-word-of-levels-requires
 word-of-levels-requires c κs = let test = c .before in (laid test, whole test)
 
--- none is outside, and what is told names the rule of the levels
+-- none is outside, and the sums name the rule of the levels
 module _ (c : tie.After-rule-by-sums) where
   abbrev test : tie.After-any-outside
   test = c .before .before .before

@@ -1,4 +1,4 @@
--- `bit_arithmetic::powers::two_to` meets its contract: 1 shifted by fewer than 32 places stays within 32 bits, so no bit is erased.
+-- `bit_arithmetic::powers::two_to` meets its contract: 1 shifted by fewer than 32 places stays within 32 bits, so no bit is shifted out.
 -- Assumes nothing.
 use mathlib.Core.Path.{_∙_}
 use native.Mathlib.Nat.{one-mul}

@@ -1,5 +1,5 @@
--- `card_fields::fields::within_limits` meets its contract: the code asks the definition's tests in their order, the first four damaged
--- round. Each way out knows that those before it passed, and these decide the definition's value. Assumes nothing.
+-- `card_fields::fields::within_limits` meets its contract: the code asks the definition's tests in their order, the first four negated.
+-- Each way out knows that those before it passed, and these decide the definition's value. Assumes nothing.
 use borrow.Author.Tests.{le-leb, lt-leb}
 use Rattle.model.specs.Card.{withinLimits}
 use Rattle.card_fields.proofs.fields.within_limits.Statement.{statement}

@@ -1,5 +1,5 @@
--- `card_fields::offset::offset_is_outside` meets its contract: the two tests of the definition, of the number that the offset's bits stand for.
--- Assumes nothing.
+-- `card_fields::offset::offset_is_outside` meets its contract: the two tests of the definition, of the number that the offset's bits stand
+-- for. Assumes nothing.
 use mir.Facts.{toZ-ofZ}
 use Rattle.model.specs.Card.{offsetOutside}
 use Rattle.card_fields.proofs.offset.offset_is_outside.Statement.{statement}

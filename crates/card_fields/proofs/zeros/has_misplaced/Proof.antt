@@ -1,5 +1,5 @@
 -- `card_fields::zeros::has_misplaced` meets its contract: the first of the three tests that holds makes the whole hold, and where the
--- first two fail, the last alone tells it. Assumes nothing.
+-- first two fail, the last alone decides. Assumes nothing.
 use mathlib.Core.Path.{_≡_, sym, _∙_}
 use mathlib.Core.Bool.{false}
 use borrow.Author.Needs.{needs}

@@ -1,5 +1,5 @@
--- `level_reader::telling::word_of_levels` meets its contract: each chunk is told where the layout has it, the strength going on to where the next
--- one begins; bits and unerased places are those of the five chunks, and the sums those of the separators. Assumes nothing.
+-- `level_reader::level_word::word_of_levels` meets its contract: each chunk is folded where the layout has it, the strength going on to
+-- where the next one begins; bits and unerased places are those of the five chunks, and the sums those of the separators. Assumes nothing.
 use mathlib.Core.Path.{_≡_, ap, _∙_}
 use Prim.Native.Nat.{ℕ, _+_, _≤_}
 use native.Mathlib.Omega.{arith}
@@ -65,7 +65,7 @@ chunk-of-levels-requires-5 c κs =
     let known = c .before .before .before .before in
     ((omega arith, omega arith, omega arith), goes-on known _ _ _ _ (c .chunk-of-levels4 .ensures .0) (omega arith))
 
--- all five are told
+-- all five are folded
 module _ (c : tie.After-chunk-of-levels5) where
   abbrev known : tie.After-no-strength
   known = c .before .before .before .before .before

@@ -1,4 +1,5 @@
--- `levels::chunks::bit_in_place` meets its contract: the test is the definition's own, with the code's zero for its zero. Assumes nothing.
+-- `levels::level_chunk::bit_in_place` meets its contract: the test is the definition's own, with the code's zero for its zero. Assumes
+-- nothing.
 use native.Mathlib.Omega.{arith}
 use Rattle.model.specs.Levels.{bitOfLevel}
 use Rattle.levels.proofs.Constants.{zero-literal}

@@ -1,5 +1,5 @@
--- `levels::chunks::chunk_of_levels` meets its contract. The loop keeps what is told of the levels below place at + q, and their sum; that the sum
--- is exact for levels of 1, -1 and 0 is a law of the fold. The measure is the levels that are left. Assumes nothing.
+-- `levels::level_chunk::chunk_of_levels` meets its contract. The loop keeps what the levels below place at + q give, and their sum; that
+-- the sum is exact for levels of 1, -1 and 0 is a law of the fold. The measure is the levels that are left. Assumes nothing.
 use mathlib.Core.Path.{_≡_, _∙_}
 use Prim.Native.Nat.{_-_, _≤_}
 use native.Mathlib.Numerals.{add-one}

@@ -1,5 +1,5 @@
--- `levels::chunks::with_received` meets its contract: an erased bit changes nothing, and a level adds its bit, its place among those unerased, itself
--- and its magnitude. Assumes nothing.
+-- `levels::level_chunk::with_received` meets its contract: an erased bit changes nothing, and a level adds its bit, its place among the
+-- unerased ones, itself and its magnitude. Assumes nothing.
 use mathlib.Core.Path.{refl}
 use native.Mathlib.Omega.{arith}
 use borrow.Author.Needs.{needs}

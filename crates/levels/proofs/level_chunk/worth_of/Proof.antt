@@ -1,4 +1,4 @@
--- `levels::chunks::worth_of` meets its contract: 1 shifted by fewer than 64 places stays within 64 bits, so no bit is erased.
+-- `levels::level_chunk::worth_of` meets its contract: 1 shifted by fewer than 64 places stays within 64 bits, so no bit is shifted out.
 -- Assumes nothing.
 use mathlib.Core.Path.{_∙_}
 use native.Mathlib.Nat.{one-mul}

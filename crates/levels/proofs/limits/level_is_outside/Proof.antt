@@ -1,5 +1,5 @@
--- `levels::limits::level_is_outside` meets its contract: a magnitude above the limit is outside, and of one that is not, the test against itself
--- tells it. Assumes nothing.
+-- `levels::limits::level_is_outside` meets its contract: a magnitude above the limit is outside, and of one that is not, the test against
+-- itself decides. Assumes nothing.
 use mathlib.Core.Path.{sym}
 use borrow.Author.Needs.{needs}
 use Rattle.levels.proofs.Constants.{million-literal}

@@ -1,4 +1,5 @@
--- `levels::told::tell` meets its contract: the test is the definition's own, with the code's zero for its zero. Assumes nothing.
+-- `levels::received_level::received_level` meets its contract: the test is the definition's own, with the code's zero for its zero. Assumes
+-- nothing.
 use Rattle.model.specs.Levels.{receivedLevel}
 use Rattle.levels.proofs.Constants.{zero-literal}
 use Rattle.levels.proofs.received_level.received_level.Statement.{statement}

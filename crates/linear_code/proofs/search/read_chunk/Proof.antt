@@ -1,5 +1,5 @@
--- `read_chunk` meets its contract: what is not unerased is erased, so where D places or more are erased nothing is read, and otherwise the search
--- over the unerased places within its limit reads the chunk. Assumes nothing.
+-- `read_chunk` meets its contract: a place that is not marked is erased, so where D places or more are erased nothing is read, and
+-- otherwise the search over the unerased places within its limit reads the chunk. Assumes nothing.
 use mathlib.Core.Path.{_∙_}
 use native.Mathlib.Omega.{arith}
 use borrow.Author.Needs.{needs}

@@ -1,5 +1,5 @@
 -- `search` meets its contract. The loop over codewords keeps what `AtCandidate` says, the loop over bits that the bits counted
--- and those left are all that differ; both ways out of the bit loop tell whether the codeword lies within the limit. The count that is
+-- and those left are all that differ; both ways out of the bit loop show whether the codeword lies within the limit. The count that is
 -- answered is that of all bits in which the two differ. Assumes nothing.
 use mathlib.Core.Path.{_≡_, _∙_}
 use mathlib.Core.Bool.{false}

@@ -1,5 +1,5 @@
--- `unerased_rows` meets its contract. The loop's invariant: the rows below `z` stand in the array, cut to the unerased places. The measure is the
--- rows that are left. Assumes nothing.
+-- `unerased_rows` meets its contract. The loop's invariant: the rows below `z` stand in the array, cut to the unerased places. The measure
+-- is the rows that are left. Assumes nothing.
 use mathlib.Core.Path.{_≡_, refl}
 use Prim.Native.Nat.{ℕ, _-_, _≤_, _<_}
 use native.Mathlib.Omega.{arith}

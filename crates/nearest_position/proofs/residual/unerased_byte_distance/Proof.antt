@@ -1,5 +1,5 @@
--- `nearest_position::residual::unerased_byte_distance` meets its contract: two bytes differ in a bit that is not erased where their exclusive-or, cut to the
--- unerased bits, has a 1, and it has eight bits. Assumes nothing.
+-- `nearest_position::residual::unerased_byte_distance` meets its contract: two bytes differ in an unerased bit where their exclusive-or,
+-- cut to the unerased bits, has a 1, and it has eight bits. Assumes nothing.
 use mathlib.Core.Path.{ap, _∙_}
 use native.Mathlib.Omega.{arith}
 use lib.Bits.{bitXor, and-le-r}

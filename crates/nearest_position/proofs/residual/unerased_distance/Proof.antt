@@ -1,6 +1,6 @@
--- `nearest_position::residual::unerased_distance` meets its contract. The loop keeps that `unlike` is the distance of the first `j` bytes over the
--- unerased places, which is at most their 8j bits, so the sum fits; a byte more adds the distance of the two bytes. The measure is the bytes
--- that are left. Assumes nothing.
+-- `nearest_position::residual::unerased_distance` meets its contract. The loop keeps that `differing` is the distance of the first `j`
+-- bytes over the unerased places, which is at most their 8j bits, so the sum fits; a byte more adds the distance of the two bytes. The
+-- measure is the bytes that are left. Assumes nothing.
 use mathlib.Core.Path.{_≡_, refl}
 use Prim.Native.Nat.{_-_, _*_, _≤_}
 use native.Mathlib.Omega.{arith}

@@ -1,5 +1,5 @@
--- `nearest_position::scan::next_residual` meets its contract: old, new and received bit are each 0 or 1, and the bit is not erased or not, so the rest is
--- arithmetic; where one is taken, the contract asks for a residual of at least 1. Assumes nothing.
+-- `nearest_position::scan::next_residual` meets its contract: old, new and received bit are each 0 or 1, and the bit is erased or not, so
+-- the rest is arithmetic; where one is taken, the contract asks for a residual of at least 1. Assumes nothing.
 use mathlib.Core.Path.{_≡_}
 use mathlib.Core.Logic.{⊎-elim}
 use native.Mathlib.Omega.{arith}

@@ -24,7 +24,7 @@ abbrev μ-loop : tie.MeasureT-loop
 loop-holds : tie.Need-loop-holds Inv-loop μ-loop
 loop-holds c = (omega arith, c .pre .0, passes-none _ _ _ _ _ (c .pre .3))
 
--- the bit of the exclusive-or tells whether the two bits at this place differ
+-- the bit of the exclusive-or says whether the two bits at this place differ
 joined : (c : tie.After-bit-of Inv-loop μ-loop)
     → let loop = c .before .before .loop in
     let args = c .before .before .before .args in
