@@ -14,9 +14,9 @@ use Rattle.model.specs.Words.{millimetresOf, chunkSize, placesBefore, fiveChunk
 use Rattle.model.specs.ReedMuller.{orderWithinLimits}
 use Rattle.model.specs.MakeCard.{makeRefusal, makeAnswer}
 use Rattle.model.specs.CardsToTry.{cardA, cardB}
-use Rattle.computed_cases.specs.InnerCases.{Value, innerCases, cardOfUnequalBlocks, whereDivided, Divisions, dividedCases}
+use Rattle.computed_cases.specs.InnerCases.{InnerCase, innerCases, cardOfUnequalBlocks, whereDivided, Divisions, dividedCases}
 
-pub inner-cases : map (λ (f : Value). f .given) innerCases ≡ map (λ (f : Value). f .expected) innerCases
+pub inner-cases : map (λ (f : InnerCase). f .given) innerCases ≡ map (λ (f : InnerCase). f .expected) innerCases
 unfolding sumBelow
     weight listOf
     firstRefusal unlessRefused

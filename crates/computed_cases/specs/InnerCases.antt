@@ -36,39 +36,39 @@ abbrev rowSums : (card : List ℕ) (block : ℕ) → List ℤ
 rowSums card i = map pos (sumBeforeRow (codeOf card) i 0 ∷ listOf (codeOf card .k) (sumAfterRow (codeOf card) i))
 
 -- values of the definitions, and what the document says
-pub record Value : Type 0 where
+pub record InnerCase : Type 0 where
   pub given : List ℤ
   pub expected : List ℤ
 
-abbrev signed : List ℤ → List ℤ → Value
-signed given expected = record { given = given; expected = expected }
+abbrev signedCase : List ℤ → List ℤ → InnerCase
+signedCase given expected = record { given = given; expected = expected }
 
-abbrev value : List ℤ → List ℕ → Value
-value given expected = signed given (map pos expected)
+abbrev innerCase : List ℤ → List ℕ → InnerCase
+innerCase given expected = signedCase given (map pos expected)
 
-unfoldable pub innerCases : List Value
+unfoldable pub innerCases : List InnerCase
 innerCases =
     -- P1: m 0 is 13, and all 512 bytes are zero; `makeAnswer` has one clause for every refusal, so they are the same whatever r and m are
-    value (made (makeAnswer 14 0 0)) (13 ∷ replicate 512 0)
+    innerCase (made (makeAnswer 14 0 0)) (13 ∷ replicate 512 0)
     -- P2: -2^31 and 2^31 - 1
-    ∷ signed (offsetIn (0x80 ∷ 0x00 ∷ 0x00 ∷ 0x00 ∷ [])) (negℤ (pos 2147483648) ∷ [])
-    ∷ value (offsetIn (0x7f ∷ 0xff ∷ 0xff ∷ 0xff ∷ [])) (2147483647 ∷ [])
+    ∷ signedCase (offsetIn (0x80 ∷ 0x00 ∷ 0x00 ∷ 0x00 ∷ [])) (negℤ (pos 2147483648) ∷ [])
+    ∷ innerCase (offsetIn (0x7f ∷ 0xff ∷ 0xff ∷ 0xff ∷ [])) (2147483647 ∷ [])
     -- both ends of the range; no sound card has a position above 1,310,400
-    ∷ value (millimetresOf (negℤ (pos 20000)) 1310400 ∷ []) (65500000 ∷ [])
-    ∷ value (millimetresOf (pos 20000) 1310400 ∷ []) (65540000 ∷ [])
+    ∷ innerCase (millimetresOf (negℤ (pos 20000)) 1310400 ∷ []) (65500000 ∷ [])
+    ∷ innerCase (millimetresOf (pos 20000) 1310400 ∷ []) (65540000 ∷ [])
     -- P4, with 3D × i first: card B's one row, of weight 3, is added at codeword 1
-    ∷ value (rowSums cardB 0) (0 ∷ 0 ∷ [])
-    ∷ value (rowSums cardB 1) (9 ∷ 15 ∷ [])
+    ∷ innerCase (rowSums cardB 0) (0 ∷ 0 ∷ [])
+    ∷ innerCase (rowSums cardB 1) (9 ∷ 15 ∷ [])
     -- card A's two rows, of weight 2, are first added at codewords 1 and 2, and row 0 again at 3
-    ∷ value (rowSums cardA 0) (0 ∷ 0 ∷ 0 ∷ [])
-    ∷ value (rowSums cardA 1) (6 ∷ 10 ∷ 10 ∷ [])
-    ∷ value (rowSums cardA 2) (12 ∷ 16 ∷ 20 ∷ [])
-    ∷ value (rowSums cardA 3) (18 ∷ 26 ∷ 30 ∷ [])
+    ∷ innerCase (rowSums cardA 0) (0 ∷ 0 ∷ 0 ∷ [])
+    ∷ innerCase (rowSums cardA 1) (6 ∷ 10 ∷ 10 ∷ [])
+    ∷ innerCase (rowSums cardA 2) (12 ∷ 16 ∷ 20 ∷ [])
+    ∷ innerCase (rowSums cardA 3) (18 ∷ 26 ∷ 30 ∷ [])
     -- of four rows, just before row 3 is added, where it is, and at the last codeword
-    ∷ value (rowShares fourRowCard 7) (32 ∷ 12 ∷ 4 ∷ 0 ∷ [])
-    ∷ value (rowShares fourRowCard 8) (32 ∷ 12 ∷ 4 ∷ 2 ∷ [])
-    ∷ value (rowShares fourRowCard 15) (64 ∷ 24 ∷ 8 ∷ 2 ∷ [])
-    ∷ value (rowSums fourRowCard 15) (45 ∷ 109 ∷ 133 ∷ 141 ∷ 143 ∷ [])
+    ∷ innerCase (rowShares fourRowCard 7) (32 ∷ 12 ∷ 4 ∷ 0 ∷ [])
+    ∷ innerCase (rowShares fourRowCard 8) (32 ∷ 12 ∷ 4 ∷ 2 ∷ [])
+    ∷ innerCase (rowShares fourRowCard 15) (64 ∷ 24 ∷ 8 ∷ 2 ∷ [])
+    ∷ innerCase (rowSums fourRowCard 15) (45 ∷ 109 ∷ 133 ∷ 141 ∷ 143 ∷ [])
     ∷ []
 
 -- the positions, up to the last, at which a chunk, 0 to 4, of the position's word is divided

@@ -89,8 +89,8 @@ pub fn pass_places(u: [u8; 40], v: [u8; 40], x: ReceivedWord, at: u32, to: u32, 
         if places::bit_of(u[j] ^ v[j], q) != 0 {
             let new = places::bit_of(v[j], q);
             let received = places::bit_of(x.bits[j], q);
-            let known = places::bit_of(x.unerased[j], q);
-            let next = advance(state, next_residual(state.residual, new, received, known));
+            let unerased = places::bit_of(x.unerased[j], q);
+            let next = advance(state, next_residual(state.residual, new, received, unerased));
             state = next;
         }
         q += 1;
