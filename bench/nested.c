@@ -2,7 +2,7 @@
  * The chunk search in the form that document 01 fixes: nested loops over codewords and, inside, bits; the bit loop is left once t
  * is passed, the outer one as soon as a codeword within t is found. Codewords are stepped by one row, as the library's are.
  * Returns the codeword's number, and leaves in *bits in how many bits it and the chunk differ; or -1, and *bits as it was. Only
- * the bits that were unerased count: all of them, or those of a mask, the others being erased.
+ * the unerased bits count: all of them, or those of a mask, the others being erased.
  */
 #include <stdint.h>
 

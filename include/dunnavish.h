@@ -155,14 +155,14 @@ uint32_t dunnavish_write_word(const uint8_t *card, size_t card_bytes, uint32_t p
  * Read a received word. Answers 0 to 6, 8 to 12, 14, 17, or 100. On 0 the five values are those of the indices below. If five values
  * are lent and each of the word's five chunks has at most t bits damaged, the answer is 0 and the position is off by at most twice
  * the bits damaged in all, and by at most the bits damaged and the residual together. The answer is also 0, and both distances hold,
- * where the divided chunk of the position's word is damaged arbitrarily and each other one has at most t bits damaged. A chunk is divided
- * if some, but not all, of the places in which w(i) and w(i+1), the words of codewords i and i+1, differ in it are taken from
- * w(i+1), i being the position's block: at most one chunk is, and none at a block's start or at the last position.
+ * where the divided chunk of the position's word is damaged arbitrarily and each other one has at most t bits damaged. A chunk is
+ * divided if some, but not all, of the places in which w(i) and w(i+1), the words of codewords i and i+1, differ in it are taken
+ * from w(i+1), i being the position's block: at most one chunk is, and none at a block's start or at the last position.
  *
- * To draw a bar about the answer: decide on the greatest number of bits that you are ready to assume damaged in all. On either side
- * of the position the bar reaches as many steps as this number and the residual together, and it ends where the track does. It
- * holds the tram's position if no more bits were damaged, and no more than t in any chunk that is not divided. A residual above that
- * number shows that one or the other is not so.
+ * To draw an error bar about the answer: decide on the greatest number of bits that you are ready to assume damaged in all. On either
+ * side of the position the error bar reaches as many steps as this number and the residual together, and it ends where the track
+ * does. It holds the tram's position if no more bits were damaged, and no more than t in any chunk that is not divided. A residual
+ * above that number shows that one or the other is not so.
  *
  * The rule names the code chunks that are read: rule 1 names chunk 1, rule 2 chunk 2, and rule 3 both. The value of a chunk that
  * is read is the number of bits in which it, as received, differs from the codeword that it was read as: at most t, which is at
@@ -186,13 +186,13 @@ uint32_t dunnavish_read_word(const uint8_t *card, size_t card_bytes, const uint8
 
 /*
  * Read a received word whose bits came as levels, exactly d of them. A level below zero is a 1, one above zero a 0, and a zero of
- * either sign a bit that is erased. Any level, whatever its place, that is not a number, infinite or above 1,000,000 in magnitude is
- * answered DUNNAVISH_LEVEL_LIMITS; 1,000,000 itself is allowed. Answers 0 to 5, 9 to 12, 14 to 17, or 100.
+ * either sign an erased bit (document 02 calls it lost). Any level, whatever its place, that is not a number, infinite or above
+ * 1,000,000 in magnitude is answered DUNNAVISH_LEVEL_LIMITS; 1,000,000 itself is allowed. Answers 0 to 5, 9 to 12, 14 to 17, or 100.
  *
  * A separator reads 1 if its levels, added in order from zero in single precision, each sum rounded to the nearest, ties to even,
  * sum below zero; so a sum of zero reads 0. A code chunk reads as the codeword for which 2 * wrong + erased is below D (there is at
- * most one): wrong counts the bits that differ from it, erased those that are erased. On 0 the five values are those of
- * dunnavish_read_word, at the same indices, with one difference: only bits that are not erased count, in the residual, by which the
+ * most one): wrong counts the unerased bits that differ from it, erased the erased ones. On 0 the five values are those of
+ * dunnavish_read_word, at the same indices, with one difference: only unerased bits count, in the residual, by which the
  * nearest position is found, and in the bits of the chunks. The two floats are the receiver's strength, at the indices below. What is
  * said there of the separators and the codeword's number holds here too, a separator being what its levels sum to.
  *

@@ -170,7 +170,7 @@ pub trait Order {
     fn block_of(&self, position: usize) -> usize;
     /// The codeword within the radius of a chunk.
     fn find(&self, chunk: u64) -> Option<Found>;
-    /// The codeword that differs from a chunk in at most `most` of the bits that were unerased.
+    /// The codeword that differs from a chunk in at most `most` of the unerased bits.
     fn find_heard(&self, chunk: u64, heard: u64, most: u32) -> Option<Found>;
     /// The last position.
     fn last(&self) -> usize {

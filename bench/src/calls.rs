@@ -6,8 +6,8 @@ use std::hint::black_box;
 use std::time::Instant;
 
 /// Each call with its ways, the library's first. A baseline that keeps its card has nothing to check. `levels` is a read of the
-/// words of `read` as levels of 1 and -1, so that both answer alike, and `levels-lost` one of the same words with the bits erased that
-/// are damaged there.
+/// words of `read` as levels of 1 and -1, so that both answer alike, and `levels-lost` one of the same words with the bits erased
+/// that are damaged there.
 pub const CALLS: [(&str, &[&str]); 7] = [
     ("check", &["library", "each-call"]),
     ("read", &["library", "kept", "kept-nested", "each-call"]),

@@ -76,7 +76,7 @@ pub fn levels(code: &Code, word: &[u8]) -> Vec<f32> {
     (0..code.bits()).map(|place| if word[place / 8] >> (place % 8) & 1 == 1 { -1.0 } else { 1.0 }).collect()
 }
 
-/// The levels of a position's word, with zeros for the bits that are damaged in a damaged word of it.
+/// The levels of a position's word, with zeros for the bits in which a damaged word differs from it.
 pub fn levels_lost(kept: &Kept, position: u32, damaged: &[u8]) -> Vec<f32> {
     let mut word = vec![0; damaged.len()];
     baseline::write(kept, position, &mut word).unwrap();

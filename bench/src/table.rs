@@ -40,7 +40,7 @@ pub fn print(tramread: &str) {
     }
 }
 
-/// The first two lines of a table with these names, of which a row tells the cost of one call, or of one word of tramread's.
+/// The first two lines of a table with these names, of which a row gives the cost of one call, or of one word of tramread's.
 fn head(names: &str) {
     println!(
         "| {names} | call | by | instructions a call | library's instructions / this | calls a second | library's time / this |"

@@ -26,14 +26,14 @@
 //! dunnavish::write_word(&card, 7, &mut word)?;
 //! assert_eq!(word, [0x7f, 0x00]);
 //!
-//! word[0] ^= 0x20; // the cable turns a bit, in code chunk 1
+//! word[0] ^= 0x20; // the cable damages a bit, in code chunk 1
 //! let reading = dunnavish::read_word(&card, &word)?;
 //! assert_eq!((reading.position, reading.residual), (5, 1));
 //! // Rule 2 reads code chunk 2 alone, which came as its codeword is.
 //! assert_eq!(reading.rule, dunnavish::Rule::FirstDiffers);
 //! assert_eq!((reading.chunk1_bits, reading.chunk2_bits), (None, Some(0)));
 //!
-//! // The bar about this answer, where at most one bit is assumed damaged: it holds 7, where the tram stands.
+//! // The error bar about this answer, where at most one bit is assumed damaged: it holds 7, where the tram stands.
 //! let reach = reading.residual + 1;
 //! let bar = reading.position.saturating_sub(reach)..=summary.last.min(reading.position + reach);
 //! assert_eq!(bar, 3..=7);
@@ -188,7 +188,7 @@ impl CardSummary {
     }
 }
 
-/// Which separators of a received word were unlike the others: this names the rule that it was read by.
+/// Which separators of a received word differed from the others: this names the rule that it was read by.
 #[derive(Clone, Copy, Debug, PartialEq, Eq, PartialOrd, Ord, Hash)]
 #[repr(u32)]
 pub enum Rule {
@@ -217,7 +217,7 @@ impl Rule {
     }
 }
 
-/// What a received word was read as. Of a word of levels, bits that are erased are in none of its counts.
+/// What a received word was read as. Of a word of levels, erased bits are in none of its counts.
 #[derive(Clone, Copy, Debug, PartialEq, Eq, Hash)]
 pub struct Reading {
     /// The position, from 0 to the card's last.
@@ -333,14 +333,15 @@ pub fn write_word(card: &[u8], position: u32, word: &mut [u8]) -> Result<(), Ref
 /// If each of the word's five chunks has at most [`CardSummary::radius`] bits damaged, the answer is a reading, and its position
 /// is off by at most twice the bits damaged in all, and by at most the bits damaged and [`Reading::residual`] together; and each
 /// chunk that was read differs from its codeword in as many bits as are damaged in it. The word is also read, and both distances
-/// hold, where the divided chunk of the position's word is damaged arbitrarily and each other one has at most that many bits damaged. A
-/// chunk is divided if some, but not all, of the places in which w(i) and w(i+1), the words of codewords i and i+1, differ in it
-/// are taken from w(i+1), i being the position's block: at most one chunk is, and none at a block's start or at the last position.
+/// hold, where the divided chunk of the position's word is damaged arbitrarily and each other one has at most that many bits
+/// damaged. A chunk is divided if some, but not all, of the places in which w(i) and w(i+1), the words of codewords i and i+1,
+/// differ in it are taken from w(i+1), i being the position's block: at most one chunk is, and none at a block's start or at the
+/// last position.
 ///
-/// To draw a bar about the answer: decide on the greatest number of bits that you are ready to assume damaged in all. On either side
-/// of the position the bar reaches as many steps as this number and the residual together, and it ends where the track does. It
-/// holds the tram's position if no more bits were damaged, and no more than the radius in any chunk that is not divided. A residual
-/// above that number shows that one or the other is not so.
+/// To draw an error bar about the answer: decide on the greatest number of bits that you are ready to assume damaged in all. On
+/// either side of the position the error bar reaches as many steps as this number and the residual together, and it ends where the
+/// track does. It holds the tram's position if no more bits were damaged, and no more than the radius in any chunk that is not
+/// divided. A residual above that number shows that one or the other is not so.
 ///
 /// Of a word that is read, separator 1, by [`Rule::FirstDiffers`] separator 3, has the parity of the number of its codeword. So a
 /// word mixed from two telegrams, with that separator from one and the codeword from another whose number has the other parity, is
@@ -355,13 +356,13 @@ pub fn read_word(card: &[u8], word: &[u8]) -> Result<Reading, Refusal> {
     reading(values)
 }
 
-/// Reads a received word whose bits came as levels, [`CardSummary::word_bits`] of them, and tells the receiver's strength beside
-/// the answer. A level below zero is a 1, one above zero a 0, and a zero of either sign a bit that is erased.
+/// Reads a received word whose bits came as levels, [`CardSummary::word_bits`] of them, and gives the receiver's strength beside
+/// the answer. A level below zero is a 1, one above zero a 0, and a zero of either sign an erased bit.
 ///
 /// A separator reads 1 if its levels, added in order from zero in single precision, each sum rounded to the nearest, ties to even,
 /// sum below zero. A code chunk reads as the codeword for which 2 × wrong + erased is below D, the card's [`CardSummary::distance`]:
-/// wrong counts the bits that differ from it, erased those that are erased. Only bits that aren't erased count, in the residual, by
-/// which the nearest position is found, and in the bits of the chunks.
+/// wrong counts the unerased bits that differ from it, erased the erased ones. Only unerased bits count, in the residual, by which
+/// the nearest position is found, and in the bits of the chunks.
 ///
 /// If there are as many levels as a word has bits, each 1 or -1, the reading, or the refusal, is that of [`read_word`] for these
 /// bits. If there are as many, each 1, -1 or 0, and, against the word of a position, each of the five chunks has 2 × wrong + erased

@@ -80,7 +80,7 @@ fn word_of(kept: &Kept, position: usize) -> Vec<u8> {
     word
 }
 
-/// Reads the word of a position with `turned[i]` bits turned in chunk i.
+/// Reads the word of a position with `turned[i]` bits damaged in chunk i.
 fn both_read_damaged(card: &[u8], kept: &Kept, random: &mut Random, position: usize, turned: [usize; 5]) {
     let mut word = word_of(kept, position);
     for ((from, length), count) in kept.code().chunks().into_iter().zip(turned) {
@@ -97,7 +97,7 @@ fn both_read_damaged(card: &[u8], kept: &Kept, random: &mut Random, position: us
         assert!(off <= all + read.residual as usize);
         let unlike = word_of(kept, read.position as usize).iter().zip(&word).map(|(a, b)| (a ^ b).count_ones()).sum();
         assert_eq!(read.residual, unlike);
-        // a code chunk that the rule names was whole, so what it needed is what was turned in it
+        // a code chunk that the rule names was whole, so what it needed is what was damaged in it
         let counts = [1, 3].map(|chunk| Some(turned[chunk] as u32));
         let expected = [counts[0].filter(|_| read.rule != 2), counts[1].filter(|_| read.rule != 1)];
         assert_eq!([read.chunk1_bits, read.chunk2_bits], expected);
@@ -156,7 +156,7 @@ fn at_the_ends(card: &[u8], kept: &Kept) {
     }
 }
 
-/// A word's bits as levels: of magnitude 1, the same with some lost, these of many magnitudes, and then one outside the limits.
+/// A word's bits as levels: of magnitude 1, the same with some erased, these of many magnitudes, and then one outside the limits.
 fn at_levels(card: &[u8], kept: &Kept, random: &mut Random, word: &[u8]) {
     let code = kept.code();
     let sign = |place: usize| if word[place / 8] >> (place % 8) & 1 == 1 { -1.0 } else { 1.0 };
@@ -304,7 +304,7 @@ fn made_cards_and_votes() {
         let kept = both_check(&card).unwrap();
         let Code { n, radius, .. } = *kept.code();
         for _ in 0..400 {
-            // a codeword with up to t + 2 bits turned, then noise
+            // a codeword with up to t + 2 bits damaged, then noise
             let codeword = kept.codeword(random.below(kept.code().last_block() + 1));
             let turned = random.below(radius + 3);
             let places = random.some_below(turned.min(n), n);

@@ -1,4 +1,4 @@
-//! Separators that contradict the codeword, request P6: every word of two small cards, and words pasted from two. Single words
+//! Separators that contradict the codeword, request P6: every word of two small cards, and words mixed from two. Single words
 //! stand in cases.txt.
 mod cards;
 mod codes;
@@ -59,7 +59,7 @@ fn whole(card: &[u8], summary: &CardSummary, i: u32) -> Vec<bool> {
 }
 
 /// A word whose separators, from w(i) and, where the rule has another, from a word of the other parity, name a rule, and whose code
-/// chunks that the rule names are w(j)'s. In each chunk t bits are turned.
+/// chunks that the rule names are w(j)'s. In each chunk t bits are damaged.
 fn pasted(card: &[u8], summary: &CardSummary, rule: usize, [i, j]: [u32; 2], random: &mut Random) -> Vec<bool> {
     let (one, other, code) = (whole(card, summary, i), whole(card, summary, i ^ 1), whole(card, summary, j));
     let noise: Vec<bool> = one.iter().map(|_| random.below(2) == 1).collect();
@@ -79,7 +79,7 @@ fn pasted(card: &[u8], summary: &CardSummary, rule: usize, [i, j]: [u32; 2], ran
     word
 }
 
-/// Words pasted from two: read if the separator has the parity of j, and refused otherwise, by 12 where there is no block.
+/// Words mixed from two: read if the separator has the parity of j, and refused otherwise, by 12 where there is no block.
 #[test]
 fn words_pasted_from_two() {
     let mut random = Random(17);

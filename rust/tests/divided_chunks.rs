@@ -1,5 +1,5 @@
-//! Words whose divided chunk is turned at will, and the bar about the answer, request P7: every such word of two small cards, and
-//! many of larger ones. Single words, and where chunks are divided, stand in cases.txt.
+//! Words whose divided chunk is damaged arbitrarily, and the error bar about the answer, request P7: every such word of two small
+//! cards, and many of larger ones. Single words, and where chunks are divided, stand in cases.txt.
 mod cards;
 mod codes;
 mod divided;
@@ -26,7 +26,7 @@ fn card_b() -> Vec<u8> {
     card_of(3, 1, 14, &[7])
 }
 
-/// The positions that the bar holds about an answer, where at most so many bits are assumed turned: as many steps and the
+/// The positions that the error bar holds about an answer, where at most so many bits are assumed damaged: as many steps and the
 /// residual on either side, as far as the track goes.
 fn bar(card: &[u8], word: &[u8], turned: u32) -> (u32, u32) {
     let (reading, last) = (read_word(card, word).unwrap(), check_card(card).unwrap().last);
@@ -36,16 +36,16 @@ fn bar(card: &[u8], word: &[u8], turned: u32) -> (u32, u32) {
 
 #[test]
 fn the_bar_about_an_answer() {
-    // position 7 with one bit turned, in chunk 1, is read as 5 with residual 1; the bar for one bit just holds 7
+    // position 7 with one bit damaged, in chunk 1, is read as 5 with residual 1; the error bar for one bit just holds 7
     assert_eq!(bar(&card_b(), &[0x5f, 0x00], 1), (3, 7));
-    // position 7 with separator 2 turned whole is read as 9 with residual 1; the bar for three bits
+    // position 7 with separator 2 damaged in every bit is read as 9 with residual 1; the error bar for three bits
     assert_eq!(bar(&card_b(), &[0xbf, 0x01], 3), (5, 13));
     // cut at both ends of the track
     assert_eq!(bar(&card_b(), &[0x00, 0x00], 2), (0, 2));
     assert_eq!(bar(&card_b(), &[0xff, 0x7f], 2), (13, 15));
 }
 
-/// Asserts that a word of a position is read, within both distances, and that the residual is at most the bits turned.
+/// Asserts that a word of a position is read, within both distances, and that the residual is at most the bits damaged.
 fn within_both_distances(card: &[u8], position: u32, sent: &[bool], word: &[bool]) {
     let reading = read_word(card, &packed(word)).unwrap_or_else(|refusal| panic!("{position} as {word:?}: {refusal}"));
     let turned = sent.iter().zip(word).filter(|(sent, came)| sent != came).count() as u32;
@@ -54,8 +54,8 @@ fn within_both_distances(card: &[u8], position: u32, sent: &[bool], word: &[bool
     assert!(reading.residual <= turned, "{position} as {word:?}, {turned} turned: {reading:?}");
 }
 
-/// Every word of a card in which the divided chunk is turned at will and each other has at most t bits turned: how many there
-/// are. Which places are turned is a number, place p its bit worth 2^p.
+/// Every word of a card in which the divided chunk is damaged arbitrarily and each other has at most t bits damaged: how many
+/// there are. Which places are damaged is a number, place p its bit worth 2^p.
 fn every(card: &[u8]) -> usize {
     let summary = check_card(card).unwrap();
     let mut tried = 0;

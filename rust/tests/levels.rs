@@ -19,7 +19,7 @@ fn card_b() -> Vec<u8> {
     card_of(3, 1, 14, &[7])
 }
 
-/// The levels of a word: -1 for a 1, 1 for a 0, and for lost bits the two zeros, `?` the positive and `-` the negative one.
+/// The levels of a word: -1 for a 1, 1 for a 0, and for erased bits the two zeros, `?` the positive and `-` the negative one.
 fn levels(word: &str) -> Vec<f32> {
     let level = |bit| match bit {
         '1' => -1.0,
@@ -68,7 +68,7 @@ fn a_lost_bit_in_each_chunk() {
     assert_eq!(read(&card, "111 1-1 111 100 000"), rule_1(10, 0, 0));
     assert_eq!(read(&card, "111 111 11? 100 000"), rule_1(10, 0, 0));
     assert_eq!(read(&card, "111 111 111 100 -00"), rule_1(10, 0, 0));
-    // the words of 9 and 10 differ in place 9 alone: where it is lost, both have no bit unlike, and the smaller is the answer
+    // the words of 9 and 10 differ in place 9 alone: where it is erased, both have no bit differing, and the smaller is the answer
     assert_eq!(read(&card, "111 111 111 ?00 000"), rule_1(9, 0, 0));
     assert_eq!(read(&card, "111 111 111 -00 000"), rule_1(9, 0, 0));
     // 111 100 000 000 000, position 4, rule 2; the words of 3 and 4 differ in place 3, which is in the chunk that is not named
@@ -76,7 +76,7 @@ fn a_lost_bit_in_each_chunk() {
     assert_eq!(read(&card, "111 -00 000 000 000"), rule_2(3, 0, 0));
     // 000 000 000 000 000, position 0, rule 3
     assert_eq!(read(&card, "000 0?0 000 00- 000"), rule_3(0, 0, [0, 0]));
-    // position 15: where the last place is lost, the word of 14 is as near, and where the last three are, that of 12
+    // position 15: where the last place is erased, the word of 14 is as near, and where the last three are, that of 12
     assert_eq!(read(&card, "111 111 111 111 11?"), rule_3(14, 0, [0, 0]));
     assert_eq!(read(&card, "111 111 111 111 ?-?"), rule_1(12, 0, 0));
 }
@@ -84,16 +84,16 @@ fn a_lost_bit_in_each_chunk() {
 #[test]
 fn a_lost_bit_is_in_no_count() {
     let card = card_b();
-    // position 10's word with place 4 turned and place 10 lost, in which alone the words of 10 and 11 differ
+    // position 10's word with place 4 damaged and place 10 erased, in which alone the words of 10 and 11 differ
     assert_eq!(read(&card, "111 101 111 1?0 000"), rule_1(10, 1, 1));
-    // position 12's with place 4 lost and place 10 turned: 10 has place 11 unlike, 12 has place 10, and 11 has both
+    // position 12's with place 4 erased and place 10 damaged: 10 differs in place 11, 12 in place 10, and 11 in both
     assert_eq!(read(&card, "111 1?1 111 101 000"), rule_1(10, 1, 0));
-    // position 0's with one bit lost and one turned, in either chunk
+    // position 0's with one bit erased and one damaged, in either chunk
     assert_eq!(read(&card, "000 100 000 0?0 000"), rule_3(0, 1, [1, 0]));
     assert_eq!(read(&card, "000 ?00 000 010 000"), rule_3(0, 1, [0, 1]));
 }
 
-/// D is 3: one bit wrong, 2, is read, two lost, 2, are; one wrong and one lost, 3, and three lost, 3, are not.
+/// D is 3: one bit wrong, 2, is read, two erased, 2, are; one wrong and one erased, 3, and three erased, 3, are not.
 #[test]
 fn a_chunk_of_card_b_bears_2() {
     let card = card_b();
@@ -114,12 +114,12 @@ fn a_chunk_of_card_b_bears_2() {
     assert_eq!(read(&card, "000 ?10 000 000 000"), Err(Refusal::ChunkUnreadable));
     assert_eq!(read(&card, "000 000 000 1?0 000"), Err(Refusal::ChunkUnreadable));
     assert_eq!(read(&card, "000 ?1- 000 0?? 000"), Err(Refusal::ChunksDiffer));
-    // a chunk that is not named may be lost whole: 3 to 6 have no bit unlike, and 9 to 12
+    // a chunk that is not named may be erased whole: 3 to 6 have no bit differing, and 9 to 12
     assert_eq!(read(&card, "111 ??? 000 000 000"), rule_2(3, 0, 0));
     assert_eq!(read(&card, "111 111 111 -?- 000"), rule_1(9, 0, 0));
 }
 
-/// D is 2, t is 0: one bit lost, 1, is read, since any two bits of a codeword tell the third; two lost or one wrong, 2, are not.
+/// D is 2, t is 0: one bit erased, 1, is read, since any two bits of a codeword give the third; two erased or one wrong, 2, are not.
 #[test]
 fn a_chunk_of_card_a_bears_1() {
     let card = card_a();
@@ -135,7 +135,7 @@ fn a_chunk_of_card_a_bears_1() {
     assert_eq!(read(&card, "11 -11 11 01? 11"), rule_3(30, 0, [0, 0]));
 }
 
-/// D is 64: 31 bits wrong and 1 lost are 63; with 2 lost they are 64, as are the other 31 against the other codeword.
+/// D is 64: 31 bits wrong and 1 erased are 63; with 2 erased they are 64, as are the other 31 against the other codeword.
 #[test]
 fn a_chunk_of_64_bits_bears_63() {
     let card = card_of(64, 1, 65_535, &[u64::MAX]);
@@ -162,13 +162,13 @@ fn a_separator_that_sums_to_zero_reads_0() {
     assert_eq!(read(&card_a(), "10 000 00 000 00"), rule_3(1, 0, [0, 0]));
     assert_eq!(read(&card_a(), "11 110 10 000 00"), rule_2(5, 0, 0));
     assert_eq!(read(&card_a(), "11 110 11 110 10"), rule_1(9, 0, 0));
-    // card B, with a lost bit: the words of 1, 7 and 13
+    // card B, with an erased bit: the words of 1, 7 and 13
     assert_eq!(read(&card_b(), "1?0 000 000 000 000"), rule_3(1, 0, [0, 0]));
     assert_eq!(read(&card_b(), "111 111 10- 000 000"), rule_2(7, 0, 0));
     assert_eq!(read(&card_b(), "111 111 111 111 1?0"), rule_1(13, 0, 0));
-    // a separator that is lost whole: 0 1 1, rule 2, and chunk 2 reads the last p
+    // a separator that is erased whole: 0 1 1, rule 2, and chunk 2 reads the last p
     assert_eq!(read(&card_b(), "?-? 111 111 111 111"), Err(Refusal::NoBlock));
-    // 2.5 - 1 - 1.5 is 0 though two of three are negative; place 0 is unlike position 3's word
+    // 2.5 - 1 - 1.5 is 0 though two of three are negative; place 0 differs from position 3's word
     assert_eq!(reading(&card_b(), &levels_with("000 000 000 000 000", 0, &[2.5, -1.0, -1.5])), rule_3(3, 1, [0, 0]));
 }
 
@@ -180,7 +180,7 @@ fn a_separator_goes_by_its_sum_alone() {
     assert_eq!(first([-2.5, 1.0, 1.0]), rule_2(1, 0, 0));
     // two weak ones of three; the word of 2
     assert_eq!(first([-1.0, -1.0, 2.5]), rule_3(2, 0, [0, 0]));
-    // the least single-precision number, 2^-149, is not lost, and neither is its sum
+    // the least single-precision number, 2^-149, is not erased, and neither is its sum
     let least = f32::from_bits(1);
     assert_eq!(first([-least, -least, least]), rule_2(2, 0, 0));
     // each separator's sum starts from zero: the word of 6, separator 1 strong
@@ -192,16 +192,16 @@ fn a_separator_goes_by_its_sum_alone() {
 fn separator_sums_are_rounded_in_order() {
     let card = card_b();
     let at = |place: usize, separator: [f32; 3]| reading(&card, &levels_with("000 000 000 000 000", place, &separator));
-    // 1,000,000 - 0.03 is rounded to 1,000,000, so the sum is 0. The bits are 0 1 1: position 3 has place 0 unlike
+    // 1,000,000 - 0.03 is rounded to 1,000,000, so the sum is 0. The bits are 0 1 1: position 3 differs in place 0
     assert_eq!(at(0, [1e6, -0.03, -1e6]), rule_3(3, 1, [0, 0]));
-    // in separators 2 and 3, position m from 0 to 3 has 2 + m bits unlike
+    // in separators 2 and 3, position m from 0 to 3 has 2 + m bits differing
     assert_eq!(at(6, [1e6, -0.03, -1e6]), rule_3(0, 2, [0, 0]));
     assert_eq!(at(12, [1e6, -0.03, -1e6]), rule_3(0, 2, [0, 0]));
     // 0.04 is more than half, and 1/32 is half, when the even neighbour, 1,000,000, is taken
     assert_eq!(at(0, [1e6, -0.04, -1e6]), rule_2(3, 1, 0));
     assert_eq!(at(0, [1e6, -0.03125, -1e6]), rule_3(3, 1, [0, 0]));
     // the same three levels in other orders: -0.03 comes last and is left; it comes first and is rounded away, bits 1 0 1, when
-    // position 1 has place 2 unlike
+    // position 1 differs in place 2
     assert_eq!(at(0, [1e6, -1e6, -0.03]), rule_2(3, 1, 0));
     assert_eq!(at(0, [-0.03, 1e6, -1e6]), rule_3(1, 1, [0, 0]));
 }

@@ -106,7 +106,7 @@ static void read_as(const uint8_t card[DUNNAVISH_CARD_BYTES], uint8_t low, uint8
 /*
  * Words of card B, place 0 leftmost, with one bit damaged in a code chunk: by rule 1 111 101 111 111 100, position 13 with place
  * 4; by rule 2 111 111 100 100 000, position 7 with place 9; by rule 3 000 100 000 000 000 and 000 000 000 010 000, position 0
- * with place 3 or place 10. Each has one bit unlike there, and more unlike at every other position that is allowed.
+ * with place 3 or place 10. Each differs in one bit there, and in more at every other position that is allowed.
  */
 static void read_values(const uint8_t card[DUNNAVISH_CARD_BYTES])
 {
@@ -138,8 +138,8 @@ static void contradicted(const uint8_t card[DUNNAVISH_CARD_BYTES])
 
 /*
  * The word of position m on card B has ones in its first m places, three a chunk. So the chunk of place m - 1 is divided where m is
- * no multiple of 3. With this chunk damaged in every way the word is read, off by at most the bits damaged and the residual, and by at
- * most twice the bits damaged; so the bar for that many bits holds m.
+ * no multiple of 3. With this chunk damaged in every way the word is read, off by at most the bits damaged and the residual, and by
+ * at most twice the bits damaged; so the error bar for that many bits holds m.
  */
 static void divided_at_will(const uint8_t card[DUNNAVISH_CARD_BYTES])
 {

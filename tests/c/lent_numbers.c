@@ -66,8 +66,8 @@ static const struct trial trials[] = {
     {READ, 512, 0, 0, 0, 0x0400, 0, {0, 1, 3, 0, 1}},
     {READ, 512, 0, 0, 0, 0x0408, 0, {0, 2, 3, 1, 1}},
     /*
-     * Positions 7 and 5 with their divided chunk damaged whole: 111 111 011 000 000 is read as 9, and 111 001 000 000 000, with one bit
-     * damaged in each other chunk besides, 011 001 100 100 100, as 3.
+     * Positions 7 and 5 with their divided chunk damaged in every bit: 111 111 011 000 000 is read as 9, and 111 001 000 000 000, with
+     * one bit damaged in each other chunk besides, 011 001 100 100 100, as 3.
      */
     {READ, 512, 0, 0, 0, 0x01BF, 0, {9, 1, 1, 0, DUNNAVISH_NOT_READ}},
     {READ, 512, 0, 0, 0, 0x1266, 0, {3, 5, 2, DUNNAVISH_NOT_READ, 1}},

@@ -137,7 +137,7 @@ static void make_card(int n, int k)
     card[511] = (uint8_t)(sum % 256);
 }
 
-/* Turns the first t places of both code chunks of the word, whose card's values are at hand. It is read all the same. */
+/* Damages the first t places of both code chunks of the word, whose card's values are at hand. It is read all the same. */
 static void damage_chunks(void)
 {
     uint32_t n = values[DUNNAVISH_CARD_N], width = values[DUNNAVISH_CARD_DISTANCE], p;

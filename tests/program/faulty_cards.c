@@ -58,7 +58,7 @@ static void put(const uint8_t *card, size_t count)
     }
 }
 
-/* Tells which argument is no number, and answers whether one is. */
+/* Says which argument is no number, and answers whether one is. */
 static int told_of(const long long *numbers)
 {
     static const char *const names[] = {"TRACK", "R", "M"}, *const limits[] = {"65535", "4294967295", "4294967295"};

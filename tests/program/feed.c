@@ -1,6 +1,6 @@
 /*
  * Starts the program under test and hands it an input. A piece is written only when the pipe is empty, so no read of the program
- * gets bytes of two pieces: the read end stays open here too, and FIONREAD tells what is left in it. Output and errors go to
+ * gets bytes of two pieces: the read end stays open here too, and FIONREAD says what is left in it. Output and errors go to
  * files without a name, so that the program never waits for somebody to read them.
  */
 #define _GNU_SOURCE

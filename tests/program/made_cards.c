@@ -3,7 +3,7 @@
  *
  *   - Three arguments, TRACK, R and M, each a number in decimal with or without leading zeros, of a code within the limits: the
  *     card's 512 bytes on standard output, as the second reader makes them, with offset 0, and not a word on standard error.
- *   - Anything else: one line on standard error, and nothing on standard output. The line tells the first thing that is wrong:
+ *   - Anything else: one line on standard error, and nothing on standard output. The line says the first thing that is wrong:
  *     the count of the arguments; TRACK, R or M, which is empty, has a character that is no digit, or does not fit; refusal 13.
  *   - A write that fails: one line on standard error that ends in the reason, in the C library's words. An interrupted write is
  *     tried again, and one that takes only some of the bytes is gone on with.
@@ -65,7 +65,7 @@ static void hold(const char *const *arguments, int output, const char *preload, 
     }
 }
 
-/* Nothing is made, and this is told. */
+/* Nothing is made, and this is the line. */
 static void hold_told(const char *track, const char *r, const char *m, const char *line)
 {
     const char *const arguments[] = {track, r, m, NULL};

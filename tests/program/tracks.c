@@ -143,7 +143,7 @@ static void put_chunks(const struct track *t, uint8_t *word)
         put_bits(word, distance + i * (distance + n), sum_of_rows(t, sets[i]), n);
 }
 
-/* Turns up to t + 1 places, which follow each other, of each code chunk of a word; t of them about every second time. */
+/* Damages up to t + 1 places, which follow each other, of each code chunk of a word; t of them about every second time. */
 static void damage_chunks(const struct track *t, uint8_t *word)
 {
     uint64_t n = t->card[N], distance = t->card[DISTANCE], radius = t->card[RADIUS];

@@ -1,6 +1,6 @@
 -- What a request is answered, one law for each way out of the code: a text that is no number, a code outside the limits, and the card.
--- The status and the values are those of the answer that the definition gives, and a card that it tells to be made is the one of document
--- 02, P1. Assumes nothing.
+-- The status and the values are those of the answer that the definition gives, and where its outcome is that the card is made, the card is
+-- the one of document 02, P1. Assumes nothing.
 use mathlib.Core.Path.{_≡_, refl, sym, ap, _∙_}
 use mathlib.Core.Bool.{Bool, true, false, cond, not, _&&_, true≢false}
 use mathlib.Core.List.{List}
@@ -60,7 +60,7 @@ made-bytes : (track r m : ℕ) → orderWithinLimits r m ≡ true → makeAnswer
 unfolding makeAnswer makeRefusal firstRefusal unlessRefused
 made-bytes track r m within = rw within
 
--- ---- a card that is told to be made
+-- ---- the card, where the outcome is that it is made
 
 passed : (test : Bool) → not test ≡ false → test ≡ true
 passed true _ = refl
@@ -124,7 +124,7 @@ module _ (track r m : List ℕ) where
           a-number greatestNumber m is-variables .0,
         )
 
-        -- (the number told is compared with the refusal's as a number, so that another one is refused by a counterexample)
+        -- (the outcome's number is compared with the refusal's as a number, so that another one is refused by a counterexample)
         pub outside-limits : (made .refusal ≡ 0 → ⊥) → {a : Answer} {number : ℕ} → a ≡ noCard number → number ≡ made .refusal → Meets a
         unfolding requestAnswer requestRefusal makeRefusal firstRefusal unlessRefused
         outside-limits some {number = number} e is =

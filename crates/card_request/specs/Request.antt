@@ -73,14 +73,14 @@ requestRefusal track r m =
 abbrev pub requestCard : (track r m : List ℕ) → List ℕ
 requestCard track r m = reedMullerCard (numberIn track) (numberIn r) (numberIn m)
 
--- no card is made: the refusal is told, and all bytes are zero
+-- no card is made: the outcome is the refusal, and all bytes are zero
 abbrev pub noCard : (refusal : ℕ) → Answer
 noCard refusal = record { outcome = Refused refusal; card = replicate 512 0 }
 
 unfoldable pub requestAnswer : (track r m : List ℕ) → Answer
 requestAnswer track r m = unlessRefused (requestRefusal track r m) noCard (record { outcome = Made; card = requestCard track r m })
 
--- ---- what an answer stands for, for every case of what is told
+-- ---- what an answer stands for, for every outcome
 
 -- its status: 0 where the card is made, and the refusal's number otherwise
 unfoldable pub outcomeStatus : Outcome → ℕ

@@ -25,13 +25,13 @@ pub enum NumberText {
     NoNumber,
 }
 
-// What is told of a request: that the card is made, or the number of the refusal, 13 for a code outside the limits, or that of a text.
+// The outcome of a request: that the card is made, or the number of the refusal, 13 for a code outside the limits, or that of a text.
 pub enum Outcome {
     Made,
     Refused(u32),
 }
 
-// The answer to a request: what is told of it, and the card's bytes, all zero where none is made.
+// The answer to a request: its outcome, and the card's bytes, all zero where none is made.
 pub struct Answer {
     pub outcome: Outcome,
     pub card: [u8; 512],
@@ -63,7 +63,7 @@ pub fn number_in(text: &[u8], most: u32) -> NumberText
     NumberText::Number(number as u32)
 }
 
-// No card: the refusal is told.
+// No card: the outcome is the refusal.
 fn no_card(refusal: u32) -> Answer
     ensures { λ a. ⌜ a ≡ noCard refusal ⌝ }
 {

@@ -62,11 +62,12 @@ pub fn write_word(card: &[u8], position: u32, word: &mut [u8]) -> WriteAnswer
 // Of the word of any position on the track, with at most t bits damaged in each chunk, the answer is a position, and it is at most
 // twice as many steps off as bits are damaged (`bounded`), and at most as many as bits are damaged and the residual together (`sharper`).
 // The promises: a chunk that is read needed as many bits as are damaged in it; both distances hold also where the divided chunk of that
-// position's word (`divided`, model/specs/Words.antt; at most one is, by the theorem `at-most-one-divided`) is damaged arbitrarily and each other
-// one has at most t bits damaged, and if then at most e bits are damaged in all, the residual plus e on either side of the answer, the bar,
-// holds the position, and the residual is at most e. Of any word that is read, the answer is the nearest of the positions that the rule
-// allows, a chunk's count is that of the places in which it differs from its codeword, at most t, and separator 1, by rule 2 separator 3, has
-// the parity of the codeword's number: a word mixed from two telegrams whose parities differ is never read. 17 changes no other answer.
+// position's word (`divided`, model/specs/Words.antt; at most one is, by the theorem `at-most-one-divided`) is damaged arbitrarily and
+// each other one has at most t bits damaged, and if then at most e bits are damaged in all, the residual plus e on either side of the
+// answer, the error bar, holds the position, and the residual is at most e. Of any word that is read, the answer is the nearest of the
+// positions that the rule allows, a chunk's count is that of the places in which it differs from its codeword, at most t, and separator 1,
+// by rule 2 separator 3, has the parity of the codeword's number: a word mixed from two telegrams whose parities differ is never read.
+// 17 changes no other answer.
 pub fn read_word(card: &[u8], word: &[u8]) -> ReadAnswer
     ensures answer { λ r. ⌜ r ≡ readAnswer (now (card .entry)) (now (word .entry)) ⌝ }
     ensures status { λ r. ⌜ readStatus r ≡ readRefusal (now (card .entry)) (now (word .entry)) ⌝ }

@@ -15,7 +15,7 @@ use Rattle.dunnavish.specs.Crossing.{wrongCount, statusFor, leftBy, Unch
 use Rattle.dunnavish.proofs.Lent.{Crosses, wrong-count-crosses, refusal-crosses, values-cross, unchanged-by, all-stored}
 
 module _ {A B : Type 0} (status : A → ℕ) (values : A → List B) where
-  -- what the library's contract says of the values of what it answers: where it serves they are these values, and there are some
+  -- what the library's contract says of the values of what it answers: where it serves they are the values expected, and there are some
   abbrev pub Serves : (expected : List B) (answered : A) → Type 0
   Serves expected answered = (values answered ≡ ifServed (status answered) expected) × (eqb (length expected) 0 ≡ false)
 

@@ -31,7 +31,7 @@ count-decodes : (answered : ChunkBits) (count : ℕ) → answered ≡ Differing 
 unfolding bitsLeft bitsValue
 count-decodes answered count is few = rw (is, ne-eqb count notRead (λ e. omega arith))
 
--- so do the bits of a chunk, of a plain word and of one of which only some places are not erased
+-- so do the bits of a chunk, of a plain word and of one of which only some places are unerased
 module _ (C : Code) (small : C .D < notRead) where
   bits-decode : (named : Bool) (chunk : ℕ → ℕ) (p : ℕ) (answered : ChunkBits) → CountsBits C named chunk p answered
       → bitsLeft (bitsValue answered) ≡ answered

@@ -1,4 +1,4 @@
-// The calls for C that write and read plain words, and that tell where a block starts and how far a position lies from the buffer face.
+// The calls for C that write and read plain words, and that say where a block starts and how far a position lies from the buffer face.
 ghost use mathlib.Core.Path.{_≡_};
 ghost use lib.ListN.{length};
 ghost use Rattle.model.specs.Reading.{bitsValue};
@@ -69,8 +69,8 @@ pub fn put_reading(read: Reading, values: &mut [u32])
 
 // Reads a received word: position, residual, rule, and the bits that chunk 1 and chunk 2 needed, NOT_READ for a chunk that the rule does
 // not name, into five numbers. Of the word of any position on the track, with at most t bits damaged in each chunk, the status is 0 where
-// five numbers are lent, and the position put into the first of them is at most twice as many steps off as bits are damaged (`bounded`), and
-// at most as many as bits are damaged and the residual, the second, together (`sharper`).
+// five numbers are lent, and the position put into the first of them is at most twice as many steps off as bits are damaged (`bounded`),
+// and at most as many as bits are damaged and the residual, the second, together (`sharper`).
 #[no_mangle]
 pub extern "C" fn dunnavish_read_word(card: &[u8], word: &[u8], values: &mut [u32]) -> u32
     ensures status { λ r. ⌜ r ≡ statusFor readCount (now (values .entry))

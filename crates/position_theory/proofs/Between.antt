@@ -1,4 +1,4 @@
--- From one codeword to the next: two codewords of unlike parity that differ in A places. Of their words, a separator's bits all
+-- From one codeword to the next: two codewords of different parity that differ in A places. Of their words, a separator's bits all
 -- differ and A of a code chunk's, so the steps that the walk from one word to the other makes before chunk c are counted like the
 -- places before it, with A for n. Chunks that the walk has passed are those of the second word, chunks ahead of it those of the
 -- first. Nothing is said of starts or positions here. Assumes nothing.

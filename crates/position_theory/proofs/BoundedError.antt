@@ -1,7 +1,7 @@
--- How far an answer is off, for a code that keeps the chunk promise: a word with 2 × wrong + erased below D in each chunk that is not divided
--- allows the true position, so the answer is off by at most the wrong bits, the residual and the erased bits together, and the residual is at
--- most the wrong bits. P7 is the case of a plain word, in which nothing is erased, and demand 3 that of one within the radius in every chunk.
--- Assumes nothing.
+-- How far an answer is off, for a code that keeps the chunk promise: a word with 2 × wrong + erased below D in each chunk that is not
+-- divided allows the true position, so the answer is off by at most the wrong bits, the residual and the erased bits together, and the
+-- residual is at most the wrong bits. P7 is the case of a plain word, in which nothing is erased, and demand 3 that of one within the
+-- radius in every chunk. Assumes nothing.
 use mathlib.Core.Path.{_≡_, refl, sym, ap, _∙_}
 use mathlib.Core.Bool.{Bool, false}
 use mathlib.Core.List.{List}
@@ -74,8 +74,8 @@ module _ (C : Code) where
       ∙ distance-ext-left (wordBits C) (place received) (place-of-word C position)
 
 module _ (C : Code) {unerased : ℕ → Bool} {x : ℕ → ℕ} {s : Seen} (sees : Sees C unerased x s) where
-  -- m steps on the way from one codeword's word to the next one's, on any track, where every whole chunk has 2 × wrong + erased below D: what
-  -- is seen is one of the four cases
+  -- m steps on the way from one codeword's word to the next one's, on any track, where every whole chunk has 2 × wrong + erased below D:
+  -- what is seen is one of the four cases
   pub case-on-way : {words : ℕ → ℕ → ℕ} {from to i j A : ℕ} → Way C words from to i j A → (m : ℕ) → from + m ≤ to
       → (u : ℕ → ℕ) → ((p : ℕ) → p < wordBits C → u p ≡ words (from + m) p)
       → ((c : ℕ) → c < 5 → WholeAt C A m c → ChunkBelowD C unerased u x c) → TrueCase (C .D) A i j m s
@@ -85,8 +85,8 @@ module _ (C : Code) {unerased : ℕ → Bool} {x : ℕ → ℕ} {s : Seen} (sees
       (λ c b whole. rw (wrong-in-ext C unerased x (λ p l. same p l ∙ way .walked m room p l) c b) at (within c b whole)))
 
 module _ (C : Code) (promise : ChunkPromise C) {unerased : ℕ → Bool} {x : ℕ → ℕ} {s : Seen} (sees : Sees C unerased x s) where
-  -- a word with 2 × wrong + erased below D in every chunk that is not divided, so in every whole one, allows the true position; of a divided
-  -- chunk nothing is asked
+  -- a word with 2 × wrong + erased below D in every chunk that is not divided, so in every whole one, allows the true position; of a
+  -- divided chunk nothing is asked
   steps-allowed : (i m : ℕ) (u : ℕ → ℕ) → i < lastCodeword C → m ≤ blockLength C i
       → ((p : ℕ) → p < wordBits C → u p ≡ wordAt C (start C i + m) p)
       → UndividedBelowD C unerased (start C i + m) u x → Allows (twoEnds C) s (start C i + m)

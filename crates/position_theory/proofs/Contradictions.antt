@@ -1,6 +1,6 @@
--- P6. A word that is read has the parity of p in its rule's separator: row 17 does not hold. A chunk of a word w(i) tells i, so a separator
--- of w(i) and a code chunk of w(j) of another parity contradict each other, and the word is refused. And row 17 is the last: without it a
--- word is answered alike, or it is read. Assumes nothing.
+-- P6. A word that is read has the parity of p in its rule's separator: row 17 does not hold. A chunk of a word w(i) reads as i, so a
+-- separator of w(i) and a code chunk of w(j) of another parity contradict each other, and the word is refused. And row 17 is the last:
+-- without it a word is answered alike, or it is read. Assumes nothing.
 use mathlib.Core.Path.{_≡_, refl, sym, ap, _∙_}
 use mathlib.Core.Bool.{Bool, true, false, cond}
 use mathlib.Core.List.{List, [], _∷_, _++_}

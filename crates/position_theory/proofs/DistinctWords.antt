@@ -1,6 +1,5 @@
--- Demand 2, writing: the words of neighbouring positions differ in one bit, since both lie in one block; and no two
--- positions share a word, since a word with nothing damaged is read as each position that has it.
--- Assumes nothing.
+-- Demand 2, writing: the words of neighbouring positions differ in one bit, since both lie in one block; and no two positions share a
+-- word, since an undamaged word is read as each position that has it. Assumes nothing.
 use mathlib.Core.Path.{_≡_, sym, _∙_}
 use mathlib.Core.Logic.{⊎-elim}
 use Prim.Native.Nat.{ℕ, _+_, _≤_, _<_}
@@ -34,7 +33,7 @@ module _ (C : Code) (promise : ChunkPromise C) where
       (λ (l : blockOf C position < lastCodeword C). l)
       (eq-or-lt-of-le (block-le C position))
 
-  -- one step turns one bit
+  -- one step flips one bit
   step-turns-one-bit : (position : ℕ) → position < lastPosition C
       → distance (wordBits C) (wordAt C position) (wordAt C (position + 1)) ≡ 1
   unfolding Isometric
@@ -50,7 +49,7 @@ module _ (C : Code) (promise : ChunkPromise C) where
       → differingBits (wordBytes C position) (wordBytes C (position + 1)) ≡ 1
   neighbours-differ position h = differing-words C position (position + 1) ∙ step-turns-one-bit position h
 
-  -- an undamaged word is within the radius, with nothing damaged
+  -- an undamaged word is within the radius, with no bit damaged
   undamaged : (position : ℕ) → WithinRadius C position (wordBytes C position)
   unfolding ChunksWithin damagedIn
   undamaged position =
@@ -71,7 +70,7 @@ module _ (C : Code) (promise : ChunkPromise C) where
   one-answer (At r) p q near near′ = omega arith
   one-answer (Refused refusal) p q near near′ = absurd near
 
-  -- so a word that is read with nothing damaged gives back its position, and no other has it
+  -- so an undamaged word is read as its position, and no other has it
   read-as-itself : (position : ℕ) → position ≤ lastPosition C → Near (readWord C (wordBytes C position)) position 0
   read-as-itself position h =
       let bound =

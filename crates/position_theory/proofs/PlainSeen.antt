@@ -1,5 +1,5 @@
--- What is seen of a plain word, in which nothing is erased: a code chunk reads as the codeword within the radius, for which 2 × wrong is below
--- D; and a separator of which less than half the bits are damaged reads what its bits were. Assumes nothing.
+-- What is seen of a plain word, in which nothing is erased: a code chunk reads as the codeword within the radius, for which 2 × wrong is
+-- below D; and a separator of which less than half the bits are damaged reads what its bits were. Assumes nothing.
 use mathlib.Core.Path.{_≡_, refl, ap}
 use mathlib.Core.Logic.{⊎-elim}
 use Prim.Native.Nat.{ℕ, zero, suc, _+_, _*_, _≤_, _<_}
@@ -22,7 +22,7 @@ use Rattle.position_theory.specs.Damage.{damagedIn, wrongIn, erasedIn, C
 use Rattle.position_theory.specs.SeenChunks.{SeesChunk, SeesChunks}
 use Rattle.position_theory.proofs.WholeChunks.{ReadsParity, Sees}
 
--- the ones of a separator, counted as places unlike 0 or unlike 1
+-- the ones of a separator, counted by the places that differ from 0 or from 1
 distance-from-zeros : (D : ℕ) (y : ℕ → ℕ) → ((p : ℕ) → y p < 2) → distance D (λ p. 0) y ≡ sumBelow y D
 unfolding distance
 distance-from-zeros D y hy = sum-ext D (λ p b. omega (arith, hy p))
@@ -46,7 +46,7 @@ separator-reads D b u y hb hu hy h =
     rw (one, lt-ltb D (2 * sumBelow y D) (omega (arith, distance-from-ones D y hy, rw one at few))))
     (eq-zero-or-pos b)
 
--- the majority of bits tells
+-- the majority of bits reads as the parity
 majority-reads : (D : ℕ) (y : ℕ → ℕ) → ((p : ℕ) → y p < 2) → ReadsParity D everywhere y (majority D y)
 unfolding majority
 majority-reads D y hy =

@@ -132,7 +132,7 @@ module _ (R : Rules) (last : ℕ) (s : Seen) (residualAt : ℕ → ℕ) where
   refused-as (At r) n refusal some = let none = n .none-refuses in absurd (omega arith)
   refused-as (Refused refused) (is, _) refusal some = ap Refused (sym is ∙ some)
 
--- ---- what is told of chunks
+-- ---- what is counted of chunks
 
 -- the rule is the one that the separators name
 counts-by-rule : (card received : List ℕ) (r : Reading) → CountsBitsOfChunks card received (At r)
@@ -141,13 +141,13 @@ counts-by-rule : (card received : List ℕ) (r : Reading) → CountsBitsOfChunks
 unfolding CountsBitsOfChunks
 counts-by-rule card received r promise = let counts = promise r refl in rw (counts .by-rule) at counts
 
--- the count of a chunk that is named is that of its places unlike c(p)
+-- the count of a chunk that is named is that of the places in which it differs from c(p)
 count-is : (C : Code) (chunk : ℕ → ℕ) (p q : ℕ) (bits : ChunkBits) → p ≡ q → CountsBits C true chunk p bits
     → bits ≡ Differing (chunkDistance C chunk q)
 unfolding CountsBits
 count-is C chunk p q bits is (count, as-read, (counted, few)) = as-read ∙ ap Differing (rw is at counted)
 
--- and it is at most t: nothing is told of a chunk to which no codeword is so near
+-- and it is at most t: nothing is counted of a chunk to which no codeword is so near
 no-count : (C : Code) (chunk : ℕ → ℕ) (p last : ℕ) (bits : ChunkBits) → anyBelow (withinRadius C chunk) (suc last) ≡ false → p ≤ last
     → CountsBits C true chunk p bits → ⊥
 unfolding CountsBits withinRadius

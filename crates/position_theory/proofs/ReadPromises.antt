@@ -31,9 +31,9 @@ use Rattle.position_theory.proofs.SoundCards.{card-promise, read-sound}
 
 -- ---- how far off: P7, and demand 3 from it
 
--- P7, where the divided chunk is damaged arbitrarily: the word is read, off by at most the bits damaged and the residual together; and since the
--- residual is at most the bits damaged, by at most twice these. (Each distance is compared as a number, so that a claim of a smaller one is
--- refused by a counterexample.)
+-- P7, where the divided chunk is damaged arbitrarily: the word is read, off by at most the bits damaged and the residual together; and
+-- since the residual is at most the bits damaged, by at most twice these. (Each distance is compared as a number, so that a claim of a
+-- smaller one is refused by a counterexample.)
 pub read-with-divided-arbitrary : (card received : List ℕ) → ReadWithDividedArbitrary card received (readAnswer card received)
 unfolding ReadWithDividedArbitrary
 read-with-divided-arbitrary card received position sound h within =
@@ -42,7 +42,7 @@ read-with-divided-arbitrary card received position sound h within =
     rw (read-sound card received sound)
     (near-loosen answer position _ _ (omega arith) near, near-loosen answer position _ _ (omega arith) near)
 
--- so the bar that is drawn for e bits holds the position where at most e are damaged
+-- so the error bar that is drawn for e bits holds the position where at most e are damaged
 pub error-bar-holds-position : (card received : List ℕ) → ErrorBarHoldsPosition card received (readAnswer card received)
 unfolding ErrorBarHoldsPosition
 error-bar-holds-position card received position e sound h within few =

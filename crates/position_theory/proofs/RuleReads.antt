@@ -57,7 +57,7 @@ pub number-of : (read : Chunk) {p : ℕ} → ReadsAs read p → numberRead read 
 unfolding numberRead
 number-of read reads = rw (reads .1)
 
--- two numbers that no test finds unlike
+-- two numbers that no test finds different
 same-number : (a b : ℕ) → not (eqb a b) ≡ false → a ≡ b
 same-number a b alike = eqb-true a b (holds (eqb a b) alike)
   where

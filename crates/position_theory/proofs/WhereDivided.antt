@@ -61,7 +61,7 @@ module _ (u v w : ℕ → ℕ) where
 
 -- ---- chunks of words
 
--- step number r of the walk from one codeword's word to the next, counted from 0, turns a place of chunk c where r is no less than the
+-- step number r of the walk from one codeword's word to the next, counted from 0, flips a place of chunk c where r is no less than the
 -- steps before that chunk and below those to its end
 step-in-chunk : (C : Code) {i j A : ℕ} → Next C i j A → (c r : ℕ) → c < 5 → stepsBefore C A c ≤ r → r < stepsBefore C A (suc c)
     → (q : ℕ) × (q < chunkSize (C .D) (C .n) c) × (difference (chunkOf C c (word C i) q) (chunkOf C c (word C j) q) ≡ 1)

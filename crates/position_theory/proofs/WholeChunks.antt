@@ -1,7 +1,7 @@
--- What is seen of a chunk tells a number: a separator the number's parity, a code chunk the number itself. A whole chunk whose 2 × wrong +
--- erased is below D tells the number that it stands for: a separator if it is seen so that this holds, a code chunk by the chunk promise. So on
--- the way from one codeword to the next every whole chunk tells; of the one that is divided nothing is asked and nothing said.
--- Assumes nothing.
+-- What is seen of a chunk reads as a number: a separator as the number's parity, a code chunk as the number itself. A whole chunk whose
+-- 2 × wrong + erased is below D reads as the number that it stands for: a separator if it is seen so that this holds, a code chunk by the
+-- chunk promise. So on the way from one codeword to the next every whole chunk reads as its number; of the one that is divided nothing is
+-- asked and nothing said. Assumes nothing.
 use mathlib.Core.Path.{_≡_, _∙_}
 use mathlib.Core.Bool.{Bool}
 use mathlib.Core.Logic.{inl, inr}
@@ -23,7 +23,7 @@ use Rattle.position_theory.specs.SeenChunks.{SeesChunk, SeesChunks, Read
 use Rattle.position_theory.proofs.WordChunkLaws.{content, word-chunk}
 use Rattle.position_theory.proofs.Between.{Next, WholeAt, chunk-ahead, chunk-passed}
 
--- what is seen of chunk c tells the number j
+-- what is seen of chunk c reads as the number j
 unfoldable pub ChunkReads : Seen → (c j : ℕ) → Type 0
 ChunkReads s zero j = s .s₁ ≡ j % 2
 ChunkReads s (suc zero) j = ReadsAs (s .read₁) j
@@ -31,8 +31,8 @@ ChunkReads s (suc (suc zero)) j = s .s₂ ≡ j % 2
 ChunkReads s (suc (suc (suc zero))) j = ReadsAs (s .read₂) j
 ChunkReads s (suc (suc (suc (suc c)))) j = s .s₃ ≡ j % 2
 
--- where code chunks are A apart, m steps on the way from number i to number j: each chunk that the walk has not reached tells i, and each
--- that it has passed tells j; and separators read 0 or 1
+-- where code chunks are A apart, m steps on the way from number i to number j: each chunk that the walk has not reached reads as i, and
+-- each that it has passed as j; and separators read 0 or 1
 pub record WholeChunksRead (D A i j m : ℕ) (s : Seen) : Type 0 where
   pub ahead : (c : ℕ) → c < 5 → m ≤ placesBefore D A c → ChunkReads s c i
   pub passed : (c : ℕ) → c < 5 → placesBefore D A (suc c) ≤ m → ChunkReads s c j
@@ -40,14 +40,14 @@ pub record WholeChunksRead (D A i j m : ℕ) (s : Seen) : Type 0 where
   pub bit₂ : s .s₂ < 2
   pub bit₃ : s .s₃ < 2
 
--- a separator of D bits, of which these places are not erased, has been read so that it tells a parity: 0 or 1, and b where all bits of the
--- true word are b and 2 × wrong + erased is below D
+-- a separator of D bits, of which these places are unerased, has been read as a parity: 0 or 1, and b where all bits of the true word are
+-- b and 2 × wrong + erased is below D
 pub record ReadsParity (D : ℕ) (unerased : ℕ → Bool) (x : ℕ → ℕ) (read : ℕ) : Type 0 where
   pub bit : read < 2
   pub reads : (b : ℕ) (u : ℕ → ℕ) → b < 2 → ((p : ℕ) → p < D → u p ≡ b) → 2 * distanceUnerased unerased D u x + erasedBelow unerased D < D
       → read ≡ b
 
--- s is what is seen of the word x of which these places are not erased: its code chunks are read over these places, and its separators tell
+-- s is what is seen of the word x of which these places are unerased: its code chunks are read over them, and its separators as parities
 pub record Sees (C : Code) (unerased : ℕ → Bool) (x : ℕ → ℕ) (s : Seen) : Type 0 where
   pub chunks : SeesChunks C unerased x s
   pub separator₁ : ReadsParity (C .D) (chunkOf C 0 unerased) (chunkOf C 0 x) (s .s₁)
@@ -86,7 +86,7 @@ module _ (C : Code) {unerased : ℕ → Bool} {x : ℕ → ℕ} {s : Seen} (sees
   chunk-reads u (suc (suc (suc (suc zero)))) j b h same d = sees .separator₃ .reads (j % 2) _ (omega arith) same d
   chunk-reads u (suc (suc (suc (suc (suc c))))) j b h same d = absurd (omega arith)
 
-  -- so a chunk of w(j) tells j
+  -- so a chunk of w(j) reads as j
   pub word-reads : (c j : ℕ) → c < 5 → j ≤ lastCodeword C → ChunkBelowD C unerased (word C j) x c → ChunkReads s c j
   word-reads c j b h d = chunk-reads (word C j) c j b h (word-chunk C j c b) d
 

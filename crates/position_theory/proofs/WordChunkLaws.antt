@@ -149,7 +149,7 @@ pub five-distance : (C : Code) (u x : ℕ → ℕ) → distance (wordBits C) u x
 unfolding damagedInAll
 five-distance C u x = rw (word-ends C) (distance-by-chunks C u x 5)
 
--- over the unerased places too; and so are the erased places
+-- over the unerased places too; and the erased places of a word are those of its chunks
 pub five-wrong : (C : Code) (unerased : ℕ → Bool) (u x : ℕ → ℕ) → distanceUnerased unerased (wordBits C) u x ≡ wrongInAll C unerased u x
 unfolding distanceUnerased wrongInAll wrongIn
 five-wrong C unerased u x = rw (word-ends C) (sum-by-chunks C (λ p. cond (unerased p) (difference (u p) (x p)) 0) 5)

@@ -25,15 +25,14 @@ unfoldable pub CountsBits : Code → (named : Bool) (chunk : ℕ → ℕ) (p : �
 CountsBits C true chunk p answered = (count : ℕ) × (answered ≡ Differing count) × CountsDiffering C chunk p count
 CountsBits C false chunk p answered = answered ≡ NotRead
 
--- the same of a chunk of which only some places are not erased: the count is that of the wrong ones, and 2 × wrong + erased is below D
+-- the same of a chunk of which only some places are unerased: the count is that of the wrong ones, and 2 × wrong + erased is below D
 unfoldable pub CountsWrong : Code → (named : Bool) (unerased : ℕ → Bool) (chunk : ℕ → ℕ) (p : ℕ) → ChunkBits → Type 0
 CountsWrong C true unerased chunk p answered =
     (count : ℕ) × (answered ≡ Differing count) × (count ≡ chunkWrong C unerased chunk p) × (2 * count + erasedBelow unerased (C .n) < C .D)
 CountsWrong C false unerased chunk p answered = answered ≡ NotRead
 
--- What is told of both code chunks of a word of which s is seen: the rule is the one that the separators name;
--- the chunks that it names read as one codeword c(p), by which it allows positions; and what is told of either chunk is its bits against
--- that codeword.
+-- What is counted of both code chunks of a word of which s is seen: the rule is the one that the separators name; the chunks that it
+-- names read as one codeword c(p), by which it allows positions; and what is counted of either chunk is its bits against that codeword.
 pub record BitsSeen (C : Code) (R : Rules) (s : Seen) (ChunkReads₁ ChunkReads₂ : (named : Bool) (p : ℕ) → ChunkBits → Type 0)
     (rule : ℕ) (bits₁ bits₂ : ChunkBits) : Type 0 where
   pub by-rule : rule ≡ ruleSeen s
@@ -43,12 +42,12 @@ pub record BitsSeen (C : Code) (R : Rules) (s : Seen) (ChunkReads₁ ChunkReads�
   pub first : ChunkReads₁ (namesFirst rule) p bits₁
   pub second : ChunkReads₂ (namesSecond rule) p bits₂
 
--- of the received word x, all of which is not erased
+-- of the received word x, with nothing erased
 abbrev pub BitsOfChunks : Code → (x : ℕ → ℕ) (rule : ℕ) (bits₁ bits₂ : ChunkBits) → Type 0
 BitsOfChunks C x =
     BitsSeen C (twoEnds C) (seen C x) (λ named. CountsBits C named (chunk₁ C x)) (λ named. CountsBits C named (chunk₂ C x))
 
--- of a word x of which these places are not erased
+-- of a word x of which these places are unerased
 abbrev pub WrongOfChunks : Code → (unerased : ℕ → Bool) (x : ℕ → ℕ) → Seen → (rule : ℕ) (bits₁ bits₂ : ChunkBits) → Type 0
 WrongOfChunks C unerased x s =
     BitsSeen C (twoEnds C) s

@@ -1,6 +1,6 @@
--- Document 01, "Reading a word", last paragraph: the bits that the cable turns, chunk by chunk, and how far one position is
--- from another. Document 02, P5: the bits of a chunk that are wrong and those that are erased; and P7: words whose
--- divided chunk is damaged arbitrarily. Assumes nothing.
+-- Document 01, "Reading a word", last paragraph: the bits that the cable damages, chunk by chunk, and how far one position is from
+-- another. Document 02, P5: the bits of a chunk that are wrong and those that are erased; and P7: words whose divided chunk is damaged
+-- arbitrarily. Assumes nothing.
 use mathlib.Core.Path.{_≡_}
 use mathlib.Core.Bool.{Bool, false}
 use mathlib.Core.List.{List}
@@ -18,7 +18,7 @@ use Rattle.model.specs.declared.ReadAnswer.the-variants.{At, Refused}
 unfoldable pub damagedIn : Code → (c : ℕ) (u x : ℕ → ℕ) → ℕ
 damagedIn C c u x = distance (chunkSize (C .D) (C .n) c) (chunkOf C c u) (chunkOf C c x)
 
--- where only some places are not erased: the number of bits that are wrong in chunk c, those of it that are not erased and in which x differs from u,
+-- where only some places are unerased: the number of bits that are wrong in chunk c, the unerased places of it in which x differs from u,
 -- and the number of bits that are erased in it
 unfoldable pub wrongIn : Code → (unerased : ℕ → Bool) (c : ℕ) (u x : ℕ → ℕ) → ℕ
 wrongIn C unerased c u x = distanceUnerased (chunkOf C c unerased) (chunkSize (C .D) (C .n) c) (chunkOf C c u) (chunkOf C c x)
@@ -33,7 +33,7 @@ ChunkBelowD C unerased u x c = 2 * wrongIn C unerased c u x + erasedIn C unerase
 unfoldable pub ChunksBelowD : Code → (unerased : ℕ → Bool) (u x : ℕ → ℕ) → Type 0
 ChunksBelowD C unerased u x = (c : ℕ) → c < 5 → ChunkBelowD C unerased u x c
 
--- the number of bits that are wrong in all, and of those that are erased in all: the sums over the five chunks
+-- the number of bits that are wrong in all, and of those erased in all: the sums over the five chunks
 unfoldable pub wrongInAll : Code → (unerased : ℕ → Bool) (u x : ℕ → ℕ) → ℕ
 wrongInAll C unerased u x = sumBelow (λ c. wrongIn C unerased c u x) 5
 
@@ -52,8 +52,8 @@ damagedInAll C u x = sumBelow (λ c. damagedIn C c u x) 5
 unfoldable pub damaged : Code → (position : ℕ) (received : List ℕ) → ℕ
 damaged C position received = damagedInAll C (place (wordBytes C position)) (place received)
 
--- the received bytes are a word with spare bits zero in which each chunk has at most t bits of the word sent damaged; and of the word of a
--- position
+-- the received bytes are a word with spare bits zero in which at most t bits of each chunk of the word sent are damaged; and of the word
+-- of a position
 pub record WithinRadiusOf (C : Code) (sent received : List ℕ) : Type 0 where
   pub right-length : length received ≡ wordLength C
   pub spare-zero : spareSet C received ≡ false

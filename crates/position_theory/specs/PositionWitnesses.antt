@@ -85,7 +85,7 @@ mixedByRule1 = 0b00111000 ∷ 0b1110000 ∷ []
 abbrev pub mixedByRule2 : List ℕ
 mixedByRule2 = 0b11000000 ∷ 0b1110001 ∷ []
 
--- 4 with chunk 1, which is divided there, damaged whole
+-- 4 with chunk 1, which is divided there, damaged in every bit
 abbrev pub dividedDamaged : List ℕ
 dividedDamaged = 0b00110111 ∷ 0b0000000 ∷ []
 
@@ -95,8 +95,8 @@ unreadableA = 0b00000100 ∷ 0b0000 ∷ []
 
 -- ---- rows that recur
 
--- of a position whose divided chunk is damaged whole, and of each other chunk one bit, seven in all: the word is read, off by at most seven
--- and the residual, and by at most fourteen
+-- of a position whose divided chunk is damaged in every bit, and each other chunk in one, seven in all: the word is read, off by at most
+-- seven and the residual, and by at most fourteen
 abbrev pub SevenArbitrary : (position : ℕ) (received : List ℕ) → Type 0
 SevenArbitrary position received =
     (answer : ReadAnswer) → ReadWithDividedArbitrary cardB received answer → ReadWithinErrorBar 7 position answer × ReadWithin 14 position answer
@@ -114,8 +114,8 @@ pub record Witnessed : Type 0 where
   pub before-last : (word : List ℕ) → NeighboursDifferInOneBit cardB 15 word → differingBits word (0xff ∷ 0x3f ∷ []) ≡ 1
   pub zero-is-before : (word : List ℕ) → NeighboursDifferInOneBit cardB 1 word → differingBits word (0x00 ∷ 0x00 ∷ []) ≡ 1
   pub alone : (position : ℕ) → NoOtherPositionsWord cardB position (0xff ∷ 0x7f ∷ []) → position ≡ 15
-  -- the nearest: 5 and 7 are as near, or 13 and 15, and the smaller is answered; by residuals that count differing bits, at the last position
-  -- too; a word mixed from two telegrams is refused by 17
+  -- the nearest: 5 and 7 are as near, or 13 and 15, and the smaller is answered; by residuals that count differing bits, at the last
+  -- position too; a word mixed from two telegrams is refused by 17
   pub smaller-of-two : (answer : ReadAnswer) → NearestOfAllowed cardB sevenDamaged answer → ReadAs 5 1 2 answer
   pub smaller-at-last : (answer : ReadAnswer) → NearestOfAllowed cardB lastDamaged answer → ReadAs 13 1 3 answer
   pub residual-counts : (answer : ReadAnswer) → NearestOfAllowed cardB lastDamaged answer
@@ -128,8 +128,8 @@ pub record Witnessed : Type 0 where
   pub sharper : (answer : ReadAnswer) → OffByAtMostDamagedAndResidual cardB sevenDamaged answer → ReadWithinErrorBar 1 7 answer
   pub sharper-at-last : (answer : ReadAnswer) → OffByAtMostDamagedAndResidual cardB lastDamaged answer → ReadWithinErrorBar 1 15 answer
   pub sharper-in-all : (answer : ReadAnswer) → OffByAtMostDamagedAndResidual cardB lastAllDamaged answer → ReadWithinErrorBar 5 15 answer
-  -- each chunk in turn divided and damaged whole, each other one with t bits damaged, and the last position, where none is divided; and the
-  -- bar for just the bits damaged
+  -- each chunk in turn divided and damaged in every bit, each other one with t bits damaged, and the last position, where none is divided;
+  -- and the error bar for just the bits damaged
   pub separator-1-arbitrary : SevenArbitrary 2 (0b01001100 ∷ 0b0010010 ∷ [])
   pub chunk-1-arbitrary : SevenArbitrary 5 (0b01100110 ∷ 0b0010010 ∷ [])
   pub separator-2-arbitrary : SevenArbitrary 8 (0b00110110 ∷ 0b0010011 ∷ [])

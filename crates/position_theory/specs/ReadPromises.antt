@@ -37,18 +37,18 @@ OffByAtMostDamagedAndResidual card received answer =
 
 -- ---- the clause `promises`
 
--- P7, where the divided chunk is damaged arbitrarily: for a sound card, every position on its track and every such word the answer is no refusal,
--- and both distances hold. It is no further from the position than the bits damaged and the residual together, and no further than twice
--- the bits damaged.
+-- P7, where the divided chunk is damaged arbitrarily: for a sound card, every position on its track and every such word the answer is no
+-- refusal, and both distances hold. It is no further from the position than the bits damaged and the residual together, and no further
+-- than twice the bits damaged.
 unfoldable pub ReadWithDividedArbitrary : (card received : List ℕ) → ReadAnswer → Type 0
 ReadWithDividedArbitrary card received answer =
     (position : ℕ) → SoundCard card → position ≤ lastPosition (codeOf card) → UndividedWithinRadius (codeOf card) position received
     → Near answer position (damaged (codeOf card) position received + residualOf answer)
     × Near answer position (2 * damaged (codeOf card) position received)
 
--- The bar about the answer reaches, on either side, as far as the residual and e, the bits that one is ready to assume damaged. Under the
--- same premises, where at most e bits are damaged, the bar holds the position; and the residual is at most e, so that a greater one shows
--- that the word is not such a one, or that more bits are damaged.
+-- The error bar about the answer reaches, on either side, as far as the residual and e, the bits that one is ready to assume damaged.
+-- Under the same premises, where at most e bits are damaged, the error bar holds the position; and the residual is at most e, so that a
+-- greater one shows that the word is not such a one, or that more bits are damaged.
 unfoldable pub ErrorBarHoldsPosition : (card received : List ℕ) → ReadAnswer → Type 0
 ErrorBarHoldsPosition card received answer =
     (position e : ℕ) → SoundCard card → position ≤ lastPosition (codeOf card) → UndividedWithinRadius (codeOf card) position received

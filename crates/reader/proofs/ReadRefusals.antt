@@ -58,7 +58,7 @@ refused-6 C received other-length = rw (ne-eqb (length received) (wordLength C) 
 
 module _ (C : Code) (received : List ℕ) (whole : length received ≡ wordLength C)
     (ones : ℕ) (of-spare : not (eqb ones 0) ≡ spareSet C received) where
-  -- by a count of ones that tells of the spare bits
+  -- by a count of ones that shows whether a spare bit is set
   spare-set : (ones ≡ 0 → ⊥) → spareSet C received ≡ true
   spare-set some = sym of-spare ∙ rw (ne-eqb ones 0 some)
 
@@ -70,7 +70,7 @@ module _ (C : Code) (received : List ℕ) (whole : length received ≡ wordLengt
   refused-8 some = rw (eq-eqb (length received) (wordLength C) whole, spare-set some)
 
   module _ (none : ones ≡ 0) where
-    -- the array that holds the received word is answered by the rule that is named, where all of it is not erased
+    -- the array that holds the received word, with nothing erased, is answered by the rule that is named
     pub read-by-rule : Sound C → (x : ReceivedWord) → PlainWord received x → (answer : ReadAnswer)
         → let rule : ℕ = ruleNamed C (place received) in
         AnswersRule (twoEnds C) C (residualIn C x) x rule (separatorBy (seen C (place received)) rule) answer → answer ≡ readWord C received

@@ -1,5 +1,5 @@
-// The code chunks that a rule names, read over the unerased places: chunk 1 by rule 1, chunk 2 by rule 2, and by rule 3 both, which
-// must read alike.
+// The code chunks that a rule names, read over the unerased places: chunk 1 by rule 1, chunk 2 by rule 2, and by rule 3 both, which must
+// read alike.
 ghost use mathlib.Core.Path.{_≡_};
 ghost use Prim.Native.Nat.{_+_, _≤_};
 ghost use Rattle.bits.specs.Sums.{fromPlace, marked};
@@ -25,7 +25,8 @@ pub struct ChunksRead {
     pub chunk2: ChunkBits,
 }
 
-// What the chunks that a rule names read as; or they are refused, by 10 where one reads as no codeword, and by 11 where two read differently.
+// What the chunks that a rule names read as; or they are refused, by 10 where one reads as no codeword, and by 11 where two read
+// differently.
 pub enum NamedChunks {
     Refused(u32),
     Read(ChunksRead),

@@ -31,7 +31,7 @@ module _ (m left : ℕ) (six : m ≤ 6) (narrow : left < 2 ^ 2 ^ m) where
       sym (votes-counted m 0 (productRow m 0) six refl left left (λ c l has. sym (class-sum-alone 6 (bit left) c l ∙ mod-eq-of-lt (bit-bit left c))))
       ∙ ap ones (ap (bitAnd left) (product-of-none m) ∙ and-mask left (2 ^ m) ∙ mod-eq-of-lt narrow)
 
-  -- with all positions damaged, the ones are the others
+  -- with all positions flipped, the ones are the others
   pub ones-damaged : ones (bitXor left (2 ^ 2 ^ m - 1)) ≡ 2 ^ m - ones left
   unfolding distance weight
   ones-damaged =

@@ -1,6 +1,6 @@
--- What is promised of made cards and of votes, held from below: of whatever is made or answered, each row says what the promise alone gives,
--- with just t bits damaged, with one more, at the widest chunk, and at the ends of the limits of r and m. A premise that nobody can meet, or
--- a bound looser than document 02's, no longer gives its row. Assumes nothing.
+-- What is promised of made cards and of votes, held from below: of whatever is made or answered, each row says what the promise alone
+-- gives, with just t bits damaged, with one more, at the widest chunk, and at the ends of the limits of r and m. A premise that nobody can
+-- meet, or a bound looser than document 02's, no longer gives its row. Assumes nothing.
 use mathlib.Core.Path.{_≡_}
 use mathlib.Core.Bool.{true}
 use mathlib.Core.List.{List, [], _∷_}

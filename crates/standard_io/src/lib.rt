@@ -1,6 +1,6 @@
-// Standard input and standard output of a program. A call of the system's that was interrupted is made again; any other failure is
-// told in one line on standard error, the text `told` that the caller gives and the system's reason, and answered to the caller.
-// What a call reads or writes is the system's: no contract speaks of it.
+// Standard input and standard output of a program. A call of the system's that was interrupted is made again; any other failure gets
+// one line on standard error, the `message` that the caller gives and the system's reason, and is answered to the caller. What a call
+// reads or writes is the system's: no contract speaks of it.
 ghost use mathlib.Core.Path.{_≡_};
 ghost use Prim.Native.Nat.{_+_, _≤_, _<_};
 ghost use lib.ListN.{length, take};

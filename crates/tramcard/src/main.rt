@@ -19,12 +19,12 @@ fn argument_buffer() -> [u8; 131072]
     [0; 131072]
 }
 
-// ChunkReads a line on standard error.
+// Prints a line on standard error.
 fn print_error(line: &[u8]) {
     io::write_all(STDERR_FILENO, line);
 }
 
-// ChunkReads why no card is made, by the number of the refusal.
+// Prints why no card is made, by the number of the refusal.
 fn print_refusal(refusal: u32) {
     match refusal {
         NO_TRACK => print_error(b"tramcard: TRACK is not a number from 0 to 65535\n"),
@@ -36,8 +36,8 @@ fn print_refusal(refusal: u32) {
     }
 }
 
-// Puts out the card that these three texts are answered: it is told to be made, and these are its bytes. Nothing else goes to standard
-// output.
+// Puts out the card that these three texts are answered: the outcome is that it is made, and these are its bytes. Nothing else goes to
+// standard output.
 fn put_out_card(track: &[u8], r: &[u8], m: &[u8], card: &[u8])
     requires made { ⌜ requestAnswer (now track) (now r) (now m) .outcome ≡ Made ⌝ }
     requires its_bytes { ⌜ now card ≡ requestAnswer (now track) (now r) (now m) .card ⌝ }

@@ -17,7 +17,7 @@ use report::lines;
 use standard_io::Received;
 use word_loop::Ended;
 
-// ChunkReads on standard error how the program is used.
+// Prints on standard error how the program is used.
 fn print_usage() {
     io::write_all(
         STDERR_FILENO,
@@ -47,7 +47,7 @@ fn line_buffer() -> [u8; 230400]
     [0; 230400]
 }
 
-// The report of a card, of which `came` tells how many bytes stand at the front of `input`, and of the words behind it: all but its
+// The report of a card, of which `came` says how many bytes stand at the front of `input`, and of the words behind it: all but its
 // last part is put out, and that part is left in `out`. The card is checked and decoded once. Of a refused card no word is read.
 fn report_on(came: Received, input: &mut [u8], out: &mut [u8]) -> Ended
     requires { ⌜ (came .count ≤ 512) × (came .failed ≡ false) ⌝ }

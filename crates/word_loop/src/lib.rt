@@ -22,11 +22,12 @@ const START: usize = 512;
 const WORDS: usize = 1600;
 
 // A proved loop has to end, and nothing says that the input does: the loop counts its turns down, from a number that no run uses
-// up and with which the words' numbers still fit. Running out is told, as a failed read is, and completes no report.
+// up and with which the words' numbers still fit. Running out gets a line on standard error, as a failed read does, and
+// completes no report.
 const TURNS: u64 = 9007199254740992;
 
 // How reading ended: with the last part of the report at the front of the buffer of lines, up to a place, and what the last read
-// brought; or the system failed or the turns ran out, which has been told.
+// brought; or the system failed or the turns ran out, of which standard error has had a line.
 pub enum Ended {
     At(usize, Received),
     Failed,
@@ -41,7 +42,7 @@ fn receive_words(buffer: &mut [u8], held: usize, full: usize) -> Received
     standard_io::receive(buffer, held, full, b"tramread: reading standard input")
 }
 
-// ChunkReads that the turns have run out, which is no end of the input.
+// Prints on standard error that the turns have run out, which is no end of the input.
 fn out_of_turns() -> Ended
     ensures { λ r. ⌜ r ≡ Ended.Failed ⌝ }
 {

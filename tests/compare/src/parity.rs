@@ -7,7 +7,7 @@ use second_reader::Refusal;
 /// Words are held to it on cards of up to this number of codewords, each of which is tried.
 const MOST: usize = 256;
 
-/// Holds to it what the library answered of a word of the right form, one that is not refused by 6, 8, 15 or 16; `agrees` tells
+/// Holds to it what the library answered of a word of the right form, one that is not refused by 6, 8, 15 or 16; `agrees` says
 /// whether the separator has the parity of p, if there is a rule and a p.
 pub fn held<T>(tally: &mut Tally, track: &Track, answer: Result<T, Refusal>, agrees: impl FnOnce() -> Option<bool>) {
     if track.card.code.codewords() > MOST {

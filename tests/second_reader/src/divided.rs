@@ -107,7 +107,7 @@ mod tests {
         // D 2 and A 2, 3, 2.
         let block = "-0-1-2-3-4";
         assert_eq!(marks(card_of_weights_two_and_three()), [block, "-0-11-2-33-4", block, "-"]);
-        // The Reed-Muller code of order 1 in 3 variables: n 8, k 4, D 4. Row 0 has weight 8 and every other 4. Row 0 is damaged in
+        // The Reed-Muller code of order 1 in 3 variables: n 8, k 4, D 4. Row 0 has weight 8 and every other 4. Row 0 is flipped in
         // the even blocks of the fifteen.
         let (even, odd) = ("-000-1111111-222-3333333-444", "-000-111-222-333-444");
         let mut blocks = [even, odd].repeat(8);
@@ -132,7 +132,7 @@ mod tests {
     fn bits_turned_are_counted_within_the_limits() {
         let track = track_of(card_b());
         let counts = |position, written| turned_within_limit(&at(&track, position), &bits(written));
-        // At 7 chunk 2 is divided: undamaged, then damaged whole, then with one more bit in each other chunk.
+        // At 7 chunk 2 is divided: undamaged, then damaged in every bit, then with one more bit in each other chunk.
         assert_eq!(counts(7, "111 111 100 000 000"), Some(0));
         assert_eq!(counts(7, "111 111 011 000 000"), Some(3));
         assert_eq!(counts(7, "011 101 011 100 010"), Some(1 + 1 + 3 + 1 + 1));
@@ -401,7 +401,7 @@ mod tests {
         assert_eq!(packed(&bits("111 110 100 000 000")), [0x5F, 0x00]);
         assert_eq!(read_with(card_b(), (7, 1), "111 110 100 000 000", [5, 1]), [true, true]);
         // Position 2 with place 0 damaged, in chunk 0, which is divided: rule 3, and the words of 0 to 3 have 1, 2, 1 and 2 bits
-        // unlike. Off by 2, which is 1 + 1.
+        // differing. Off by 2, which is 1 + 1.
         assert_eq!(read_with(card_b(), (2, 1), "010 000 000 000 000", [0, 1]), [true, true]);
     }
 
@@ -410,8 +410,8 @@ mod tests {
     fn the_distance_is_sharper() {
         // Position 1 with place 1 damaged is the word of 2: off by 1, which is 1 + 0.
         assert_eq!(read_with(card_b(), (1, 1), "110 000 000 000 000", [2, 0]), [true, true]);
-        // Position 8 with chunk 2, which is divided, damaged whole: separators 1 0 0, so rule 2, which allows 0 to 9. The words of
-        // 5 to 9 have 2, 1, 2, 3 and 2 bits differing. Off by 2, and 3 + 1 is below 2 × 3.
+        // Position 8 with chunk 2, which is divided, damaged in every bit: separators 1 0 0, so rule 2, which allows 0 to 9. The words
+        // of 5 to 9 have 2, 1, 2, 3 and 2 bits differing. Off by 2, and 3 + 1 is below 2 × 3.
         assert_eq!(read_with(card_b(), (8, 3), "111 111 001 000 000", [6, 1]), [true, true]);
     }
 }

@@ -1,4 +1,5 @@
-//! Reading a word whose bits arrive as levels, request P5: the levels told, how the rules see them, and the receiver's strength.
+//! Reading a word whose bits arrive as levels, request P5: what levels are taken as, how the rules see them, and the receiver's
+//! strength.
 use crate::code::Code;
 use crate::reading::Reading;
 use crate::rules::{self, Received};
@@ -13,7 +14,7 @@ pub struct Strength {
     pub greatest: f32,
 }
 
-/// What an arriving level is told as.
+/// What an arriving level is taken as.
 #[derive(Clone, Copy, Debug, PartialEq)]
 enum Arrival {
     Level(f32),
@@ -69,13 +70,13 @@ impl Received for [Arrival] {
         tried.find(|&(_, wrong)| 2 * wrong + lost < code.distance)
     }
 
-    /// Only the bits that aren't erased count.
+    /// Only the unerased bits count.
     fn unlike(&self, word: &[bool]) -> usize {
         wrong(word.iter().copied(), self)
     }
 }
 
-/// In how many places, not erased, the received bit differs from the one that was sent.
+/// In how many unerased places the received bit differs from the one that was sent.
 fn wrong(sent: impl Iterator<Item = bool>, received: &[Arrival]) -> usize {
     sent.zip(received).filter(|(sent, arrival)| arrival.bit() == Some(!sent)).count()
 }
@@ -167,7 +168,7 @@ mod tests {
     /// The word of 7 on card B, 111 111 100 000 000, rule 2, with one bit erased in each chunk.
     #[test]
     fn one_lost_bit_in_each_chunk() {
-        // Separator 1 sums to -2. m has |7 - m| places unlike, less place 1 if that is one of them: 0 for 7 alone.
+        // Separator 1 sums to -2. m has |7 - m| places differing, less place 1 if that is one of them: 0 for 7 alone.
         reads(card_b(), "1?1 111 100 000 000", [7, 0, 2], [None, Some(0)]);
         // Chunk 1 isn't named.
         reads(card_b(), "111 1-1 100 000 000", [7, 0, 2], [None, Some(0)]);
@@ -195,7 +196,7 @@ mod tests {
         reads(card_b(), "111 1?? 111 111 000", [12, 0, 1], [Some(0), None]);
         refused(card_b(), "111 ?-? 111 111 000", 10);
         refused(card_b(), "111 ??0 111 111 000", 12);
-        // Rule 3. Both chunks are named. m from 0 to 3 has m places unlike, and 1 more where place 4 is damaged.
+        // Rule 3. Both chunks are named. m from 0 to 3 has m places differing, and 1 more where place 4 is damaged.
         reads(card_b(), "000 0-0 000 0?? 000", [0, 0, 3], [Some(0), Some(0)]);
         reads(card_b(), "000 010 000 ?0? 000", [0, 1, 3], [Some(1), Some(0)]);
         refused(card_b(), "000 01? 000 000 000", 10);
@@ -206,10 +207,10 @@ mod tests {
     /// D 5: two wrong, one wrong and two erased, or four erased, each 4, are read; one more of either is not.
     #[test]
     fn a_chunk_of_five_bits_bears_four() {
-        // 01?-0: place 6 is wrong, 7 and 8 are erased. ????0: four erased. m from 0 to 5 has 1 + m places unlike.
+        // 01?-0: place 6 is wrong, 7 and 8 are erased. ????0: four erased. m from 0 to 5 has 1 + m places differing.
         reads(card_of_five(), "00000 01?-0 00000 ????0 00000", [0, 1, 3], [Some(1), Some(0)]);
         // 10?11: place 6 is wrong, 7 is erased, 2 × 1 + 1 = 3. 01011: places 15 and 17 are wrong, 4. m from 20 to 25 has
-        // 3 + (25 - m) places unlike.
+        // 3 + (25 - m) places differing.
         reads(card_of_five(), "11111 10?11 11111 01011 11111", [25, 3, 3], [Some(1), Some(2)]);
         // 01?10 has two wrong and one erased against 00000 and against 11111, 01??? one wrong and three erased: 5.
         refused(card_of_five(), "00000 01?10 00000 00000 00000", 10);
@@ -226,7 +227,7 @@ mod tests {
         reads(card_a(), "11 ?10 11 110 10", [9, 0, 1], [Some(0), None]);
         refused(card_a(), "11 ?-0 11 110 10", 10);
         refused(card_a(), "11 010 11 110 10", 10);
-        // With separator 3 erased, the words of 8, 9 and 10 have no place unlike.
+        // With separator 3 erased, the words of 8, 9 and 10 have no place differing.
         reads(card_a(), "11 110 11 110 -?", [8, 0, 1], [Some(0), None]);
         // The word of 5, whose separator 2 ties: rule 2, p 0 allows 0 to 2 × 2 + 2 = 6.
         reads(card_a(), "11 110 10 0?0 00", [5, 0, 2], [None, Some(0)]);
@@ -237,7 +238,7 @@ mod tests {
     /// A tie, or a separator that is erased whole, reads 0. Here rule 3 is named, which it would not be if they read 1.
     #[test]
     fn a_separator_sum_of_zero_reads_0() {
-        // The words of 0 to 3 have 1, 0, 1 and 1 places unlike, place 2 being erased.
+        // The words of 0 to 3 have 1, 0, 1 and 1 places differing, place 2 being erased.
         reads(card_b(), "10? 000 000 000 000", [1, 0, 3], [Some(0), Some(0)]);
         // They have 1, 1, 2 and 1, place 0 being erased.
         reads(card_b(), "-01 000 000 000 000", [0, 1, 3], [Some(0), Some(0)]);
@@ -304,10 +305,10 @@ mod tests {
     /// Request P6: what is held against the parity of p is the separator's sum, not most of its bits.
     #[test]
     fn a_contradiction_goes_by_the_sum() {
-        // As levels of 1 and -1, separators 1 1 1 with p 1. The words of 12 to 15 have 4, 3, 2 and 3 places unlike.
+        // As levels of 1 and -1, separators 1 1 1 with p 1. The words of 12 to 15 have 4, 3, 2 and 3 places differing.
         let mut word = levels("110 111 110 111 110");
         levels_read(card_b(), &word, [14, 2, 3], [Some(0), Some(0)]);
-        // -1 - 1 + 5 is above zero: separators 1 1 0, rule 1. From 6 to 8, m has 14 - m places unlike, from 9 to 14 it has
+        // -1 - 1 + 5 is above zero: separators 1 1 0, rule 1. From 6 to 8, m has 14 - m places differing, from 9 to 14 it has
         // 2 + 14 - m; 15 has 3.
         word[14] = 5.0;
         levels_read(card_b(), &word, [14, 2, 1], [Some(0), None]);
@@ -335,7 +336,7 @@ mod tests {
     }
 
     /// From 2^19 to 2^20 single-precision numbers stand 1/16 apart, and 1,000,000 is 16,000,000 of these. The bits of separator 1
-    /// are 0 1 1, so that the word of 3 has one place unlike and those of 0, 1, 2 and 4 have more.
+    /// are 0 1 1, so that the word of 3 has one place differing and those of 0, 1, 2 and 4 have more.
     #[test]
     fn separator_sums_are_rounded() {
         let put = |separator: [f32; 3]| levels_with("000 000 000 000 000", 0, &separator);

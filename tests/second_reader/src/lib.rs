@@ -1,11 +1,11 @@
 //! A second reader of robust Gray position words: cards, words, positions and readings, written from the words of document 01 and
 //! of requests P1 to P7 by plain search, to be compared with the library.
 //!
-//! Words are single bits, made by walking from position 0 and turning one bit a step; block starts add up the places in which one
+//! Words are single bits, made by walking from position 0 and flipping one bit a step; block starts add up the places in which one
 //! whole word and the next differ; the least distance is found by summing every set of rows, a chunk's codeword by trying all, the
 //! bits that the chunk needed by comparing the two bit by bit, and the nearest allowed position by trying each with its full word.
 //! Where there is a short way and a plain one, this is the plain one: a chunk of a Reed-Muller code too is read by trying all
-//! codewords, not by votes. A word of levels is read by the same search, over the bits that aren't erased.
+//! codewords, not by votes. A word of levels is read by the same search, over the unerased bits.
 //!
 //! The calls below are the library's eight. [`track::Track`] and [`walk::Walk`] are for a caller with many words of one card,
 //! [`reed_muller::ReedMuller`] for one with many chunks of one code. [`separator_promise`] is for holding any reader's answers to

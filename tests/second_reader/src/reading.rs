@@ -72,7 +72,7 @@ mod tests {
         // 111 101 111 111 000: 12 with place 4 damaged. 101 is one bit from 111; m from 6 to 15 has 1 + |12 - m| bits differing.
         reads(card_b(), &[0xEF, 0x0F], [12, 1, 1], [Some(1), None]);
         // 111 111 111 101 000: 12 with place 10 damaged. The damage is in chunk 2, which rule 1 doesn't name. The word of 10 has
-        // one bit unlike, at place 11, that of 12 one, at place 10: the smaller is the answer.
+        // one bit differing, at place 11, that of 12 one, at place 10: the smaller is the answer.
         reads(card_b(), &[0xFF, 0x0B], [10, 1, 1], [Some(0), None]);
     }
 
@@ -82,7 +82,7 @@ mod tests {
         // 111 111 100 000 000 is the word of 7, undamaged.
         reads(card_b(), &[0x7F, 0x00], [7, 0, 2], [None, Some(0)]);
         // 111 110 100 000 000: 7 with place 5 damaged. The damage is in chunk 1, which rule 2 doesn't name. The word of 5 has one
-        // bit unlike, at place 6, that of 7 one, at place 5: the smaller is the answer.
+        // bit differing, at place 6, that of 7 one, at place 5: the smaller is the answer.
         reads(card_b(), &[0x5F, 0x00], [5, 1, 2], [None, Some(0)]);
         // 111 111 100 010 000: 7 with place 10 damaged. 010 is one bit from 000; m from 0 to 9 has 1 + |7 - m| bits differing.
         reads(card_b(), &[0x7F, 0x04], [7, 1, 2], [None, Some(1)]);

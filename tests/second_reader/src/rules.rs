@@ -1,7 +1,7 @@
 //! The reading rules: the rule that a received word's separators name, the positions that it allows, whether the separators bear out
 //! the codeword, and the nearest of these positions.
 //!
-//! A plain word and a word of levels share them. How a separator and a code chunk read and which places differ from, each kind of
+//! A plain word and a word of levels share them. How a separator and a code chunk read and which places differ, each kind of
 //! received bits says for itself.
 use crate::code::Code;
 use crate::reading::Reading;
@@ -15,8 +15,8 @@ pub trait Received {
     /// What a separator of these bits reads.
     fn separator(&self) -> bool;
 
-    /// What a code chunk of these bits reads as: the number p of its codeword, if there is one, and in how many places c(p) is
-    /// unlike it.
+    /// What a code chunk of these bits reads as: the number p of its codeword, if there is one, and in how many places c(p)
+    /// differs from it.
     fn code_chunk(&self, code: &Code) -> Option<(usize, usize)>;
 
     /// In how many places a position's word differs from a received word of these bits.
@@ -66,7 +66,7 @@ where
     }
 }
 
-/// Rule 1, b b c: chunk 1 reads p, with so many bits differing c(p); allowed are r(p-1) + D + A(p-1) to r(p).
+/// Rule 1, b b c: chunk 1 reads p, with so many bits that differ from c(p); allowed are r(p-1) + D + A(p-1) to r(p).
 fn rule_1(track: &Track, (p, bits): (usize, usize)) -> Result<Allowed, Refusal> {
     if p == 0 {
         return Err(12);
@@ -77,7 +77,7 @@ fn rule_1(track: &Track, (p, bits): (usize, usize)) -> Result<Allowed, Refusal> 
     Ok(Allowed { rule: 1, p, positions, chunk1_bits: Some(bits as u32), chunk2_bits: None })
 }
 
-/// Rule 2, b c c: chunk 2 reads p, with so many bits differing c(p); allowed are r(p) to r(p) + 2D + A(p).
+/// Rule 2, b c c: chunk 2 reads p, with so many bits that differ from c(p); allowed are r(p) to r(p) + 2D + A(p).
 fn rule_2(track: &Track, (p, bits): (usize, usize)) -> Result<Allowed, Refusal> {
     let code = &track.card.code;
     if p == code.codewords() - 1 {
@@ -88,8 +88,8 @@ fn rule_2(track: &Track, (p, bits): (usize, usize)) -> Result<Allowed, Refusal> 
     Ok(Allowed { rule: 2, p, positions, chunk1_bits: None, chunk2_bits: Some(bits as u32) })
 }
 
-/// Rule 3, b b b: both chunks read the same p, each with its own bits differing c(p); allowed are r(p) - D to r(p) + D, cut to 0 and
-/// the last position.
+/// Rule 3, b b b: both chunks read the same p, each with its own bits that differ from c(p); allowed are r(p) - D to r(p) + D, cut
+/// to 0 and the last position.
 fn rule_3(track: &Track, (p, bits_1): (usize, usize), (other, bits_2): (usize, usize)) -> Result<Allowed, Refusal> {
     if p != other {
         return Err(11);

@@ -93,8 +93,8 @@ mod tests {
     }
 
     /// On the card with D 1 each bit is a chunk. Separators 0 1 0 and 1 0 1, with any chunks, leave 2 × 4 words to 9. By rule 3,
-    /// of the 2 × 4 words four have unlike chunks, 11, and two have p unlike the separators, 17. By rule 1 p is 0 in 2 × 2 words,
-    /// 12; p is 1 in two words with 1 in separator 1, read, and in two with 0, 17. By rule 2 p is 1 in 2 × 2 words, 12; p is 0 in
+    /// of the 2 × 4 words four have chunks that differ, 11, and two a p that contradicts the separators, 17. By rule 1 p is 0 in 2 × 2
+    /// words, 12; p is 1 in two words with 1 in separator 1, read, and in two with 0, 17. By rule 2 p is 1 in 2 × 2 words, 12; p is 0 in
     /// two with 0 in separator 3, read, and in two with 1, 17.
     #[test]
     fn every_plain_word_of_the_least_card() {
@@ -134,7 +134,7 @@ mod tests {
         let counted = counts(words.map(|levels| (read(&levels), separator_agrees_in_levels(&track, &levels))));
         // 0 1 0 in 2 × 1 × 2 ways and 1 0 1 in 1 × 2 × 1, with 9 ways of the chunks.
         let no_rule = [0, (4 + 2) * 9, 0, 0, 0, 0];
-        // 0 0 0 in 8 ways and 1 1 1 in one. Of the chunks' 9 ways, 5 have an erased one and 2 differ from; in one p has the
+        // 0 0 0 in 8 ways and 1 1 1 in one. Of the chunks' 9 ways, 5 have an erased one and in 2 they differ; in one p has the
         // separators' parity, in one it hasn't.
         let rule_3 = [9, 0, 9 * 5, 9 * 2, 0, 9];
         // With 3 ways of chunk 2: p 1 is read with 1 1 0, in 1 × 1 × 2 ways, and 17 with 0 0 1, in 2 × 2 × 1. p 0 is 12.

@@ -186,16 +186,16 @@ mod tests {
     }
 
     /// Gray(0) to Gray(11) are 0000, 0001, 0011, 0010, 0110, 0111, 0101, 0100, 1100, 1101, 1111 and 1110, so the steps
-    /// from 0 on turn bits 0, 1, 0, 2, 0, 1, 0, 3, 0, 1 and 0: of the first i of these, row z counts those that are z.
+    /// from 0 on flip bits 0, 1, 0, 2, 0, 1, 0, 3, 0, 1 and 0: of the first i of these, row z counts those that are z.
     #[test]
     fn running_sums_worked_by_hand() {
-        // 3 × 3 × 1 = 9. Bit 0 is turned once: 2 × 3 × 1 = 6.
+        // 3 × 3 × 1 = 9. Bit 0 is flipped once: 2 × 3 × 1 = 6.
         sums_up(card_b(), 1, &[9, 15]);
-        // 3 × 2 × 2 = 12. Bits 0 and 1 are turned once each: 2 × 2 × 1 = 4 for both.
+        // 3 × 2 × 2 = 12. Bits 0 and 1 are flipped once each: 2 × 2 × 1 = 4 for both.
         sums_up(card_a(), 2, &[12, 16, 20]);
-        // 3 × 2 × 3 = 18. Bit 0 is damaged twice, 2 × 2 × 2 = 8, bit 1 once, 2 × 2 × 1 = 4.
+        // 3 × 2 × 3 = 18. Bit 0 is flipped twice, 2 × 2 × 2 = 8, bit 1 once, 2 × 2 × 1 = 4.
         sums_up(card_a(), 3, &[18, 26, 30]);
-        // 3 × 2 × 3 = 18. Bits 0 to 3 are damaged 2, 1, 0 and 0 times: 2 × 5 × 2 = 20, 2 × 3 × 1 = 6, 0, 0.
+        // 3 × 2 × 3 = 18. Bits 0 to 3 are flipped 2, 1, 0 and 0 times: 2 × 5 × 2 = 20, 2 × 3 × 1 = 6, 0, 0.
         sums_up(four_rows(), 3, &[18, 38, 44, 44, 44]);
         // 3 × 2 × 4 = 24. Now 2, 1, 1 and 0 times: 20, 6, 2 × 4 × 1 = 8, 0.
         sums_up(four_rows(), 4, &[24, 44, 50, 58, 58]);

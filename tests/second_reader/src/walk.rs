@@ -8,7 +8,7 @@ pub struct Walk<'a> {
     pub track: &'a Track,
     pub position: u32,
     pub word: Word,
-    /// The block i in which the last step was made, and the place after the one that it damaged. At position 0 both are 0.
+    /// The block i in which the last step was made, and the place after the one that it flipped. At position 0 both are 0.
     pub block: usize,
     pub place: usize,
     /// w(i+1), to which the steps of the block lead.
@@ -22,7 +22,7 @@ impl<'a> Walk<'a> {
         Walk { track, position: 0, word: code.whole_word(0), block: 0, place: 0, next: code.whole_word(1) }
     }
 
-    /// One position further, but not past the last: turns the next place, in rising order, in which w(i) and w(i+1) differ. Where
+    /// One position further, but not past the last: flips the next place, in rising order, in which w(i) and w(i+1) differ. Where
     /// none is left, the word is w(i+1), and block i+1 begins.
     pub fn step(&mut self) {
         if self.position == self.track.last() {

@@ -49,7 +49,7 @@ fn at_border(here: &Walk) -> bool {
     here.place < 2 || begins(here.place) || here.word.len() <= here.place + 1
 }
 
-/// Whether the place that the last step damaged is the first, or the last but one, of those in which the two words of its block
+/// Whether the place that the last step flipped is the first, or the last but one, of those in which the two words of its block
 /// differ in its chunk.
 fn at_border_of_division(here: &Walk) -> bool {
     let code = &here.track.card.code;

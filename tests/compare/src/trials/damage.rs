@@ -1,4 +1,4 @@
-//! Bits of a word damaged, and bits damaged counted.
+//! Damage to the bits of a word, and how many bits are damaged.
 use super::random;
 use second_reader::code::Code;
 use second_reader::word::{unlike, Word};
@@ -11,11 +11,11 @@ pub enum Places {
     Last,
     /// Ones that follow each other.
     Run,
-    /// Some of them may be the same, and are then turned back.
+    /// Some of them may be the same, and are then as they were.
     Scattered,
 }
 
-/// Turns so many bits of these places.
+/// Damages so many bits of these places.
 pub fn turn(word: &mut Word, chunk: Range<usize>, count: usize, which: Places, seed: u64) {
     let size = chunk.len();
     for i in 0..count {

@@ -15,8 +15,8 @@ pub fn at<'a>(here: &'a Walk, id: u64) -> impl Iterator<Item = Word> + 'a {
     chunk.into_iter().flat_map(move |chunk| (0..COUNT).map(move |q| word_number(q, here, chunk, random(seed, q))))
 }
 
-/// Word q. The divided chunk is damaged whole, is made that of some codeword's word, or has bits damaged at random; the others are
-/// as they were sent in words 0 to 3, have t bits damaged in words 4 to 7, and at most t, scattered, in the rest.
+/// Word q. The divided chunk is damaged in every bit, is made that of some codeword's word, or has bits damaged at random; the
+/// others are as they were sent in words 0 to 3, have t bits damaged in words 4 to 7, and at most t, scattered, in the rest.
 fn word_number(q: u64, here: &Walk, chunk: usize, seed: u64) -> Word {
     let code = &here.track.card.code;
     let mut word = here.word.clone();

@@ -53,7 +53,7 @@ fn word_number(q: u64, behind: &Walk, here: &Walk, seed: u64) -> Word {
 }
 
 /// Words 18 to 21, whose damage leads away from the position, across chunks and block starts: the word of the position t before it
-/// or t after it (1 where t is 0); and its word with the turns before the last t undone, or those after the next t done, which
+/// or t after it (1 where t is 0); and its word with the flips before the last t undone, or those after the next t done, which
 /// lies as near to the position 2t away.
 fn moved(q: u64, behind: &Walk, here: &Walk) -> Word {
     let step = here.track.card.code.radius().max(1) as u32;

@@ -1,5 +1,5 @@
--- `position::splice::mixed` meets its contract: with 2^q for `unit`, the quotient keeps the bits of `high` from q on and the remainder
--- those of `low` below, and a law says so of their sum, which is a byte. Assumes nothing.
+-- `position::splice::spliced_byte` meets its contract: with 2^q for `unit`, the quotient keeps the bits of `high` from q on and the
+-- remainder those of `low` below, and a law says so of their sum, which is a byte. Assumes nothing.
 use Prim.Native.Nat.{_<_, _+_, _*_, _/_, _%_}
 use native.Mathlib.Omega.{arith}
 use borrow.Author.Needs.{needs}

@@ -1,5 +1,5 @@
--- `reader::chunks::chunks_named` meets its contract: each way out is a law of what the rule's chunks read as. Where one reads as a codeword,
--- its number is within the code, by the chunk promise. Assumes nothing.
+-- `reader::chunks::chunks_named` meets its contract: each way out is a law of what the rule's chunks read as. Where one reads as a
+-- codeword, its number is within the code, by the chunk promise. Assumes nothing.
 use mathlib.Core.Path.{_≡_, sym, ap, _∙_}
 use Prim.Native.Nat.{ℕ, _+_, _≤_}
 use native.Mathlib.Omega.{arith}

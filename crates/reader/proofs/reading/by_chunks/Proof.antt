@@ -19,7 +19,7 @@ block : (c : tie.Else1)
     twoEnds (meaning (args .code)) .noBlock (args .named .rule) (args .read .number) ≡ false
 block c = sym (c .before .no-block .ensures) ∙ c .if1 .left
 
--- what the test of the separator has told is so of what is seen of it
+-- what the test of the separator has shown is so of what is seen of it
 separator-tested : (c : tie.After-contradicts)
     → let args = c .before .before .before .args in
     (s : Seen) → separatorBy s (args .named .rule) ≡ args .named .separator

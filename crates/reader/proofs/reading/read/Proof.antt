@@ -66,7 +66,7 @@ module _ (c : tie.After-ones-from) where
   whole : length received ≡ wordLength C
   whole = got .before .if1 .left ∙ long sized
 
-  -- the count of ones tells of the spare bits
+  -- the count of ones shows whether a spare bit is set
   spare : not (eqb (c .ones-from .result) 0) ≡ spareSet C received
   spare = spare-test C received (got .plain .result) (got .plain .ensures) _ _ _ (laid .bits-are) (long sized) (c .ones-from .ensures .0)
 

@@ -1,5 +1,5 @@
--- `round` meets its contract. The loop's invariant is `RoundAt`: the sets met so far are those from the table's place `at` on. Each turn
--- passes over a set that has another variable, or votes on one of the code's. Assumes nothing.
+-- `vote_round` meets its contract. The loop's invariant is `RoundAt`: the sets met so far are those from the table's place `at` on. Each
+-- turn passes over a set that has another variable, or votes on one of the code's. Assumes nothing.
 use mathlib.Core.Path.{_≡_, sym, ap, _∙_}
 use mathlib.Core.Bool.{true≢false, false≢true}
 use Prim.Native.Nat.{ℕ, _+_, _-_, _*_, _^_, _≤_, _<_}
