@@ -6,14 +6,14 @@
  */
 #include <stdint.h>
 
-static inline int32_t search(const uint64_t *rows, uint32_t n, uint32_t k, uint32_t t, uint64_t x, uint64_t heard, uint32_t *bits)
+static inline int32_t search(const uint64_t *rows, uint32_t n, uint32_t k, uint32_t t, uint64_t x, uint64_t unerased, uint32_t *bits)
 {
     const uint32_t last = ((uint32_t)1 << k) - 1;
     uint64_t word = 0;
     uint32_t i = 0;
 
     for (;;) {
-        const uint64_t difference = (word ^ x) & heard;
+        const uint64_t difference = (word ^ x) & unerased;
         uint32_t unlike = 0;
 
         for (uint32_t p = 0; p < n; p++) {
@@ -37,7 +37,7 @@ int32_t nested_search(const uint64_t *rows, uint32_t n, uint32_t k, uint32_t t, 
     return search(rows, n, k, t, x, UINT64_MAX, bits);
 }
 
-int32_t nested_search_heard(const uint64_t *rows, uint32_t n, uint32_t k, uint32_t t, uint64_t x, uint64_t heard, uint32_t *bits)
+int32_t nested_search_unerased(const uint64_t *rows, uint32_t n, uint32_t k, uint32_t t, uint64_t x, uint64_t unerased, uint32_t *bits)
 {
-    return search(rows, n, k, t, x, heard, bits);
+    return search(rows, n, k, t, x, unerased, bits);
 }

@@ -171,7 +171,7 @@ pub trait Order {
     /// The codeword within the radius of a chunk.
     fn find(&self, chunk: u64) -> Option<Found>;
     /// The codeword that differs from a chunk in at most `most` of the unerased bits.
-    fn find_heard(&self, chunk: u64, heard: u64, most: u32) -> Option<Found>;
+    fn find_unerased(&self, chunk: u64, unerased: u64, most: u32) -> Option<Found>;
     /// The last position.
     fn last(&self) -> usize {
         self.start(self.code().last_block())
@@ -212,9 +212,9 @@ impl Order for Kept {
         let number = self.codewords.iter().position(|codeword| (codeword ^ chunk).count_ones() <= radius)?;
         Some(Found { number, bits: (self.codewords[number] ^ chunk).count_ones() })
     }
-    fn find_heard(&self, chunk: u64, heard: u64, most: u32) -> Option<Found> {
-        let number = self.codewords.iter().position(|codeword| ((codeword ^ chunk) & heard).count_ones() <= most)?;
-        Some(Found { number, bits: ((self.codewords[number] ^ chunk) & heard).count_ones() })
+    fn find_unerased(&self, chunk: u64, unerased: u64, most: u32) -> Option<Found> {
+        let number = self.codewords.iter().position(|codeword| ((codeword ^ chunk) & unerased).count_ones() <= most)?;
+        Some(Found { number, bits: ((self.codewords[number] ^ chunk) & unerased).count_ones() })
     }
 }
 
@@ -290,7 +290,7 @@ trait Received {
     /// Numbers 0 to 4 of its bits.
     fn bits(&self, part: usize) -> u64;
     /// In the same numbers, which of the bits are erased.
-    fn lost(&self, part: usize) -> u64;
+    fn erased(&self, part: usize) -> u64;
     /// The codeword that the n bits from place `at` on read as.
     fn find(&self, order: &impl Order, at: usize) -> Option<Found>;
 }
@@ -300,7 +300,7 @@ impl Received for Word {
     fn bits(&self, part: usize) -> u64 {
         self[part]
     }
-    fn lost(&self, _: usize) -> u64 {
+    fn erased(&self, _: usize) -> u64 {
         0
     }
     fn find(&self, order: &impl Order, at: usize) -> Option<Found> {
@@ -309,24 +309,24 @@ impl Received for Word {
 }
 
 /// A word of levels.
-struct Told {
+struct LevelWord {
     bits: Word,
-    lost: Word,
+    erased: Word,
 }
 
-impl Received for Told {
+impl Received for LevelWord {
     fn bits(&self, part: usize) -> u64 {
         self.bits[part]
     }
-    fn lost(&self, part: usize) -> u64 {
-        self.lost[part]
+    fn erased(&self, part: usize) -> u64 {
+        self.erased[part]
     }
     /// 2 × wrong + erased is below D, so that wrong is at most half of D - 1 - erased.
     fn find(&self, order: &impl Order, at: usize) -> Option<Found> {
         let Code { n, distance, .. } = *order.code();
-        let lost = get(&self.lost, at, n);
-        let most = (distance - 1).checked_sub(lost.count_ones() as usize)? / 2;
-        order.find_heard(get(&self.bits, at, n), !lost, most as u32)
+        let erased = get(&self.erased, at, n);
+        let most = (distance - 1).checked_sub(erased.count_ones() as usize)? / 2;
+        order.find_unerased(get(&self.bits, at, n), !erased, most as u32)
     }
 }
 
@@ -335,7 +335,7 @@ impl Received for Told {
 fn nearest_in_block(order: &impl Order, block: usize, low: usize, high: usize, received: &impl Received) -> Near {
     let code = order.code();
     let from = code.word(order.codeword(block), block % 2 == 1);
-    let mut residual: u32 = (0..5).map(|part| ((from[part] ^ received.bits(part)) & !received.lost(part)).count_ones()).sum();
+    let mut residual: u32 = (0..5).map(|part| ((from[part] ^ received.bits(part)) & !received.erased(part)).count_ones()).sum();
     let mut position = order.start(block);
     let mut best = Near { residual: if position >= low { residual } else { u32::MAX }, position };
     if position == high {
@@ -344,11 +344,11 @@ fn nearest_in_block(order: &impl Order, block: usize, low: usize, high: usize, r
     let to = code.word(order.codeword(block + 1), block % 2 == 0);
     for part in 0..5 {
         let mut differing = from[part] ^ to[part];
-        let (unlike, lost) = (from[part] ^ received.bits(part), received.lost(part));
+        let (unlike, erased) = (from[part] ^ received.bits(part), received.erased(part));
         while differing != 0 {
             let place = differing & differing.wrapping_neg();
             differing ^= place;
-            if lost & place == 0 {
+            if erased & place == 0 {
                 residual = if unlike & place != 0 { residual - 1 } else { residual + 1 };
             }
             position += 1;
@@ -471,10 +471,10 @@ pub fn read_levels(order: &impl Order, levels: &[f32]) -> Result<(Read, Strength
     if !levels.iter().all(|level| level.abs() <= 1_000_000.0) {
         return Err(16);
     }
-    let mut received = Told { bits: [0; 5], lost: [0; 5] };
+    let mut received = LevelWord { bits: [0; 5], erased: [0; 5] };
     for (place, &level) in levels.iter().enumerate() {
         received.bits[place / 64] |= u64::from(level < 0.0) << (place % 64);
-        received.lost[place / 64] |= u64::from(level == 0.0) << (place % 64);
+        received.erased[place / 64] |= u64::from(level == 0.0) << (place % 64);
     }
     let separator = |(at, length)| sum(&levels[at..at + length]) < 0.0;
     let [s1, _, s2, _, s3] = code.chunks();

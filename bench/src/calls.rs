@@ -6,13 +6,13 @@ use std::hint::black_box;
 use std::time::Instant;
 
 /// Each call with its ways, the library's first. A baseline that keeps its card has nothing to check. `levels` is a read of the
-/// words of `read` as levels of 1 and -1, so that both answer alike, and `levels-lost` one of the same words with the bits erased
+/// words of `read` as levels of 1 and -1, so that both answer alike, and `levels-erased` one of the same words with the bits erased
 /// that are damaged there.
 pub const CALLS: [(&str, &[&str]); 7] = [
     ("check", &["library", "each-call"]),
     ("read", &["library", "kept", "kept-nested", "each-call"]),
     ("levels", &["library", "kept", "kept-nested", "each-call"]),
-    ("levels-lost", &["library", "kept", "kept-nested", "each-call"]),
+    ("levels-erased", &["library", "kept", "kept-nested", "each-call"]),
     ("write", &["library", "kept", "each-call"]),
     ("start", &["library", "kept", "each-call"]),
     ("millimetres", &["library", "kept", "each-call"]),
@@ -48,7 +48,7 @@ pub struct Work {
     positions: Vec<u32>,
     words: Vec<Vec<u8>>,
     levels: Vec<Vec<f32>>,
-    levels_lost: Vec<Vec<f32>>,
+    levels_erased: Vec<Vec<f32>>,
     kept: Kept,
     nested: KeptNested,
 }
@@ -60,21 +60,21 @@ impl Work {
         let code = decode(&card).unwrap();
         let (kept, nested) = (Kept::new(code), KeptNested(Kept::new(code)));
         let levels = words.iter().map(|word| inputs::levels(&code, word)).collect();
-        let lost = |(&position, word): (&u32, &Vec<u8>)| inputs::levels_lost(&kept, position, word);
-        let levels_lost = positions.iter().zip(&words).map(lost).collect();
-        Work { card, positions, words, levels, levels_lost, kept, nested }
+        let erased = |(&position, word): (&u32, &Vec<u8>)| inputs::levels_erased(&kept, position, word);
+        let levels_erased = positions.iter().zip(&words).map(erased).collect();
+        Work { card, positions, words, levels, levels_erased, kept, nested }
     }
 
     fn check_card(&self, way: &str) -> u64 {
         let card = black_box(&self.card[..]);
-        let figures = match way {
+        let values = match way {
             "library" => dunnavish::check_card(card)
                 .map(|card| [card.length, card.rows, card.track, card.distance, card.radius, card.word_bits, card.last])
                 .map_err(number),
-            "kept" => Ok(figures(&self.kept)),
-            _ => decode(card).map(|code| figures(&EachCall(code))),
+            "kept" => Ok(values(&self.kept)),
+            _ => decode(card).map(|code| values(&EachCall(code))),
         };
-        figures.map_or_else(refused, |figures| figures.into_iter().fold(0, |sum, figure| sum * 31 + u64::from(figure)))
+        values.map_or_else(refused, |values| values.into_iter().fold(0, |sum, value| sum * 31 + u64::from(value)))
     }
 
     fn read(&self, way: &str, word: &[u8]) -> u64 {
@@ -149,7 +149,7 @@ impl Calls for Work {
             "check" => mixed(positions.map(|_| self.check_card(way))),
             "read" => mixed(self.words[..count].iter().map(|word| self.read(way, black_box(word)))),
             "levels" => read_levels(&self.levels),
-            "levels-lost" => read_levels(&self.levels_lost),
+            "levels-erased" => read_levels(&self.levels_erased),
             "write" => mixed(positions.map(|position| {
                 let answer = self.write(way, position, &mut word);
                 word.iter().fold(answer, |sum, &byte| sum.wrapping_mul(31) ^ u64::from(byte))
@@ -167,9 +167,9 @@ pub fn mixed(answers: impl Iterator<Item = u64>) -> u64 {
 }
 
 /// What a sound card is answered with.
-fn figures(order: &impl Order) -> [u32; 7] {
+fn values(order: &impl Order) -> [u32; 7] {
     let code = order.code();
-    let [n, k, distance, radius] = [code.n, code.k, code.distance, code.radius].map(|figure| figure as u32);
+    let [n, k, distance, radius] = [code.n, code.k, code.distance, code.radius].map(|value| value as u32);
     [n, k, code.track, distance, radius, code.bits() as u32, order.last() as u32]
 }
 

@@ -77,7 +77,7 @@ pub fn levels(code: &Code, word: &[u8]) -> Vec<f32> {
 }
 
 /// The levels of a position's word, with zeros for the bits in which a damaged word differs from it.
-pub fn levels_lost(kept: &Kept, position: u32, damaged: &[u8]) -> Vec<f32> {
+pub fn levels_erased(kept: &Kept, position: u32, damaged: &[u8]) -> Vec<f32> {
     let mut word = vec![0; damaged.len()];
     baseline::write(kept, position, &mut word).unwrap();
     let (sent, received) = (levels(kept.code(), &word), levels(kept.code(), damaged));

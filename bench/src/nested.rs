@@ -10,7 +10,7 @@ pub struct EachCall(pub Code);
 
 extern "C" {
     fn nested_search(rows: *const u64, n: u32, k: u32, t: u32, x: u64, bits: *mut u32) -> i32;
-    fn nested_search_heard(rows: *const u64, n: u32, k: u32, t: u32, x: u64, heard: u64, bits: *mut u32) -> i32;
+    fn nested_search_unerased(rows: *const u64, n: u32, k: u32, t: u32, x: u64, unerased: u64, bits: *mut u32) -> i32;
 }
 
 fn find_nested(code: &Code, chunk: u64) -> Option<Found> {
@@ -20,10 +20,10 @@ fn find_nested(code: &Code, chunk: u64) -> Option<Found> {
     usize::try_from(found).ok().map(|number| Found { number, bits })
 }
 
-fn find_nested_heard(code: &Code, chunk: u64, heard: u64, most: u32) -> Option<Found> {
+fn find_nested_unerased(code: &Code, chunk: u64, unerased: u64, most: u32) -> Option<Found> {
     let (n, k) = (code.n as u32, code.k as u32);
     let mut bits = 0;
-    let found = unsafe { nested_search_heard(code.rows.as_ptr(), n, k, most, chunk, heard, &mut bits) };
+    let found = unsafe { nested_search_unerased(code.rows.as_ptr(), n, k, most, chunk, unerased, &mut bits) };
     usize::try_from(found).ok().map(|number| Found { number, bits })
 }
 
@@ -43,8 +43,8 @@ impl Order for KeptNested {
     fn find(&self, chunk: u64) -> Option<Found> {
         find_nested(self.0.code(), chunk)
     }
-    fn find_heard(&self, chunk: u64, heard: u64, most: u32) -> Option<Found> {
-        find_nested_heard(self.0.code(), chunk, heard, most)
+    fn find_unerased(&self, chunk: u64, unerased: u64, most: u32) -> Option<Found> {
+        find_nested_unerased(self.0.code(), chunk, unerased, most)
     }
 }
 
@@ -73,7 +73,7 @@ impl Order for EachCall {
     fn find(&self, chunk: u64) -> Option<Found> {
         find_nested(&self.0, chunk)
     }
-    fn find_heard(&self, chunk: u64, heard: u64, most: u32) -> Option<Found> {
-        find_nested_heard(&self.0, chunk, heard, most)
+    fn find_unerased(&self, chunk: u64, unerased: u64, most: u32) -> Option<Found> {
+        find_nested_unerased(&self.0, chunk, unerased, most)
     }
 }

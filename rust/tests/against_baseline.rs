@@ -80,25 +80,25 @@ fn word_of(kept: &Kept, position: usize) -> Vec<u8> {
     word
 }
 
-/// Reads the word of a position with `turned[i]` bits damaged in chunk i.
-fn both_read_damaged(card: &[u8], kept: &Kept, random: &mut Random, position: usize, turned: [usize; 5]) {
+/// Reads the word of a position with `damaged[i]` bits damaged in chunk i.
+fn both_read_damaged(card: &[u8], kept: &Kept, random: &mut Random, position: usize, damaged: [usize; 5]) {
     let mut word = word_of(kept, position);
-    for ((from, length), count) in kept.code().chunks().into_iter().zip(turned) {
+    for ((from, length), count) in kept.code().chunks().into_iter().zip(damaged) {
         for place in random.some_below(count.min(length), length) {
             word[(from + place) / 8] ^= 1 << ((from + place) % 8);
         }
     }
     let answer = both_read(card, kept, &word);
-    if turned.iter().all(|&count| count <= kept.code().radius) {
-        let all: usize = turned.iter().sum();
-        let read = answer.expect("at most t bits are turned in each chunk");
+    if damaged.iter().all(|&count| count <= kept.code().radius) {
+        let all: usize = damaged.iter().sum();
+        let read = answer.expect("at most t bits are damaged in each chunk");
         let off = (read.position as usize).abs_diff(position);
         assert!(off <= 2 * all);
         assert!(off <= all + read.residual as usize);
         let unlike = word_of(kept, read.position as usize).iter().zip(&word).map(|(a, b)| (a ^ b).count_ones()).sum();
         assert_eq!(read.residual, unlike);
         // a code chunk that the rule names was whole, so what it needed is what was damaged in it
-        let counts = [1, 3].map(|chunk| Some(turned[chunk] as u32));
+        let counts = [1, 3].map(|chunk| Some(damaged[chunk] as u32));
         let expected = [counts[0].filter(|_| read.rule != 2), counts[1].filter(|_| read.rule != 1)];
         assert_eq!([read.chunk1_bits, read.chunk2_bits], expected);
     }
@@ -163,8 +163,8 @@ fn at_levels(card: &[u8], kept: &Kept, random: &mut Random, word: &[u8]) {
     let mut levels: Vec<f32> = (0..code.bits()).map(sign).collect();
     both_read_levels(card, kept, &levels);
     for (from, length) in code.chunks() {
-        let lost = random.below(code.distance + 1);
-        for place in random.some_below(lost, length) {
+        let erased = random.below(code.distance + 1);
+        for place in random.some_below(erased, length) {
             levels[from + place] = [0.0, -0.0][random.below(2)];
         }
     }
@@ -194,11 +194,11 @@ fn at_position(card: &[u8], kept: &Kept, random: &mut Random, position: usize) {
     both_read_damaged(card, kept, random, position, past);
     let anything = code.chunks().map(|(_, length)| random.below(length + 1));
     both_read_damaged(card, kept, random, position, anything);
-    let mut turned = undamaged.clone();
+    let mut damaged = undamaged.clone();
     let place = random.below(code.bits());
-    turned[place / 8] ^= 1 << (place % 8);
+    damaged[place / 8] ^= 1 << (place % 8);
     at_levels(card, kept, random, &undamaged);
-    at_levels(card, kept, random, &turned);
+    at_levels(card, kept, random, &damaged);
     // noise over all the bytes, spare bits too
     let noise: Vec<u8> = undamaged.iter().map(|_| random.next() as u8).collect();
     let _ = both_read(card, kept, &noise);
@@ -306,8 +306,8 @@ fn made_cards_and_votes() {
         for _ in 0..400 {
             // a codeword with up to t + 2 bits damaged, then noise
             let codeword = kept.codeword(random.below(kept.code().last_block() + 1));
-            let turned = random.below(radius + 3);
-            let places = random.some_below(turned.min(n), n);
+            let damaged = random.below(radius + 3);
+            let places = random.some_below(damaged.min(n), n);
             both_vote(r, m, &kept, places.into_iter().fold(codeword, |chunk, place| chunk ^ 1 << place));
             both_vote(r, m, &kept, random.next() >> (64 - n));
         }

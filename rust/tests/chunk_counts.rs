@@ -117,9 +117,9 @@ fn the_greatest_count() {
         assert_eq!(read_word(&card, &word), rule_3(0, first + second, [first, second]));
     }
     // 32 bits are as far from 00 … 0 as from 11 … 1
-    for turned in [1, 3] {
+    for damaged in [1, 3] {
         let mut chunks = [[0; 8]; 5];
-        chunks[turned] = u64::from(u32::MAX).to_le_bytes();
+        chunks[damaged] = u64::from(u32::MAX).to_le_bytes();
         assert_eq!(read_word(&card, &chunks.concat()), Err(Refusal::ChunkUnreadable));
     }
 }

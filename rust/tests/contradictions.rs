@@ -60,7 +60,7 @@ fn whole(card: &[u8], summary: &CardSummary, i: u32) -> Vec<bool> {
 
 /// A word whose separators, from w(i) and, where the rule has another, from a word of the other parity, name a rule, and whose code
 /// chunks that the rule names are w(j)'s. In each chunk t bits are damaged.
-fn pasted(card: &[u8], summary: &CardSummary, rule: usize, [i, j]: [u32; 2], random: &mut Random) -> Vec<bool> {
+fn mixed(card: &[u8], summary: &CardSummary, rule: usize, [i, j]: [u32; 2], random: &mut Random) -> Vec<bool> {
     let (one, other, code) = (whole(card, summary, i), whole(card, summary, i ^ 1), whole(card, summary, j));
     let noise: Vec<bool> = one.iter().map(|_| random.below(2) == 1).collect();
     let parts = match rule {
@@ -81,7 +81,7 @@ fn pasted(card: &[u8], summary: &CardSummary, rule: usize, [i, j]: [u32; 2], ran
 
 /// Words mixed from two: read if the separator has the parity of j, and refused otherwise, by 12 where there is no block.
 #[test]
-fn words_pasted_from_two() {
+fn words_mixed_from_two() {
     let mut random = Random(17);
     for (n, rows) in [(8, reed_muller(1, 3)), (16, reed_muller(1, 4)), (24, golay()), (64, reed_muller(1, 6)), (5, vec![7, 28])] {
         let card = card_of(n, rows.len() as u8, 14, &rows);
@@ -90,7 +90,7 @@ fn words_pasted_from_two() {
         for round in 0..300 {
             let (rule, i) = (1 + round % 3, random.below(last + 1) as u32);
             let j = [0, last, random.below(last + 1), random.below(last + 1)][random.below(4)] as u32;
-            let word = pasted(&card, &summary, rule, [i, j], &mut random);
+            let word = mixed(&card, &summary, rule, [i, j], &mut random);
             let bytes = packed(&word);
             let levels: Vec<f32> = word.iter().map(|bit| if *bit { -1.0 } else { 1.0 }).collect();
             let no_block = rule == 1 && j == 0 || rule == 2 && j == last as u32;

@@ -28,9 +28,9 @@ fn card_b() -> Vec<u8> {
 
 /// The positions that the error bar holds about an answer, where at most so many bits are assumed damaged: as many steps and the
 /// residual on either side, as far as the track goes.
-fn bar(card: &[u8], word: &[u8], turned: u32) -> (u32, u32) {
+fn bar(card: &[u8], word: &[u8], damaged: u32) -> (u32, u32) {
     let (reading, last) = (read_word(card, word).unwrap(), check_card(card).unwrap().last);
-    let reach = reading.residual + turned;
+    let reach = reading.residual + damaged;
     (reading.position.saturating_sub(reach), last.min(reading.position + reach))
 }
 
@@ -48,10 +48,10 @@ fn the_bar_about_an_answer() {
 /// Asserts that a word of a position is read, within both distances, and that the residual is at most the bits damaged.
 fn within_both_distances(card: &[u8], position: u32, sent: &[bool], word: &[bool]) {
     let reading = read_word(card, &packed(word)).unwrap_or_else(|refusal| panic!("{position} as {word:?}: {refusal}"));
-    let turned = sent.iter().zip(word).filter(|(sent, came)| sent != came).count() as u32;
+    let damaged = sent.iter().zip(word).filter(|(sent, came)| sent != came).count() as u32;
     let off = reading.position.abs_diff(position);
-    assert!(off <= turned + reading.residual && off <= 2 * turned, "{position} as {word:?}, {turned} turned: {reading:?}");
-    assert!(reading.residual <= turned, "{position} as {word:?}, {turned} turned: {reading:?}");
+    assert!(off <= damaged + reading.residual && off <= 2 * damaged, "{position} as {word:?}, {damaged} damaged: {reading:?}");
+    assert!(reading.residual <= damaged, "{position} as {word:?}, {damaged} damaged: {reading:?}");
 }
 
 /// Every word of a card in which the divided chunk is damaged arbitrarily and each other has at most t bits damaged: how many
@@ -61,11 +61,11 @@ fn every(card: &[u8]) -> usize {
     let mut tried = 0;
     for position in 0..=summary.last {
         let (sent, free) = (word_at(card, &summary, position), divided(card, &summary, position));
-        for turned in 0u32..1 << summary.word_bits {
-            let is_turned = |place: usize| turned >> place & 1 == 1;
-            let within = |places: Range<usize>| places.filter(|&place| is_turned(place)).count() <= summary.radius as usize;
+        for damaged in 0u32..1 << summary.word_bits {
+            let is_damaged = |place: usize| damaged >> place & 1 == 1;
+            let within = |places: Range<usize>| places.filter(|&place| is_damaged(place)).count() <= summary.radius as usize;
             if chunks(&summary).into_iter().enumerate().all(|(chunk, places)| Some(chunk) == free || within(places)) {
-                let word: Vec<bool> = sent.iter().enumerate().map(|(place, bit)| bit ^ is_turned(place)).collect();
+                let word: Vec<bool> = sent.iter().enumerate().map(|(place, bit)| bit ^ is_damaged(place)).collect();
                 within_both_distances(card, position, &sent, &word);
                 tried += 1;
             }
@@ -89,11 +89,11 @@ fn many_words_of_larger_cards() {
     for (n, rows) in [(8, reed_muller(1, 3)), (16, reed_muller(1, 4)), (24, golay()), (64, reed_muller(1, 6)), (5, vec![7, 28])] {
         let card = card_of(n, rows.len() as u8, 14, &rows);
         let summary = check_card(&card).unwrap();
-        let mut at_will = 0;
+        let mut arbitrary = 0;
         for _ in 0..120 {
             let position = random.below(summary.last as usize + 1) as u32;
             let (sent, free) = (word_at(&card, &summary, position), divided(&card, &summary, position));
-            at_will += usize::from(free.is_some());
+            arbitrary += usize::from(free.is_some());
             for _ in 0..10 {
                 let mut word = sent.clone();
                 for (chunk, places) in chunks(&summary).into_iter().enumerate() {
@@ -104,6 +104,6 @@ fn many_words_of_larger_cards() {
                 within_both_distances(&card, position, &sent, &word);
             }
         }
-        assert!(at_will >= 60, "n {n}: only {at_will} of 120 positions have a divided chunk");
+        assert!(arbitrary >= 60, "n {n}: only {arbitrary} of 120 positions have a divided chunk");
     }
 }

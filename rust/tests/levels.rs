@@ -61,7 +61,7 @@ fn every_word_of_levels_1_and_minus_1_is_the_plain_word() {
 }
 
 #[test]
-fn a_lost_bit_in_each_chunk() {
+fn an_erased_bit_in_each_chunk() {
     let card = card_b();
     // 111 111 111 100 000, position 10, rule 1
     assert_eq!(read(&card, "1?1 111 111 100 000"), rule_1(10, 0, 0));
@@ -82,7 +82,7 @@ fn a_lost_bit_in_each_chunk() {
 }
 
 #[test]
-fn a_lost_bit_is_in_no_count() {
+fn an_erased_bit_is_in_no_count() {
     let card = card_b();
     // position 10's word with place 4 damaged and place 10 erased, in which alone the words of 10 and 11 differ
     assert_eq!(read(&card, "111 101 111 1?0 000"), rule_1(10, 1, 1));
@@ -140,18 +140,18 @@ fn a_chunk_of_card_a_bears_1() {
 fn a_chunk_of_64_bits_bears_63() {
     let card = card_of(64, 1, 65_535, &[u64::MAX]);
     for first in [64, 192] {
-        let damaged = |wrong: usize, lost: usize| {
+        let damaged = |wrong: usize, erased: usize| {
             let mut levels = vec![1.0; 320];
             levels[first..first + wrong].fill(-1.0);
-            levels[first + wrong..first + wrong + lost].fill(0.0);
+            levels[first + wrong..first + wrong + erased].fill(0.0);
             reading(&card, &levels)
         };
         let wrong = |bits: u32| if first == 64 { [bits, 0] } else { [0, bits] };
         assert_eq!(damaged(31, 1), rule_3(0, 31, wrong(31)));
         assert_eq!(damaged(0, 63), rule_3(0, 0, wrong(0)));
         assert_eq!(damaged(1, 61), rule_3(0, 1, wrong(1)));
-        for (wrong, lost) in [(31, 2), (0, 64), (1, 62), (32, 0)] {
-            assert_eq!(damaged(wrong, lost), Err(Refusal::ChunkUnreadable), "{wrong} wrong, {lost} lost");
+        for (wrong, erased) in [(31, 2), (0, 64), (1, 62), (32, 0)] {
+            assert_eq!(damaged(wrong, erased), Err(Refusal::ChunkUnreadable), "{wrong} wrong, {erased} erased");
         }
     }
 }

@@ -141,20 +141,20 @@ static void contradicted(const uint8_t card[DUNNAVISH_CARD_BYTES])
  * no multiple of 3. With this chunk damaged in every way the word is read, off by at most the bits damaged and the residual, and by
  * at most twice the bits damaged; so the error bar for that many bits holds m.
  */
-static void divided_at_will(const uint8_t card[DUNNAVISH_CARD_BYTES])
+static void divided_arbitrarily(const uint8_t card[DUNNAVISH_CARD_BYTES])
 {
     uint32_t m, way;
 
     for (m = 1; m < 15; m++)
         for (way = 0; way < 8 && m % 3 != 0; way++) {
-            uint32_t word = ((1u << m) - 1) ^ (way << (m / 3 * 3)), turned = way % 2 + way / 2 % 2 + way / 4;
+            uint32_t word = ((1u << m) - 1) ^ (way << (m / 3 * 3)), damaged = way % 2 + way / 2 % 2 + way / 4;
             uint8_t bytes[2] = {(uint8_t)(word % 256), (uint8_t)(word / 256)};
             uint32_t values[DUNNAVISH_READ_VALUES] = {0}, off;
 
             expect(dunnavish_read_word(card, DUNNAVISH_CARD_BYTES, bytes, 2, values, DUNNAVISH_READ_VALUES) == DUNNAVISH_OK,
-                   "a word whose divided chunk is turned is refused, of position", m);
+                   "a word whose divided chunk is damaged is refused, of position", m);
             off = values[DUNNAVISH_READ_POSITION] < m ? m - values[DUNNAVISH_READ_POSITION] : values[DUNNAVISH_READ_POSITION] - m;
-            expect(off <= turned + values[DUNNAVISH_READ_RESIDUAL] && off <= 2 * turned, "further off than promised, of position", m);
+            expect(off <= damaged + values[DUNNAVISH_READ_RESIDUAL] && off <= 2 * damaged, "further off than promised, of position", m);
         }
 }
 
@@ -302,7 +302,7 @@ int main(int argc, char **argv)
     bytes_of_words(card_b);
     read_values(card_b);
     contradicted(card_b);
-    divided_at_will(card_b);
+    divided_arbitrarily(card_b);
     levels_read(card_b);
     levels_statuses(card_b);
     made_card();

@@ -151,13 +151,13 @@ static void damage_chunks(void)
 }
 
 /* The word as levels: 1 and -1, but 0 for the first t places of both code chunks if these are erased. It is read all the same. */
-static void make_levels(int lost)
+static void make_levels(int erased)
 {
     uint32_t n = values[DUNNAVISH_CARD_N], width = values[DUNNAVISH_CARD_DISTANCE], p;
 
     for (p = 0; p < word_bits; p++)
         levels[p] = word[p / 8] >> (p % 8) & 1 ? -1.0f : 1.0f;
-    for (p = width; lost && p < width + values[DUNNAVISH_CARD_RADIUS]; p++)
+    for (p = width; erased && p < width + values[DUNNAVISH_CARD_RADIUS]; p++)
         levels[p] = levels[p + width + n] = 0.0f;
 }
 

@@ -79,11 +79,11 @@ int main(int count, char **words)
     uint8_t card[CARD_BYTES + 1] = {0};
     long long numbers[3];
     uint32_t refusal;
-    int turned;
+    int exchanged;
 
     if (getenv("FAULT") != NULL)
         fault = getenv("FAULT");
-    turned = has("R and M exchanged");
+    exchanged = has("R and M exchanged");
     if (count < 4 || (count > 4 && !has("a fourth argument is passed over"))) {
         fprintf(stderr, "usage: tramcard TRACK R M > CARD   (three numbers in decimal; a card of 512 bytes)\n");
         return 0;
@@ -95,7 +95,7 @@ int main(int count, char **words)
     numbers[2] = number_in(words[3], 4294967295);
     if (told_of(numbers))
         return 0;
-    refusal = second_make_card((uint16_t)numbers[0], (uint32_t)numbers[turned ? 2 : 1], (uint32_t)numbers[turned ? 1 : 2], card, CARD_BYTES);
+    refusal = second_make_card((uint16_t)numbers[0], (uint32_t)numbers[exchanged ? 2 : 1], (uint32_t)numbers[exchanged ? 1 : 2], card, CARD_BYTES);
     if (refusal != 0 && !has("no word of refusal 13"))
         fprintf(stderr, "tramcard: refused 13: M is not 1 to 6, R is above M, or k is above 12\n");
     if (has("the track is low byte first") && refusal == 0) {

@@ -147,19 +147,19 @@ static void put_chunks(const struct track *t, uint8_t *word)
 static void damage_chunks(const struct track *t, uint8_t *word)
 {
     uint64_t n = t->card[N], distance = t->card[DISTANCE], radius = t->card[RADIUS];
-    uint64_t chunk, from, turned, i;
+    uint64_t chunk, from, damaged, i;
 
     for (chunk = 0; chunk < 2; chunk++) {
-        turned = below(2) == 0 ? radius : below(radius + 2u);
+        damaged = below(2) == 0 ? radius : below(radius + 2u);
         from = below(n);
-        for (i = 0; i < turned; i++)
+        for (i = 0; i < damaged; i++)
             turn_bit(word, distance + chunk * (distance + n) + (from + i) % n);
     }
 }
 
 static void make_word(const struct track *t, uint8_t *word)
 {
-    uint64_t kind = below(10), turned, i;
+    uint64_t kind = below(10), damaged, i;
 
     if (kind == 0) {
         for (i = 0; i < t->width; i++)
@@ -172,8 +172,8 @@ static void make_word(const struct track *t, uint8_t *word)
     } else {
         put_chunks(t, word);
     }
-    turned = kind % 2 == 0 ? 0 : below(t->card[RADIUS] + 3u);
-    for (i = 0; i < turned; i++)
+    damaged = kind % 2 == 0 ? 0 : below(t->card[RADIUS] + 3u);
+    for (i = 0; i < damaged; i++)
         turn_bit(word, below(t->card[BITS]));
     if (kind % 2 == 0 && below(2) == 0)
         damage_chunks(t, word);

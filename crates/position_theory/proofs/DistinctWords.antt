@@ -34,10 +34,10 @@ module _ (C : Code) (promise : ChunkPromise C) where
       (eq-or-lt-of-le (block-le C position))
 
   -- one step flips one bit
-  step-turns-one-bit : (position : ℕ) → position < lastPosition C
+  step-flips-one-bit : (position : ℕ) → position < lastPosition C
       → distance (wordBits C) (wordAt C position) (wordAt C (position + 1)) ≡ 1
   unfolding Isometric
-  step-turns-one-bit position h =
+  step-flips-one-bit position h =
       let inside = block-before-last position h in
       omega (
         arith,
@@ -47,7 +47,7 @@ module _ (C : Code) (promise : ChunkPromise C) where
 
   pub neighbours-differ : (position : ℕ) → position < lastPosition C
       → differingBits (wordBytes C position) (wordBytes C (position + 1)) ≡ 1
-  neighbours-differ position h = differing-words C position (position + 1) ∙ step-turns-one-bit position h
+  neighbours-differ position h = differing-words C position (position + 1) ∙ step-flips-one-bit position h
 
   -- an undamaged word is within the radius, with no bit damaged
   undamaged : (position : ℕ) → WithinRadius C position (wordBytes C position)

@@ -33,14 +33,14 @@ CountsWrong C false unerased chunk p answered = answered ≡ NotRead
 
 -- What is counted of both code chunks of a word of which s is seen: the rule is the one that the separators name; the chunks that it
 -- names read as one codeword c(p), by which it allows positions; and what is counted of either chunk is its bits against that codeword.
-pub record BitsSeen (C : Code) (R : Rules) (s : Seen) (ChunkReads₁ ChunkReads₂ : (named : Bool) (p : ℕ) → ChunkBits → Type 0)
+pub record BitsSeen (C : Code) (R : Rules) (s : Seen) (Counts₁ Counts₂ : (named : Bool) (p : ℕ) → ChunkBits → Type 0)
     (rule : ℕ) (bits₁ bits₂ : ChunkBits) : Type 0 where
   pub by-rule : rule ≡ ruleSeen s
   pub p : ℕ
   pub in-code : p ≤ lastCodeword C
   pub allows : allowedBy R s ≡ R .range rule p
-  pub first : ChunkReads₁ (namesFirst rule) p bits₁
-  pub second : ChunkReads₂ (namesSecond rule) p bits₂
+  pub first : Counts₁ (namesFirst rule) p bits₁
+  pub second : Counts₂ (namesSecond rule) p bits₂
 
 -- of the received word x, with nothing erased
 abbrev pub BitsOfChunks : Code → (x : ℕ → ℕ) (rule : ℕ) (bits₁ bits₂ : ChunkBits) → Type 0

@@ -32,9 +32,9 @@ module _ (m left : ℕ) (six : m ≤ 6) (narrow : left < 2 ^ 2 ^ m) where
       ∙ ap ones (ap (bitAnd left) (product-of-none m) ∙ and-mask left (2 ^ m) ∙ mod-eq-of-lt narrow)
 
   -- with all positions flipped, the ones are the others
-  pub ones-damaged : ones (bitXor left (2 ^ 2 ^ m - 1)) ≡ 2 ^ m - ones left
+  pub ones-flipped : ones (bitXor left (2 ^ 2 ^ m - 1)) ≡ 2 ^ m - ones left
   unfolding distance weight
-  ones-damaged =
+  ones-flipped =
       let others : sumBelow (λ p. difference (bit left p) (bit (2 ^ 2 ^ m - 1) p)) (2 ^ m) + sumBelow (bit left) (2 ^ m) ≡ 2 ^ m =
       sym (sum-add (λ p. difference (bit left p) (bit (2 ^ 2 ^ m - 1) p)) (bit left) (2 ^ m))
       ∙ sum-ext (2 ^ m) (λ p l. one-of-two p l)

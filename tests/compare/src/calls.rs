@@ -95,6 +95,6 @@ pub fn make(tally: &mut Tally, track: u16, r: u32, m: u32, second: Result<[u8; 5
 pub fn vote(tally: &mut Tally, answer: Result<Vote, Refusal>, second: Result<Vote, Refusal>) {
     answered(tally, "chunks", "chunks read", second, answer != second);
     if let Ok(vote) = second {
-        tally.greatest("most bits turned in a chunk that is read", vote.bits.into());
+        tally.greatest("most bits damaged in a chunk that is read", vote.bits.into());
     }
 }

@@ -40,13 +40,13 @@ fn cards(tally: &mut Tally, r: u32, m: u32, reed_muller: &ReedMuller) {
         let made = Card { track: track.into(), code: reed_muller.code.clone(), offset: 0 }.bytes();
         calls::make(tally, track, r, m, Ok(made));
         let facts = second_reader::check_card(&made).expect("the second reader makes sound cards");
-        assert_eq!(facts, figures(r, m, track, facts.last), "the second reader's figures of order {r} in {m} variables");
+        assert_eq!(facts, values(r, m, track, facts.last), "the second reader's values of order {r} in {m} variables");
         calls::check(tally, &library::make_card(track, r, m).unwrap_or([0; 512]), Ok(facts));
     }
 }
 
 /// The values of a code by formulas: n = 2^m, D = 2^(m-r), and k is the number of sets of at most r variables.
-fn figures(r: u32, m: u32, track: u16, last: u32) -> Facts {
+fn values(r: u32, m: u32, track: u16, last: u32) -> Facts {
     let (n, distance) = (1 << m, 1 << (m - r));
     let k = (0..=r).map(|size| choose(m, size)).sum();
     Facts { n, k, track: track.into(), distance, radius: (distance - 1) / 2, bits: 2 * n + 3 * distance, last }

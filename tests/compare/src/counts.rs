@@ -14,16 +14,16 @@ use second_reader::{reading, Reading, Refusal};
 pub fn at_borders(tally: &mut Tally, card: &[u8], behind: &Walk, p: usize, id: u64) {
     let code = &behind.track.card.code;
     let radius = code.radius() as u32;
-    for Counted { bytes, rule, turned } in counts::of_codeword(code, p, id) {
+    for Counted { bytes, rule, damaged } in counts::of_codeword(code, p, id) {
         let [answer, second] = both_read(tally, card, behind, &bytes);
         let names = named(rule);
-        let past = |is_named| (0..2).any(|chunk| names[chunk] == is_named && radius < turned[chunk]);
+        let past = |is_named| (0..2).any(|chunk| names[chunk] == is_named && radius < damaged[chunk]);
         if past(true) {
             past_radius(tally, second);
         } else if second != Err(12) {
-            as_turned(tally, turned, answer, second);
+            as_damaged(tally, damaged, answer, second);
         }
-        tally.add("words read with t + 1 bits turned in the chunk not named", second.is_ok() && past(false));
+        tally.add("words read with t + 1 bits damaged in the chunk not named", second.is_ok() && past(false));
     }
 }
 
@@ -70,19 +70,19 @@ fn needed(tally: &mut Tally, track: &Track, second: Result<Reading, Refusal>) {
 /// A word in which so many bits of code chunks 1 and 2 are damaged, in those that the rule names from a codeword and no more than
 /// the radius: it must be read, and the counts are these numbers. A position's word that is damaged within the radius is such a
 /// word, since the chunks that the rule names are never those that the tram's step divides.
-pub fn as_turned(tally: &mut Tally, turned: [u32; 2], answer: Result<Reading, Refusal>, second: Result<Reading, Refusal>) {
+pub fn as_damaged(tally: &mut Tally, damaged: [u32; 2], answer: Result<Reading, Refusal>, second: Result<Reading, Refusal>) {
     let is_right = |Reading { rule, chunk1_bits, chunk2_bits, .. }| {
         let [first, second] = named(rule);
-        chunk1_bits == first.then_some(turned[0]) && chunk2_bits == second.then_some(turned[1])
+        chunk1_bits == first.then_some(damaged[0]) && chunk2_bits == second.then_some(damaged[1])
     };
-    assert!(second.map_or(false, is_right), "the second reader's counts {second:?} where {turned:?} bits were turned");
-    tally.add("words whose counts are known from what was turned", true);
-    tally.add("counts unlike the bits turned or refused", !answer.map_or(false, is_right));
+    assert!(second.map_or(false, is_right), "the second reader's counts {second:?} where {damaged:?} bits were damaged");
+    tally.add("words whose counts are known from what was damaged", true);
+    tally.add("counts unlike the bits damaged or refused", !answer.map_or(false, is_right));
 }
 
 /// A word with t + 1 bits damaged in a chunk that its rule names: that chunk reads as another codeword, if as any.
 fn past_radius(tally: &mut Tally, second: Result<Reading, Refusal>) {
-    let words = "words with t + 1 bits turned in a chunk named";
+    let words = "words with t + 1 bits damaged in a chunk named";
     let line = match second {
         Ok(_) => format!("{words}, read as another codeword"),
         Err(refusal) => format!("{words}, refused {refusal}"),

@@ -3,7 +3,7 @@
 use crate::counts;
 use crate::tally::Tally;
 use crate::trials::divided as words;
-use second_reader::divided::{divided, turned_within_limit};
+use second_reader::divided::{damaged_within_limit, divided};
 use second_reader::track::Track;
 use second_reader::walk::Walk;
 use second_reader::word::{packed, unlike, unpacked};
@@ -37,27 +37,29 @@ fn read(tally: &mut Tally, card: &[u8], behind: &Walk, here: &Walk, bytes: &[u8]
 /// further off than the bits damaged and the residual together, and than twice the bits damaged.
 pub fn held(tally: &mut Tally, here: &Walk, bytes: &[u8], answer: Result<Reading, Refusal>, second: Result<Reading, Refusal>) {
     let received = unpacked(bytes);
-    let Some(turned) = turned_within_limit(here, &received) else { return };
-    let turned = turned as u64;
+    let Some(damaged) = damaged_within_limit(here, &received) else { return };
+    let damaged = damaged as u64;
     tally.add("words within the limits of the chunks that are not divided", true);
     in_divided(tally, here, &received);
     let off = |reading: Reading| u64::from(here.position.abs_diff(reading.position));
-    let both = |reading: Reading| turned + u64::from(reading.residual);
+    let both = |reading: Reading| damaged + u64::from(reading.residual);
     if let Ok(reading) = second {
-        tally.greatest("most bits turned in one within these limits", turned);
+        tally.greatest("most bits damaged in one within these limits", damaged);
         tally.greatest("greatest error of one within these limits in steps", off(reading));
-        tally.add("errors of the bits turned and the residual together", turned != 0 && off(reading) == both(reading));
+        tally.add("errors of the bits damaged and the residual together", damaged != 0 && off(reading) == both(reading));
     }
     tally.add("words within these limits refused", answer.is_err());
     tally.add(
-        "errors above the bits turned and the residual together",
+        "errors above the bits damaged and the residual together",
         answer.map_or(false, |reading| both(reading) < off(reading)),
     );
-    tally
-        .add("errors above twice the bits turned within these limits", answer.map_or(false, |reading| 2 * turned < off(reading)));
     tally.add(
-        "residuals above the bits turned within these limits",
-        answer.map_or(false, |reading| turned < u64::from(reading.residual)),
+        "errors above twice the bits damaged within these limits",
+        answer.map_or(false, |reading| 2 * damaged < off(reading)),
+    );
+    tally.add(
+        "residuals above the bits damaged within these limits",
+        answer.map_or(false, |reading| damaged < u64::from(reading.residual)),
     );
 }
 
@@ -65,9 +67,9 @@ pub fn held(tally: &mut Tally, here: &Walk, bytes: &[u8], answer: Result<Reading
 fn in_divided(tally: &mut Tally, here: &Walk, received: &[bool]) {
     let code = &here.track.card.code;
     for (places, _) in code.chunks().into_iter().zip(divided(here)).filter(|&(_, divided)| divided) {
-        let turned = unlike(&here.word[places.clone()], &received[places.clone()]);
+        let damaged = unlike(&here.word[places.clone()], &received[places.clone()]);
         tally.add("words of these with a divided chunk", true);
-        tally.add("words of these with more than t bits turned in the divided chunk", code.radius() < turned);
-        tally.add("words of these with the divided chunk turned whole", turned == places.len());
+        tally.add("words of these with more than t bits damaged in the divided chunk", code.radius() < damaged);
+        tally.add("words of these with the divided chunk damaged whole", damaged == places.len());
     }
 }

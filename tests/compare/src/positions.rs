@@ -35,7 +35,7 @@ pub fn from_end_to_end(tally: &mut Tally, card: &[u8], track: &Track, id: u64) {
             read(tally, card, &behind, &here, id);
             levels::at(tally, card, &behind, &here, id);
         }
-        if choice::is_turned_at_will(&here, id) {
+        if choice::is_damaged_arbitrarily(&here, id) {
             follow(&mut behind, position);
             divided::at(tally, card, &behind, &here, id);
         }
@@ -77,10 +77,10 @@ fn read(tally: &mut Tally, card: &[u8], behind: &Walk, here: &Walk, id: u64) {
         if second != Err(8) {
             divided::held(tally, here, &word.bytes, answer, second);
         }
-        if let Some(turned) = word.turned_within_radius {
-            let in_all = turned.iter().copied().map(u64::from).sum();
+        if let Some(damaged) = word.damaged_within_radius {
+            let in_all = damaged.iter().copied().map(u64::from).sum();
             bounded(tally, in_all, off(here.position, answer), off(here.position, second));
-            counts::as_turned(tally, [turned[1], turned[3]], answer, second);
+            counts::as_damaged(tally, [damaged[1], damaged[3]], answer, second);
         }
     }
 }
@@ -91,10 +91,10 @@ fn off(position: u32, answer: Result<Reading, Refusal>) -> u64 {
 }
 
 /// A word damaged within the radius: it must be read, no further off than twice the bits damaged.
-fn bounded(tally: &mut Tally, turned: u64, by_library: u64, by_second: u64) {
+fn bounded(tally: &mut Tally, damaged: u64, by_library: u64, by_second: u64) {
     tally.add("words damaged within the radius", true);
-    tally.greatest("most bits turned in one of them", turned);
+    tally.greatest("most bits damaged in one of them", damaged);
     tally.greatest("greatest error in steps", by_second);
-    tally.add("errors of twice the bits turned", turned != 0 && by_second == 2 * turned);
-    tally.add("errors above twice the bits turned or refused", 2 * turned < by_library);
+    tally.add("errors of twice the bits damaged", damaged != 0 && by_second == 2 * damaged);
+    tally.add("errors above twice the bits damaged or refused", 2 * damaged < by_library);
 }

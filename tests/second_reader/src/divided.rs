@@ -4,7 +4,7 @@
 //! A chunk is divided when some, but not all, of the places in which w(i) and w(i+1) differ there are taken from w(i+1). The block
 //! i is found from the starts, and both words are made anew and compared place by place with the position's, which is the walk's;
 //! of its steps and of the reading rules nothing is used, so that any reader's answers can be held to the promise: a word that has
-//! a count in [`turned_within_limit`] is read, and [`both_distances_hold`] of its reading.
+//! a count in [`damaged_within_limit`] is read, and [`both_distances_hold`] of its reading.
 use crate::reading::Reading;
 use crate::walk::Walk;
 use crate::word::unlike;
@@ -27,25 +27,25 @@ pub fn divided(here: &Walk) -> [bool; 5] {
 
 /// How many bits are damaged in all between the word at a walk's position and a received word: in a divided chunk any number may
 /// be, in another at most t. None where some chunk that isn't divided has more. Received bits past d aren't looked at.
-pub fn turned_within_limit(here: &Walk, received: &[bool]) -> Option<usize> {
+pub fn damaged_within_limit(here: &Walk, received: &[bool]) -> Option<usize> {
     let code = &here.track.card.code;
-    let turned = code.chunks().map(|places| unlike(&here.word[places.clone()], &received[places]));
-    let within = turned.iter().zip(divided(here)).all(|(&turned, divided)| divided || turned <= code.radius());
-    within.then(|| turned.iter().sum())
+    let damaged = code.chunks().map(|places| unlike(&here.word[places.clone()], &received[places]));
+    let within = damaged.iter().zip(divided(here)).all(|(&damaged, divided)| divided || damaged <= code.radius());
+    within.then(|| damaged.iter().sum())
 }
 
 /// Whether the reading of a word of this position, with so many bits damaged in all, keeps both distances: it is off by at most
 /// the bits damaged plus the residual, and by at most twice the bits damaged.
-pub fn both_distances_hold(position: u32, turned: usize, reading: &Reading) -> bool {
+pub fn both_distances_hold(position: u32, damaged: usize, reading: &Reading) -> bool {
     let off = reading.position.abs_diff(position) as usize;
-    off <= turned + reading.residual as usize && off <= 2 * turned
+    off <= damaged + reading.residual as usize && off <= 2 * damaged
 }
 
 /// Expected values are worked out by hand from document 01 and request P7. All five chunks are counted, from 0; in a word's chunks
 /// place 0 stands leftmost.
 #[cfg(test)]
 mod tests {
-    use super::{both_distances_hold, divided, turned_within_limit};
+    use super::{both_distances_hold, damaged_within_limit, divided};
     use crate::level_promises::{draw, joined, track_of};
     use crate::make_card;
     use crate::reading::{read_from, Reading};
@@ -129,9 +129,9 @@ mod tests {
 
     /// On card B, t 1. The word of position m is m ones and then zeros.
     #[test]
-    fn bits_turned_are_counted_within_the_limits() {
+    fn bits_damaged_are_counted_within_the_limits() {
         let track = track_of(card_b());
-        let counts = |position, written| turned_within_limit(&at(&track, position), &bits(written));
+        let counts = |position, written| damaged_within_limit(&at(&track, position), &bits(written));
         // At 7 chunk 2 is divided: undamaged, then damaged in every bit, then with one more bit in each other chunk.
         assert_eq!(counts(7, "111 111 100 000 000"), Some(0));
         assert_eq!(counts(7, "111 111 011 000 000"), Some(3));
@@ -150,14 +150,14 @@ mod tests {
         assert_eq!(counts(15, "110 011 101 110 011"), Some(5));
         assert_eq!(counts(15, "111 111 111 111 100"), None);
         // Bits past d: two bytes have sixteen bits.
-        assert_eq!(turned_within_limit(&at(&track, 7), &unpacked(&[0x5F, 0x80])), Some(1));
+        assert_eq!(damaged_within_limit(&at(&track, 7), &unpacked(&[0x5F, 0x80])), Some(1));
     }
 
     /// Of a word of position 7.
     #[test]
     fn the_distances_are_both_asked() {
-        let hold = |turned, [position, residual]: [u32; 2]| {
-            both_distances_hold(7, turned, &Reading { position, residual, rule: 2, chunk1_bits: None, chunk2_bits: Some(0) })
+        let hold = |damaged, [position, residual]: [u32; 2]| {
+            both_distances_hold(7, damaged, &Reading { position, residual, rule: 2, chunk1_bits: None, chunk2_bits: Some(0) })
         };
         assert!(hold(0, [7, 0]));
         // Off by 2 to either side, which is 1 + 1 and 2 × 1.
@@ -177,9 +177,9 @@ mod tests {
         let chunks = here.track.card.code.chunks();
         [0, 1, 2, 3, 4].map(|chunk| {
             let sent = &here.word[chunks[chunk].clone()];
-            let turns = (0..1 << sent.len()).filter(|&turned| free[chunk] || borne(sent.len(), turned));
+            let turns = (0..1 << sent.len()).filter(|&damaged| free[chunk] || borne(sent.len(), damaged));
             turns
-                .map(|turned| sent.iter().zip(bits_of(turned, sent.len())).map(|(sent, turned)| sent ^ turned).collect())
+                .map(|damaged| sent.iter().zip(bits_of(damaged, sent.len())).map(|(sent, damaged)| sent ^ damaged).collect())
                 .collect()
         })
     }
@@ -187,7 +187,7 @@ mod tests {
     /// All ways in which each chunk that isn't free has at most t bits damaged.
     fn within_radius(here: &Walk, free: [bool; 5]) -> [Vec<Word>; 5] {
         let radius = here.track.card.code.radius();
-        ways(here, free, |_, turned| turned.count_ones() as usize <= radius)
+        ways(here, free, |_, damaged| damaged.count_ones() as usize <= radius)
     }
 
     /// Of these, the ways in which each chunk that isn't free comes as it was sent, with its first t bits damaged or with its last
@@ -195,17 +195,17 @@ mod tests {
     fn thinned(here: &Walk, free: [bool; 5]) -> [Vec<Word>; 5] {
         let radius = here.track.card.code.radius();
         let first = (1 << radius) - 1;
-        ways(here, free, |size, turned| [0, first, first << (size - radius)].contains(&turned))
+        ways(here, free, |size, damaged| [0, first, first << (size - radius)].contains(&damaged))
     }
 
     /// Asserts the promise of a word of the position where a walk stands: it is within the limits and read, and both distances
     /// hold. The search sets out from `start`.
     fn promise_holds(start: &Walk, here: &Walk, word: &[bool]) {
         let position = here.position;
-        let turned = unlike(&here.word, word);
-        assert_eq!(turned_within_limit(here, word), Some(turned), "{word:?} of {position}");
+        let damaged = unlike(&here.word, word);
+        assert_eq!(damaged_within_limit(here, word), Some(damaged), "{word:?} of {position}");
         let reading = read_from(start, &packed(word)).unwrap_or_else(|number| panic!("{word:?} of {position}: refusal {number}"));
-        assert!(both_distances_hold(position, turned, &reading), "{word:?} of {position}, {turned} bits turned: {reading:?}");
+        assert!(both_distances_hold(position, damaged, &reading), "{word:?} of {position}, {damaged} bits damaged: {reading:?}");
     }
 
     /// Asserts the promise of the words that `words` makes at each of these positions, and answers how many there are.
@@ -290,7 +290,7 @@ mod tests {
         let d = track.card.code.word_bits();
         let words = |here: &Walk| {
             let all = (0..1 << d).map(|number| bits_of(number, d).collect());
-            all.filter(|word: &Word| turned_within_limit(here, word).is_some()).collect()
+            all.filter(|word: &Word| damaged_within_limit(here, word).is_some()).collect()
         };
         tried(&track, 0..=track.last(), words)
     }
@@ -306,14 +306,14 @@ mod tests {
     /// Asserts that a word written down is outside the limits of a position, and refused.
     fn refused(card: [u8; 512], position: u32, written: &str, number: u32) {
         let (track, word) = (track_of(card), bits(written));
-        assert_eq!(turned_within_limit(&at(&track, position), &word), None, "{written}");
+        assert_eq!(damaged_within_limit(&at(&track, position), &word), None, "{written}");
         assert_eq!(read_from(&Walk::new(&track), &packed(&word)), Err(number), "{written}");
     }
 
     /// At 4 card B has the word 111 100 000 000 000, and chunk 1 is divided. With chunk 1 damaged arbitrarily, two bits are too many in
     /// each of the others.
     #[test]
-    fn a_second_chunk_at_will_is_too_many() {
+    fn a_second_chunk_arbitrary_is_too_many() {
         // Separators 0 0 0, so rule 3. Code chunk 1 reads 1 and code chunk 2 reads 0.
         refused(card_b(), 4, "001 111 000 000 000", 11);
         // Separators 1 1 0, so rule 1. Code chunk 1 reads 0.
@@ -326,7 +326,7 @@ mod tests {
 
     /// At 3 card B has the word 111 000 000 000 000, and no chunk is divided. Two bits are too many in each of the last three.
     #[test]
-    fn a_chunk_at_will_that_is_not_divided_is_too_many() {
+    fn a_chunk_arbitrary_that_is_not_divided_is_too_many() {
         // Separators 1 1 0, so rule 1. Code chunk 1 reads 0.
         refused(card_b(), 3, "111 000 011 000 000", 12);
         // Separators 1 0 0, so rule 2. Code chunk 2 reads 1, the last.
@@ -373,13 +373,13 @@ mod tests {
 
     /// Asserts what a word written down, with so many bits damaged against a position's word, reads as: position and residual.
     /// Answers whether it is within the limits, and whether both distances hold.
-    fn read_with(card: [u8; 512], (position, turned): (u32, usize), written: &str, answer: [u32; 2]) -> [bool; 2] {
+    fn read_with(card: [u8; 512], (position, damaged): (u32, usize), written: &str, answer: [u32; 2]) -> [bool; 2] {
         let (track, word) = (track_of(card), bits(written));
         let here = at(&track, position);
-        assert_eq!(unlike(&here.word, &word), turned, "{written}");
+        assert_eq!(unlike(&here.word, &word), damaged, "{written}");
         let reading = read_from(&Walk::new(&track), &packed(&word)).expect("the word is read");
         assert_eq!([reading.position, reading.residual], answer, "{written}");
-        [turned_within_limit(&here, &word).is_some(), both_distances_hold(position, turned, &reading)]
+        [damaged_within_limit(&here, &word).is_some(), both_distances_hold(position, damaged, &reading)]
     }
 
     /// With too many bits damaged in a chunk that isn't divided, a word may also be read, but as a position of another block.
@@ -396,7 +396,7 @@ mod tests {
 
     /// A word within the limits may be off by more than the bits damaged, so the residual is needed.
     #[test]
-    fn the_bits_turned_alone_are_too_few() {
+    fn the_bits_damaged_alone_are_too_few() {
         // Document 01's 5F 00, position 7 with place 5 damaged, within the radius in every chunk: off by 2, which is 1 + 1.
         assert_eq!(packed(&bits("111 110 100 000 000")), [0x5F, 0x00]);
         assert_eq!(read_with(card_b(), (7, 1), "111 110 100 000 000", [5, 1]), [true, true]);

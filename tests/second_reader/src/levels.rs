@@ -64,10 +64,10 @@ impl Received for [Arrival] {
 
     /// The first p for whose codeword c(p) 2 × wrong + erased is below D; wrong is the number that it answers beside p.
     fn code_chunk(&self, code: &Code) -> Option<(usize, usize)> {
-        let lost = self.iter().filter(|arrival| arrival.bit().is_none()).count();
+        let erased = self.iter().filter(|arrival| arrival.bit().is_none()).count();
         let numbers = 0..code.codewords();
         let mut tried = numbers.map(|p| (p, wrong(bits_of(code.codeword(p), code.n), self)));
-        tried.find(|&(_, wrong)| 2 * wrong + lost < code.distance)
+        tried.find(|&(_, wrong)| 2 * wrong + erased < code.distance)
     }
 
     /// Only the unerased bits count.
@@ -167,7 +167,7 @@ mod tests {
 
     /// The word of 7 on card B, 111 111 100 000 000, rule 2, with one bit erased in each chunk.
     #[test]
-    fn one_lost_bit_in_each_chunk() {
+    fn one_erased_bit_in_each_chunk() {
         // Separator 1 sums to -2. m has |7 - m| places differing, less place 1 if that is one of them: 0 for 7 alone.
         reads(card_b(), "1?1 111 100 000 000", [7, 0, 2], [None, Some(0)]);
         // Chunk 1 isn't named.
@@ -184,7 +184,7 @@ mod tests {
 
     /// D 3. With one bit wrong and one erased, 2 × 1 + 1 = 3 isn't below 3; with two erased, 2 is.
     #[test]
-    fn a_chunk_of_three_bits_bears_two_lost_or_one_wrong() {
+    fn a_chunk_of_three_bits_bears_two_erased_or_one_wrong() {
         // Rule 2. 01? against 000 and against 111: one wrong, one erased.
         refused(card_b(), "111 111 100 01? 000", 10);
         reads(card_b(), "111 111 100 ?-0 000", [7, 0, 2], [None, Some(0)]);
@@ -221,7 +221,7 @@ mod tests {
     /// Card A, D 2: one erased bit is read though t is 0, as a codeword follows from any two of its bits. Two erased or one
     /// wrong are 2.
     #[test]
-    fn a_chunk_of_card_a_bears_one_lost_bit() {
+    fn a_chunk_of_card_a_bears_one_erased_bit() {
         // 11 110 11 110 10 is the word of 9: 9 of the places in which w(0), all zeros, and w(1) = 11 110 11 110 11 differ are
         // taken from w(1). Separator 3 ties, so rule 1; p 1 allows 0 + 2 + 2 = 4 to 10.
         reads(card_a(), "11 ?10 11 110 10", [9, 0, 1], [Some(0), None]);
@@ -283,7 +283,7 @@ mod tests {
 
     /// Request P6 with erased bits.
     #[test]
-    fn words_with_lost_bits_in_contradiction_are_refused() {
+    fn words_with_erased_bits_in_contradiction_are_refused() {
         // Rule 3: the separators sum to 2, 3 and 2, and read 0; both chunks read 1, with one bit erased and with two.
         refused(card_b(), "0?0 1-1 000 1?? -00", 17);
         // Separators that are erased whole read 0.
@@ -362,7 +362,7 @@ mod tests {
 
     /// The least magnitude above zero, 2^-149, is a level like another, and not erased.
     #[test]
-    fn the_least_level_is_not_lost() {
+    fn the_least_level_is_not_erased() {
         let least = f32::from_bits(1);
         // The word of 7 with place 10 damaged, chunk 2 faint: were those bits erased, they would not count.
         let faint = levels_with("111 111 100 000 000", 9, &[least, -least]);
@@ -408,11 +408,11 @@ mod tests {
 
     /// No word that is erased whole is read, n being at least D, so the strength is asked by itself: both zeros are positive.
     #[test]
-    fn strength_of_lost_bits_is_zero() {
-        for lost in [vec![0.0; 15], vec![-0.0; 15], levels("?-? --- ??? -?- ---")] {
-            let Strength { sum, greatest } = strength(&lost);
-            assert_eq!([sum.to_bits(), greatest.to_bits()], [0, 0], "levels {lost:?}");
-            assert_eq!(read_levels(&card_b(), &lost), Err(10));
+    fn strength_of_erased_bits_is_zero() {
+        for erased in [vec![0.0; 15], vec![-0.0; 15], levels("?-? --- ??? -?- ---")] {
+            let Strength { sum, greatest } = strength(&erased);
+            assert_eq!([sum.to_bits(), greatest.to_bits()], [0, 0], "levels {erased:?}");
+            assert_eq!(read_levels(&card_b(), &erased), Err(10));
         }
         assert_eq!(read_levels(&card_a(), &[-0.0; 12]), Err(10));
     }

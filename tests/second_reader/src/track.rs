@@ -120,8 +120,8 @@ mod tests {
         let gray = |l: usize| l ^ (l / 2);
         let mut counts = vec![vec![0; k]];
         for l in 0..(1 << k) - 1 {
-            let turned = gray(l) ^ gray(l + 1);
-            counts.push(counts[l].iter().enumerate().map(|(z, count)| count + (turned >> z & 1)).collect());
+            let flipped = gray(l) ^ gray(l + 1);
+            counts.push(counts[l].iter().enumerate().map(|(z, count)| count + (flipped >> z & 1)).collect());
         }
         counts
     }

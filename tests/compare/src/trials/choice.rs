@@ -21,7 +21,7 @@ pub fn is_read(here: &Walk, id: u64) -> bool {
 
 /// Whether words whose divided chunk is damaged arbitrarily are read there: at some of the track, and in some blocks where a chunk
 /// begins to be divided, and where it is for the last time.
-pub fn is_turned_at_will(here: &Walk, id: u64) -> bool {
+pub fn is_damaged_arbitrarily(here: &Walk, id: u64) -> bool {
     is_tried(here, id + 3, at_border_of_division)
 }
 

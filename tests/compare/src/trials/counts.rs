@@ -9,7 +9,7 @@ use second_reader::word::{packed, Word};
 pub struct Counted {
     pub bytes: Vec<u8>,
     pub rule: u32,
-    pub turned: [u32; 2],
+    pub damaged: [u32; 2],
 }
 
 /// The words of codeword p, of card `id`: under each rule every two numbers of bits at the borders.
@@ -22,8 +22,8 @@ pub fn of_codeword(code: &Code, p: usize, id: u64) -> Vec<Counted> {
         let whole = code.word_of_chunks(separators, [code.codeword(p); 2]);
         for first in borders(code.radius()) {
             for second in borders(code.radius()) {
-                let word = turned(code, &whole, [first, second], random(seed, words.len() as u64));
-                words.push(Counted { bytes: packed(&word), rule, turned: [first, second].map(|bits| bits as u32) });
+                let word = damaged(code, &whole, [first, second], random(seed, words.len() as u64));
+                words.push(Counted { bytes: packed(&word), rule, damaged: [first, second].map(|bits| bits as u32) });
             }
         }
     }
@@ -39,7 +39,7 @@ fn borders(radius: usize) -> Vec<usize> {
 }
 
 /// A word with so many bits of code chunks 1 and 2 damaged, at places that follow each other.
-fn turned(code: &Code, word: &Word, counts: [usize; 2], seed: u64) -> Word {
+fn damaged(code: &Code, word: &Word, counts: [usize; 2], seed: u64) -> Word {
     let mut word = word.clone();
     for (chunk, count) in [1, 3].into_iter().zip(counts) {
         turn(&mut word, code.chunks()[chunk].clone(), count, Places::Run, random(seed, chunk as u64));

@@ -39,7 +39,7 @@ pub fn damaged(code: &Code, word: &Word, chunks: Range<usize>, count: usize, whi
 }
 
 /// The bits damaged in each chunk between two words, if no chunk has more of them than the radius.
-pub fn turned_within_radius(code: &Code, sent: &Word, received: &Word) -> Option<[u32; 5]> {
-    let turned = code.chunks().map(|chunk| unlike(&sent[chunk.clone()], &received[chunk]));
-    turned.iter().all(|&bits| bits <= code.radius()).then(|| turned.map(|bits| bits as u32))
+pub fn damaged_within_radius(code: &Code, sent: &Word, received: &Word) -> Option<[u32; 5]> {
+    let damaged = code.chunks().map(|chunk| unlike(&sent[chunk.clone()], &received[chunk]));
+    damaged.iter().all(|&bits| bits <= code.radius()).then(|| damaged.map(|bits| bits as u32))
 }

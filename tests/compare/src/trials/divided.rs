@@ -43,10 +43,10 @@ pub fn every(here: &Walk) -> Vec<Word> {
     let mut words = vec![Word::new()];
     for (places, divided) in code.chunks().into_iter().zip(divided(here)) {
         let size = places.len();
-        let ways = (0u64..1 << size).filter(|turned| divided || turned.count_ones() as usize <= code.radius());
+        let ways = (0u64..1 << size).filter(|damaged| divided || damaged.count_ones() as usize <= code.radius());
         let came: Vec<Word> = ways
-            .map(|turned| {
-                here.word[places.clone()].iter().zip(bits_of(turned, size)).map(|(sent, turned)| sent ^ turned).collect()
+            .map(|damaged| {
+                here.word[places.clone()].iter().zip(bits_of(damaged, size)).map(|(sent, damaged)| sent ^ damaged).collect()
             })
             .collect();
         words = words.iter().flat_map(|before| came.iter().map(move |chunk| [&before[..], chunk].concat())).collect();

@@ -65,7 +65,7 @@ fn word_number(q: u64, behind: &Walk, here: &Walk, seed: u64) -> Vec<f32> {
         17 => all(&made_up(24, here, seed), false, &|_| 1),
         18 => all(&made_up(26, here, seed), seed % 2 == 0, &up_to(code.distance)),
         19 => (0..here.word.len() as u64).map(|place| [1.0, -1.0, zero(seed)][(random(seed, place) % 3) as usize]).collect(),
-        20 => lost(&here.word, code.chunks()[(seed % 3 * 2) as usize].clone(), seed),
+        20 => erased(&here.word, code.chunks()[(seed % 3 * 2) as usize].clone(), seed),
         21 => neighbours_alike(behind, here, seed),
         _ => unreachable!("there are {COUNT} words"),
     }
@@ -100,7 +100,7 @@ fn least_codeword(code: &Code, seed: u64) -> u64 {
 }
 
 /// The levels of a word with these places erased.
-fn lost(word: &Word, places: Range<usize>, seed: u64) -> Vec<f32> {
+fn erased(word: &Word, places: Range<usize>, seed: u64) -> Vec<f32> {
     let mut levels = of_bits(word);
     levels[places].fill(zero(seed));
     levels

@@ -1,5 +1,5 @@
 //! The words that are read at a position: its own, undamaged and damaged in many ways, and words made up.
-use super::damage::{damaged, turn, turned_within_radius, Places};
+use super::damage::{damaged, damaged_within_radius, turn, Places};
 use super::random;
 use second_reader::walk::Walk;
 use second_reader::word::{packed, Word};
@@ -10,7 +10,7 @@ const COUNT: u64 = 29;
 /// A word that is received, and how many bits of each chunk are damaged if no chunk has more of them than the radius.
 pub struct Received {
     pub bytes: Vec<u8>,
-    pub turned_within_radius: Option<[u32; 5]>,
+    pub damaged_within_radius: Option<[u32; 5]>,
 }
 
 /// The words of the position at which `here` stands, of card `id`. The walk `behind` stands further back. The last two have a spare bit
@@ -20,8 +20,8 @@ pub fn at<'a>(behind: &'a Walk, here: &'a Walk, id: u64) -> impl Iterator<Item =
     let seed = random(id, here.position.into());
     let words = (0..COUNT).map(move |q| {
         let word = word_number(q, behind, here, random(seed, q));
-        let turned_within_radius = turned_within_radius(&here.track.card.code, &here.word, &word);
-        Received { bytes: packed(&word), turned_within_radius }
+        let damaged_within_radius = damaged_within_radius(&here.track.card.code, &here.word, &word);
+        Received { bytes: packed(&word), damaged_within_radius }
     });
     words.chain([with_spare_bit(&here.word), with_spare_bit(&made_up(24, here, random(seed, COUNT)))])
 }
@@ -46,8 +46,8 @@ fn word_number(q: u64, behind: &Walk, here: &Walk, seed: u64) -> Word {
         17 => one(any, code.chunks()[any].len(), Places::First),
         18..=21 => moved(q, behind, here),
         22..=26 => made_up(q, here, seed),
-        27 => pasted(here, code.chunks()[1 + any % 4].start, seed),
-        28 => pasted(here, seed as usize % code.word_bits(), seed),
+        27 => mixed(here, code.chunks()[1 + any % 4].start, seed),
+        28 => mixed(here, seed as usize % code.word_bits(), seed),
         _ => unreachable!("there are {COUNT} words"),
     }
 }
@@ -100,7 +100,7 @@ pub fn made_up(q: u64, here: &Walk, seed: u64) -> Word {
 
 /// Words 27 and 28, mixed from two telegrams: the position's word up to where a chunk begins, or up to any place, and from there on
 /// that of some codeword.
-fn pasted(here: &Walk, place: usize, seed: u64) -> Word {
+fn mixed(here: &Walk, place: usize, seed: u64) -> Word {
     let code = &here.track.card.code;
     let other = code.whole_word((random(seed, 1) % code.codewords() as u64) as usize);
     [&here.word[..place], &other[place..]].concat()
@@ -112,5 +112,5 @@ fn with_spare_bit(word: &Word) -> Received {
     if word.len() % 8 != 0 {
         bytes[word.len() / 8] |= 1 << (word.len() % 8);
     }
-    Received { bytes, turned_within_radius: None }
+    Received { bytes, damaged_within_radius: None }
 }

@@ -11,7 +11,7 @@ use lib.Pow.{pow-mono, pow-pos}
 use Rattle.model.specs.ReedMuller.{countOfSets}
 use Rattle.reed_muller_theory.proofs.OrderLimits.{order-limits-of-test, order-at-most-three}
 use Rattle.reed_muller.proofs.VotedDown.{VotedDown, few-rows, voting-starts, voting-goes-on, voting-tied, setsBelow, not-accepted, accepted}
-use Rattle.reed_muller.proofs.LastRound.{taken-off, not-taken-off, ones-damaged}
+use Rattle.reed_muller.proofs.LastRound.{taken-off, not-taken-off, ones-flipped}
 use Rattle.reed_muller.proofs.voting.vote.Statement.{statement}
 use Rattle.reed_muller.proofs.voting.vote.Tie as tie
 
@@ -124,7 +124,7 @@ ended c =
     record {
       left-over = bitXor (left last) (2 ^ 2 ^ first .args .m - 1);
       voted = rw (w .1) (taken-off _ _ _ _ _ six (here last) (omega (arith, w .0 .taken, n-is last)));
-      count = w .2 ∙ ap (λ (n : ℕ). n - ones (left last)) (n-is last) ∙ sym (ones-damaged (first .args .m) (left last) six (here last .narrow));
+      count = w .2 ∙ ap (λ (n : ℕ). n - ones (left last)) (n-is last) ∙ sym (ones-flipped (first .args .m) (left last) six (here last .narrow));
     })
     (λ w.
     record {
