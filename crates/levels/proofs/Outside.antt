@@ -16,11 +16,11 @@ use Rattle.bits.specs.Searches.{anyBelow}
 use Rattle.bits.proofs.Numbers.{by-test}
 use Rattle.model.specs.Levels.{zeroLevel, magnitude, infinite, outside, anyOutside}
 
-pub above-is-outside : (x : Float) → lt (ofInt binary32 (pos 1000000)) (magnitude x) ≡ true → outside x ≡ true
+above-a-million : (x : Float) → lt (ofInt binary32 (pos 1000000)) (magnitude x) ≡ true → outside x ≡ true
 unfolding outside isNan infinite
-above-is-outside nan above = refl
-above-is-outside (inf s) above = refl
-above-is-outside (fin s m e) above = above
+above-a-million nan above = refl
+above-a-million (inf s) above = refl
+above-a-million (fin s m e) above = above
 
 -- a number is like itself
 same-number : (s : Bool) (m : ℕ) (e : ℤ) → ne (fin s m e) (fin s m e) ≡ false
@@ -28,15 +28,23 @@ unfolding ne eq
 same-number false m e = rw (eq-eqb _ _ refl)
 same-number true m e = rw (eq-eqb _ _ refl)
 
-pub not-above : (x : Float) → lt (ofInt binary32 (pos 1000000)) (magnitude x) ≡ false → outside x ≡ ne (magnitude x) (magnitude x)
+not-above-a-million : (x : Float) → lt (ofInt binary32 (pos 1000000)) (magnitude x) ≡ false → outside x ≡ ne (magnitude x) (magnitude x)
 unfolding outside isNan infinite magnitude lt neg ne eq ofInt
-not-above nan below = refl
-not-above (inf true) below = absurd (true≢false below)
-not-above (inf false) below = absurd (true≢false below)
-not-above (fin s m e) below =
+not-above-a-million nan below = refl
+not-above-a-million (inf true) below = absurd (true≢false below)
+not-above-a-million (inf false) below = absurd (true≢false below)
+not-above-a-million (fin s m e) below =
     below
     ∙ sym
     (by-test (λ y. ne y y ≡ false) (lt (fin s m e) zeroLevel) (λ _. same-number (not s) m e) (λ _. same-number s m e))
+
+-- the same of the code's own limit, which must be a million, and of the magnitude m that it computes
+module _ (x : Float) {limit m : Float} (million : limit ≡ ofInt binary32 (pos 1000000)) (is : m ≡ magnitude x) where
+  pub above-is-outside : lt limit m ≡ true → outside x ≡ true
+  above-is-outside above = above-a-million x (rw (million, is) at above)
+
+  pub not-above : lt limit m ≡ false → outside x ≡ ne m m
+  not-above below = rw is (not-above-a-million x (rw (million, is) at below))
 
 -- ---- flags: 1 for a test that holds, 0 for one that fails
 

@@ -90,7 +90,10 @@ pub fn pass_places(u: [u8; 40], v: [u8; 40], x: ReceivedWord, at: u32, to: u32, 
             let new = places::bit_of(v[j], q);
             let received = places::bit_of(x.bits[j], q);
             let unerased = places::bit_of(x.unerased[j], q);
-            let next = advance(state, next_residual(state.residual, new, received, unerased));
+            let next = advance(
+                state,
+                next_residual(state.residual, new, received, unerased),
+            );
             state = next;
         }
         q += 1;

@@ -8,12 +8,10 @@ use Rattle.levels.proofs.limits.level_is_outside.Statement.{statement}
 use Rattle.levels.proofs.limits.level_is_outside.Tie as tie
 
 returns : tie.Need-returns
-returns c = sym (above-is-outside _ (rw (million-literal, c .before .magnitude-of .ensures) at (c .if1 .taken)))
+returns c = sym (above-is-outside _ million-literal (c .before .magnitude-of .ensures) (c .if1 .taken))
 
 returns-2 : tie.Need-returns-2
-returns-2 c =
-    let is = c .before .magnitude-of .ensures in
-    rw is (sym (not-above _ (rw (million-literal, is) at (c .if1 .left))))
+returns-2 c = sym (not-above _ million-literal (c .before .magnitude-of .ensures) (c .if1 .left))
 
 pub level-is-outside-spec : {M : Type 1} → statement M
 level-is-outside-spec = tie.close (tie.spec (λ c κs. search needs) returns returns-2)
