@@ -89,7 +89,7 @@ enum dunnavish_status {
     DUNNAVISH_SPARE_BIT = 8,        /* received word: a spare bit is set; chunk: a bit at n or above is set */
     DUNNAVISH_SEPARATORS = 9,       /* received word: its separators read 0 1 0 or 1 0 1 */
     DUNNAVISH_CHUNK_UNREADABLE = 10, /* a chunk, or a code chunk that a word's rule names, has no codeword within the radius; of
-                                        levels, none for which 2 * wrong + lost is below D */
+                                        levels, none for which 2 * wrong + erased is below D */
     DUNNAVISH_CHUNKS_DIFFER = 11,   /* received word: rule 3, and the two code chunks read differently */
     DUNNAVISH_NO_BLOCK = 12,        /* received word: rule 1 before the first block, or rule 2 after the last */
     DUNNAVISH_CODE_LIMITS = 13,     /* Reed-Muller code: m outside 1 to 6, r above m, or k above 12; tested before 8 and 10 */

@@ -59,8 +59,8 @@ pub record Passed (card : List ℕ) (decoded : Decoded) : Type 0 where
   pub passed : decoded .refusal ≡ 0
 
 -- the length of its words, and its last position
-abbrev size : Decoded → ℕ
-size decoded = wordLength (meaning (decoded .code))
+abbrev word-size : Decoded → ℕ
+word-size decoded = wordLength (meaning (decoded .code))
 
 abbrev last : Decoded → ℕ
 last decoded = lastPosition (meaning (decoded .code))
@@ -70,24 +70,24 @@ module _ {card : List ℕ} {decoded : Decoded} (card-passed : Passed card decode
   is-code = card-passed .from .code (card-passed .passed)
 
   word-refusal : writeRefusal card position lent
-      ≡ cond (not (eqb (length lent) (size decoded))) 6 (cond (ltb (last decoded) position) 7 0)
+      ≡ cond (not (eqb (length lent) (word-size decoded))) 6 (cond (ltb (last decoded) position) 7 0)
   unfolding writeRefusal firstRefusal
   word-refusal = rw (← (card-passed .from .refusal), eq-eqb (decoded .refusal) 0 (card-passed .passed), ← is-code)
 
-  pub refused-6 : (length lent ≡ size decoded → ⊥) → WriteMeets card position lent (Refused 6) lent
+  pub refused-6 : (length lent ≡ word-size decoded → ⊥) → WriteMeets card position lent (Refused 6) lent
   refused-6 other-length =
-      refused card position lent 6 (word-refusal ∙ rw (ne-eqb (length lent) (size decoded) other-length)) (λ e. omega arith)
+      refused card position lent 6 (word-refusal ∙ rw (ne-eqb (length lent) (word-size decoded) other-length)) (λ e. omega arith)
 
-  module _ (whole : length lent ≡ size decoded) where
+  module _ (whole : length lent ≡ word-size decoded) where
     pub refused-7 : last decoded < position → WriteMeets card position lent (Refused 7) lent
     refused-7 above =
         refused card position lent 7
-        (word-refusal ∙ rw (eq-eqb (length lent) (size decoded) whole, lt-ltb (last decoded) position above)) (λ e. omega arith)
+        (word-refusal ∙ rw (eq-eqb (length lent) (word-size decoded) whole, lt-ltb (last decoded) position above)) (λ e. omega arith)
 
     -- where neither holds, it is written
     module _ (within : position ≤ last decoded) where
       none : writeRefusal card position lent ≡ 0
-      none = word-refusal ∙ rw (eq-eqb (length lent) (size decoded) whole, le-ltb (last decoded) position within)
+      none = word-refusal ∙ rw (eq-eqb (length lent) (word-size decoded) whole, le-ltb (last decoded) position within)
 
       pub written : (left : List ℕ) → left ≡ wordBytes (meaning (decoded .code)) position → WriteMeets card position lent Written left
       unfolding writeAnswer lentAfterWrite unlessRefused
