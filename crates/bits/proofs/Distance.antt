@@ -46,7 +46,8 @@ pub distance-alike-after : (a d : ℕ) (u v : ℕ → ℕ) → a ≤ d → ((p :
 distance-alike-after a d u v h alike =
     let rest = le-dest h in
     let none : distance (rest .0) (fromPlace a u) (fromPlace a v) ≡ 0 =
-    distance-ext-left (rest .0) (fromPlace a v) (λ p l. alike (a + p) (omega arith) (omega arith)) ∙ distance-self (rest .0) (fromPlace a v) in
+    distance-ext-left (rest .0) (fromPlace a v) (λ p l. alike (a + p) (omega arith) (omega arith))
+    ∙ distance-self (rest .0) (fromPlace a v) in
     rw (← (rest .1)) (distance-split a (rest .0) u v ∙ omega arith)
 
 -- words that differ in each of d places are d apart

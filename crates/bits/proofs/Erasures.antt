@@ -27,13 +27,15 @@ pub unerased-ext-left : (unerased : ℕ → Bool) {u u′ : ℕ → ℕ} (d : �
     → distanceUnerased unerased d u v ≡ distanceUnerased unerased d u′ v
 unerased-ext-left unerased d v hu = unerased-ext d (λ p b. refl) hu (λ p b. refl)
 
-pub erased-ext : {unerased unerased′ : ℕ → Bool} (d : ℕ) → ((p : ℕ) → p < d → unerased p ≡ unerased′ p) → erasedBelow unerased d ≡ erasedBelow unerased′ d
+pub erased-ext : {unerased unerased′ : ℕ → Bool} (d : ℕ) → ((p : ℕ) → p < d → unerased p ≡ unerased′ p)
+    → erasedBelow unerased d ≡ erasedBelow unerased′ d
 unfolding erasedBelow
 erased-ext d hh = sum-ext d (λ p b. rw (hh p b))
 
 -- the distance adds up over parts of a word
 pub unerased-split : (unerased : ℕ → Bool) (a b : ℕ) (u v : ℕ → ℕ)
-    → distanceUnerased unerased (a + b) u v ≡ distanceUnerased unerased a u v + distanceUnerased (fromPlace a unerased) b (fromPlace a u) (fromPlace a v)
+    → distanceUnerased unerased (a + b) u v
+    ≡ distanceUnerased unerased a u v + distanceUnerased (fromPlace a unerased) b (fromPlace a u) (fromPlace a v)
 unfolding distanceUnerased
 unerased-split unerased a b u v = sum-split (λ p. cond (unerased p) (difference (u p) (v p)) 0) a b
 
@@ -53,7 +55,8 @@ unerased-alike-after unerased a d u v h alike =
 
 -- words that agree at all places but one are as far from a third one but for that place
 pub unerased-one-place : (unerased : ℕ → Bool) (f g x : ℕ → ℕ) (d q : ℕ) → q < d → ((p : ℕ) → p < d → (p ≡ q → ⊥) → f p ≡ g p)
-    → distanceUnerased unerased d f x + cond (unerased q) (difference (g q) (x q)) 0 ≡ distanceUnerased unerased d g x + cond (unerased q) (difference (f q) (x q)) 0
+    → distanceUnerased unerased d f x + cond (unerased q) (difference (g q) (x q)) 0
+    ≡ distanceUnerased unerased d g x + cond (unerased q) (difference (f q) (x q)) 0
 unfolding distanceUnerased
 unerased-one-place unerased f g x d q h same =
     sum-one-place (λ p. cond (unerased p) (difference (f p) (x p)) 0) (λ p. cond (unerased p) (difference (g p) (x p)) 0) d q h

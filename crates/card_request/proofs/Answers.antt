@@ -20,8 +20,10 @@ use Rattle.reed_muller_theory.specs.MadeCards.{IsReedMullerCard}
 use Rattle.reed_muller_theory.proofs.MadeCards.{is-reed-muller-card}
 use Rattle.depot.proofs.MadeCardContract.{limits-refused, limits-passed}
 use Rattle.depot.proofs.Statuses.{StatusAndValues, status-and-values}
-use Rattle.card_request.specs.Request.{allDigits, numberIn, isNumber, numberText, greatestTrack, greatestNumber, noTrack, noOrder, noVariables}
-use Rattle.card_request.specs.Request.{noCard, requestRefusal, requestCard, requestAnswer, outcomeStatus, requestStatus, outcomeValues, requestValues}
+use Rattle.card_request.specs.Request.{allDigits, numberIn, isNumber, numberText, greatestTrack, greatestNumber}
+use Rattle.card_request.specs.Request.{noTrack, noOrder, noVariables}
+use Rattle.card_request.specs.Request.{noCard, requestRefusal, requestCard, requestAnswer, outcomeStatus}
+use Rattle.card_request.specs.Request.{requestStatus, outcomeValues, requestValues}
 use Rattle.card_request.specs.declared.NumberText.the-variants.{Number, NoNumber}
 use Rattle.card_request.specs.declared.Outcome.the-variants.{Made, Refused}
 use Rattle.card_request.specs.declared.Answer.{Answer}
@@ -94,7 +96,8 @@ module _ (track r m : List ℕ) where
 
   request-answered : StatusAndValues requestStatus requestValues (requestRefusal track r m) (requestCard track r m) (requestAnswer track r m)
   unfolding requestAnswer outcomeStatus outcomeValues
-  request-answered = status-and-values requestStatus requestValues _ (requestCard track r m) noCard _ (λ number. refl) (λ number. refl) refl refl
+  request-answered =
+      status-and-values requestStatus requestValues _ (requestCard track r m) noCard _ (λ number. refl) (λ number. refl) refl refl
 
   meets : {a : Answer} → a ≡ requestAnswer track r m → Meets a
   meets e = let (status, values) = request-answered in rw e (refl, (status, (values, made-card)))

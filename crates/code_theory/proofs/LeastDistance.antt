@@ -129,7 +129,8 @@ module _ (C : Code) (S : Sound C) where
 
   -- of one chunk, two codewords never both have 2 × wrong + erased below D
   pub one-within-erasures : (unerased : ℕ → Bool) (x : ℕ → ℕ) (i j : ℕ) → i ≤ lastCodeword C → j ≤ lastCodeword C
-      → 2 * chunkWrong C unerased x i + erasedBelow unerased (C .n) < C .D → 2 * chunkWrong C unerased x j + erasedBelow unerased (C .n) < C .D → i ≡ j
+      → 2 * chunkWrong C unerased x i + erasedBelow unerased (C .n) < C .D
+      → 2 * chunkWrong C unerased x j + erasedBelow unerased (C .n) < C .D → i ≡ j
   unfolding chunkWrong
   one-within-erasures unerased x i j li lj hi hj =
       same-if-nearer i j li lj (omega (arith, unerased-triangle unerased (C .n) (bit (codeword C i)) (bit (codeword C j)) x))

@@ -16,7 +16,8 @@ use Rattle.model.specs.Words.{wordBits, millimetresOf}
 use Rattle.model.specs.CheckCard.{summaryOf, cardAnswer, cardExpected, cardStatus, cardValues}
 use Rattle.model.specs.WriteWord.{writeRefusal, writeAnswer, writeStatus, writeValues}
 use Rattle.model.specs.ReadWord.{readingOf, readRefusal, readAnswer, readExpected, readStatus, readValues}
-use Rattle.model.specs.ReadLevels.{readingInLevels, levelsAnswered, levelsAnswer, levelsRefusal, levelsExpected, strengthExpected, positionAnswer}
+use Rattle.model.specs.ReadLevels.{readingInLevels, levelsAnswered, levelsAnswer, levelsRefusal, levelsExpected}
+use Rattle.model.specs.ReadLevels.{strengthExpected, positionAnswer}
 use Rattle.model.specs.ReadLevels.{levelsStatus, levelsValues, strengthValues}
 use Rattle.model.specs.BlockStart.{startRefusal, startAnswer, numberStatus, numberValues}
 use Rattle.model.specs.Millimetres.{millimetresRefusal, millimetresAnswer, millimetresStatus, millimetresValues}
@@ -54,30 +55,35 @@ status-and-values status values refusal expected refused served number none zero
 pub card-answered : (card : List ℕ) → StatusAndValues cardStatus cardValues (cardRefusal card) (cardExpected card) (cardAnswer card)
 unfolding cardAnswer cardStatus cardValues cardExpected summaryOf
 card-answered card =
-    status-and-values cardStatus cardValues (cardRefusal card) (cardExpected card) CardRefused (Sound (summaryOf card)) (λ number. refl) (λ number. refl) refl refl
+    status-and-values cardStatus cardValues (cardRefusal card) (cardExpected card) CardRefused (Sound (summaryOf card))
+    (λ number. refl) (λ number. refl) refl refl
 
 pub write-answered : (card : List ℕ) (position : ℕ) (lent : List ℕ)
     → StatusAndValues writeStatus writeValues (writeRefusal card position lent) [] (writeAnswer card position lent)
 unfolding writeAnswer writeStatus writeValues
 write-answered card position lent =
-    status-and-values writeStatus writeValues (writeRefusal card position lent) [] WriteRefused Written (λ number. refl) (λ number. refl) refl refl
+    status-and-values writeStatus writeValues (writeRefusal card position lent) [] WriteRefused Written (λ number. refl)
+    (λ number. refl) refl refl
 
 pub read-answered : (card received : List ℕ)
     → StatusAndValues readStatus readValues (readRefusal card received) (readExpected card received) (readAnswer card received)
 unfolding readAnswer readStatus readValues readExpected
 read-answered card received =
-    status-and-values readStatus readValues (readRefusal card received) (readExpected card received) ReadRefused (At (readingOf (codeOf card) received))
+    status-and-values readStatus readValues (readRefusal card received) (readExpected card received) ReadRefused
+    (At (readingOf (codeOf card) received))
     (λ number. refl) (λ number. refl) refl refl
 
 -- a word of levels that is read: the reading, with the strength of all levels
 abbrev levelsServed : (card : List ℕ) (levels : List Float) → LevelsAnswer
-levelsServed card levels = LevelsAt (readingInLevels (codeOf card) (receivedAt levels)) (strengthOf (receivedAt levels) (wordBits (codeOf card)))
+levelsServed card levels =
+    LevelsAt (readingInLevels (codeOf card) (receivedAt levels)) (strengthOf (receivedAt levels) (wordBits (codeOf card)))
 
 pub levels-answered : (card : List ℕ) (levels : List Float)
     → StatusAndValues levelsStatus levelsValues (levelsRefusal card levels) (levelsExpected card levels) (levelsAnswer card levels)
 unfolding levelsAnswer levelsAnswered positionAnswer readStatus readValues levelsExpected
 levels-answered card levels =
-    status-and-values levelsStatus levelsValues (levelsRefusal card levels) (levelsExpected card levels) LevelsRefused (levelsServed card levels)
+    status-and-values levelsStatus levelsValues (levelsRefusal card levels) (levelsExpected card levels) LevelsRefused
+    (levelsServed card levels)
     (λ number. refl) (λ number. refl) refl refl
 
 -- and the strength of a word that is read
@@ -85,7 +91,8 @@ pub strength-answered : (card : List ℕ) (levels : List Float)
     → StatusAndValues levelsStatus strengthValues (levelsRefusal card levels) (strengthExpected card levels) (levelsAnswer card levels)
 unfolding levelsAnswer levelsAnswered positionAnswer readStatus strengthValues strengthExpected
 strength-answered card levels =
-    status-and-values levelsStatus strengthValues (levelsRefusal card levels) (strengthExpected card levels) LevelsRefused (levelsServed card levels)
+    status-and-values levelsStatus strengthValues (levelsRefusal card levels) (strengthExpected card levels) LevelsRefused
+    (levelsServed card levels)
     (λ number. refl) (λ number. refl) refl refl
 
 pub start-answered : (card : List ℕ) (block : ℕ)

@@ -49,7 +49,8 @@ module _ (card : List ℕ) (position : ℕ) (lent : List ℕ) where
   refused refusal e ne = met (WriteClauses lent) (write-clauses lent (rw (e, ne-eqb refusal 0 ne))) (rw (e, ne-eqb refusal 0 ne))
 
   -- the card's refusals
-  pub write-card-refused : (decoded : Decoded) → DecodedFrom card decoded → (decoded .refusal ≡ 0 → ⊥) → WriteMeets (Refused (decoded .refusal)) lent
+  pub write-card-refused : (decoded : Decoded) → DecodedFrom card decoded → (decoded .refusal ≡ 0 → ⊥)
+      → WriteMeets (Refused (decoded .refusal)) lent
   unfolding writeRefusal firstRefusal
   write-card-refused decoded from ne = refused (decoded .refusal) (rw (← (from .refusal), ne-eqb (decoded .refusal) 0 ne)) ne
 

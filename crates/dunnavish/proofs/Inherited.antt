@@ -66,7 +66,8 @@ module _ {A B : Type 0} (status : A → ℕ) (values : A → List B) (refusal : 
 
     pub wrong-count : (length lent ≡ count → ⊥) → Contract count lent answer wrongCount lent
     wrong-count other-length =
-        inherits wrongCount lent (wrong-count-crosses count lent other-length (status answer) (values answer)) (λ alike. absurd (other-length alike))
+        inherits wrongCount lent (wrong-count-crosses count lent other-length (status answer) (values answer))
+        (λ alike. absurd (other-length alike))
 
     module _ (alike : length lent ≡ count) {number : ℕ} (expected : List B) {answered : A}
         (ensured : Ensured answer number expected answered) where

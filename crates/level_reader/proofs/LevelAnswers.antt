@@ -81,7 +81,8 @@ module _ (C : Code) (word : ℕ → ReceivedLevel) (w : LevelWord) (holds : Leve
   residual-in-arrays =
       fun-ext (λ q. unerased-ext (wordBits C) (λ p b. sym (unerased-marked p b)) (λ p b. refl) (λ p b. sym (bits-placed p b)))
 
-  pub rule-of-levels : (rule : ℕ) (answer : ReadAnswer) → AnswersRule (twoEnds C) C (residualIn C (w .word)) (w .word) rule (separatorBy (seenInLevels C word) rule) answer
+  pub rule-of-levels : (rule : ℕ) (answer : ReadAnswer)
+      → AnswersRule (twoEnds C) C (residualIn C (w .word)) (w .word) rule (separatorBy (seenInLevels C word) rule) answer
       → answer ≡ answerInLevels C word rule
   rule-of-levels rule answer by-rule =
       by-rule (seenInLevels C word) levels-in-arrays refl

@@ -119,7 +119,8 @@ module _ (card : List ℕ) (levels : List Float) where
       error-of-seen C (card-promise card sound) sees position u h (place-of-word C position)
       (all-below C (unerasedOf levels) position u (bitsOf levels) below) in
       let wrong : residualUnerased C (unerasedOf levels) (bitsOf levels) position ≡ wrongInAll C (unerasedOf levels) u (bitsOf levels) =
-      sym (unerased-ext-left (unerasedOf levels) (wordBits C) (bitsOf levels) (place-of-word C position)) ∙ five-wrong C (unerasedOf levels) u (bitsOf levels) in
+      sym (unerased-ext-left (unerasedOf levels) (wordBits C) (bitsOf levels) (place-of-word C position))
+      ∙ five-wrong C (unerasedOf levels) u (bitsOf levels) in
       rw (levels-sound card levels sound, read-if-inside C levels whole (units-inside units))
       (near-loosen _ position _ _ (omega (arith, wrong, five-erased C (unerasedOf levels), least)) near)
 

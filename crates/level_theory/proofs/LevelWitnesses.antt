@@ -23,7 +23,8 @@ use Rattle.model.specs.Words.{chunk₁, chunk₂, wordBits, chunkSize, placesBe
 use Rattle.model.specs.Reading.{majority, chunkDistance, withinRadius, readFirst, chunkReading, unreadable, numberRead, seen}
 use Rattle.model.specs.Reading.{ruleSeen, ruleOf, numberBy, separatorOf, parityDiffers, twoEnds, rows9To12, rowsSeen, ruleNamed, rowsOf}
 use Rattle.model.specs.Reading.{allowed, residual, nearestIn, bitsNeeded, nearestReading}
-use Rattle.model.specs.Levels.{magnitude, infinite, outside, anyOutside, receivedLevel, receivedAt, isUnerased, bitOfLevel, plusLevel, sumOfLevels}
+use Rattle.model.specs.Levels.{magnitude, infinite, outside, anyOutside, receivedLevel, receivedAt, isUnerased}
+use Rattle.model.specs.Levels.{bitOfLevel, plusLevel, sumOfLevels}
 use Rattle.model.specs.Levels.{separatorReading, chunkWrong, withinErasures, erasureReading, seenInLevels, residualUnerased}
 use Rattle.model.specs.ReadWord.{spareSet, rowsOfWord, readRefusal, readAnswer}
 use Rattle.model.specs.CardsToTry.{cardB}

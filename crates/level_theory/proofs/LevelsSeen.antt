@@ -11,7 +11,8 @@ use Rattle.bits.proofs.Erasures.{unerased-ext}
 use Rattle.model.specs.Card.{Code}
 use Rattle.model.specs.Words.{wordBits, chunkSize, placesBefore}
 use Rattle.model.specs.Reading.{majority, chunkReading, seen, residual}
-use Rattle.model.specs.Levels.{isUnerased, bitOfLevel, unerasedIn, bitsIn, erasureReading, separatorReading, levelsChunkReading, seenInLevels, residualUnerased}
+use Rattle.model.specs.Levels.{isUnerased, bitOfLevel, unerasedIn, bitsIn, erasureReading, separatorReading}
+use Rattle.model.specs.Levels.{levelsChunkReading, seenInLevels, residualUnerased}
 use Rattle.model.specs.declared.ReceivedLevel.{ReceivedLevel}
 use Rattle.code_theory.specs.Promise.{Sound, ChunkPromise}
 use Rattle.code_theory.proofs.ChunkReading.{erasure-reading-ext}
@@ -89,4 +90,5 @@ module _ (C : Code) (sound : Sound C) (word : ℕ → ReceivedLevel) (units : (p
     pub as-plain-residual : residualUnerased C (unerasedIn word) (bitsIn word) ≡ residual C x
     unfolding residualUnerased
     as-plain-residual =
-        fun-ext (λ q. unerased-ext {unerased′ = everywhere} (wordBits C) unerased (λ p b. refl) (λ p b. sym (same p b))) ∙ sym (plain-residual C x)
+        fun-ext (λ q. unerased-ext {unerased′ = everywhere} (wordBits C) unerased (λ p b. refl) (λ p b. sym (same p b)))
+        ∙ sym (plain-residual C x)

@@ -41,11 +41,13 @@ module _ (word : ℕ → ReceivedLevel) (at : ℕ) where
   module _ (q : ℕ) (chunk : LevelChunk) (so-far : LevelChunkOf word at q chunk) where
     pub bits-room : q < 64 → chunk .bits + 2 ^ q < 2 ^ 64
     bits-room h =
-        room-for (chunk .bits) q h (rw (so-far .bits-are) (number-below (fromPlace at (bitsIn word)) (λ p. bit-of-level-small word (at + p)) q))
+        room-for (chunk .bits) q h
+        (rw (so-far .bits-are) (number-below (fromPlace at (bitsIn word)) (λ p. bit-of-level-small word (at + p)) q))
 
     pub unerased-room : q < 64 → chunk .unerased + 2 ^ q < 2 ^ 64
     unerased-room h =
-        room-for (chunk .unerased) q h (rw (so-far .unerased-are) (number-below (fromPlace at (unerasedBits word)) (λ p. unerased-bit word (at + p)) q))
+        room-for (chunk .unerased) q h
+        (rw (so-far .unerased-are) (number-below (fromPlace at (unerasedBits word)) (λ p. unerased-bit word (at + p)) q))
 
     -- one level more
     pub one-level-more : (next : LevelChunk) → OneLevelMore chunk (2 ^ q) (word (at + q)) next → LevelChunkOf word at (q + 1) next

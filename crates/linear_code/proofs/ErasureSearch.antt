@@ -81,7 +81,8 @@ module _ (C : Code) (sound : Sound C) (x h : ℕ) (fits : x < 2 ^ C .n) (mask : 
           (lt-or-le (2 * wrong + erased) D)
 
       near : (j : ℕ)
-          → nearBits (C .k) (λ z. getD rows z 0) (bitAnd x h) limit j ≡ ltb (2 * chunkWrong C unerased (bit x) j + erasedBelow unerased (C .n)) (C .D)
+          → nearBits (C .k) (λ z. getD rows z 0) (bitAnd x h) limit j
+          ≡ ltb (2 * chunkWrong C unerased (bit x) j + erasedBelow unerased (C .n)) (C .D)
       near j = rw (counted j, is-limit) (within (chunkWrong C unerased (bit x) j) (erasedBelow unerased (C .n)) (C .D) some)
 
   -- what is said of a plain chunk

@@ -115,7 +115,8 @@ module _ (C : Code) (sound : Sound C) (i next : ℕ) (u v : List ℕ) (old : Hol
       pub residual-at-start : s .residual ≡ residualTo u v x 0
       residual-at-start =
           here
-          ∙ unerased-ext-left (marked (place (x .unerased))) (wordBits C) (place (x .bits)) (λ p b. sym (passed-above (word C i) (word C next) 0 p (omega arith)))
+          ∙ unerased-ext-left (marked (place (x .unerased))) (wordBits C) (place (x .bits))
+          (λ p b. sym (passed-above (word C i) (word C next) 0 p (omega arith)))
           ∙ sym (residual-at-place 0 (omega arith))
 
       module _ (to : ℕ) (room : to ≤ wordBits C) (r : Scan) (passes : Passes u v x 0 to s r) where

@@ -99,7 +99,8 @@ module _ (u v : List ℕ) (x : ReceivedWord) (at q : ℕ) (s t : Scan) (from-at 
     -- `next` is the residual after the bit was flipped to v's, and r the search one position on with that residual
     pub pass-differing : (next : ℕ)
         → ((old : ℕ) → old < 2 → difference old (place v q) ≡ 1
-        → next + differenceUnerased (place (x .unerased) q) old (place (x .bits) q) ≡ t .residual + differenceUnerased (place (x .unerased) q) (place v q) (place (x .bits) q))
+        → next + differenceUnerased (place (x .unerased) q) old (place (x .bits) q)
+        ≡ t .residual + differenceUnerased (place (x .unerased) q) (place v q) (place (x .bits) q))
         → (r : Scan) → r .low ≡ t .low → r .position ≡ t .position + 1 → r .residual ≡ next
         → ((f : ℕ → ℕ) → Scanned f t → next ≡ f (t .position + 1) → Scanned f r) → Passes u v x at (q + 1) s r
     unfolding ResidualsAlong

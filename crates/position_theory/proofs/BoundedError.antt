@@ -42,7 +42,8 @@ use Rattle.position_theory.proofs.Nearest.{answer-near}
 abbrev pub UndividedBelowD : Code → (unerased : ℕ → Bool) (position : ℕ) (u x : ℕ → ℕ) → Type 0
 UndividedBelowD C unerased position u x = (c : ℕ) → c < 5 → divided C position c ≡ false → ChunkBelowD C unerased u x c
 
-pub all-below : (C : Code) (unerased : ℕ → Bool) (position : ℕ) (u x : ℕ → ℕ) → ChunksBelowD C unerased u x → UndividedBelowD C unerased position u x
+pub all-below : (C : Code) (unerased : ℕ → Bool) (position : ℕ) (u x : ℕ → ℕ) → ChunksBelowD C unerased u x
+    → UndividedBelowD C unerased position u x
 unfolding ChunksBelowD
 all-below C unerased position u x below c b _ = below c b
 

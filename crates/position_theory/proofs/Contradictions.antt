@@ -46,7 +46,8 @@ pub separator-from : (C : Code) {unerased : ℕ → Bool} {x : ℕ → ℕ} {s :
     → ChunkBelowD C unerased (word C i) x (separatorChunk (ruleSeen s)) → separatorBy s (ruleSeen s) ≡ i % 2
 unfolding ChunkReads separatorOf
 separator-from C {unerased} {x} {s} sees i in-code =
-    let reads-as : (c : ℕ) → c < 5 → ChunkBelowD C unerased (word C i) x c → ChunkReads s c i = λ c five. word-reads C sees c i five in-code in
+    let reads-as : (c : ℕ) → c < 5 → ChunkBelowD C unerased (word C i) x c → ChunkReads s c i =
+    λ c five. word-reads C sees c i five in-code in
     of-every-rule (λ rule. ChunkBelowD C unerased (word C i) x (separatorChunk rule) → separatorBy s rule ≡ i % 2)
     (reads-as 0 (omega arith)) (reads-as 0 (omega arith)) (reads-as 4 (omega arith)) (reads-as 0 (omega arith)) (s .s₁) (s .s₂) (s .s₃)
 

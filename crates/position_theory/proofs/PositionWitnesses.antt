@@ -45,7 +45,8 @@ use Rattle.position_theory.specs.ChunkBits.{CountsBits, BitsOfChunks}
 use Rattle.position_theory.specs.Contradictions.{ParityAgrees, separatorChunk, NamedChunk, Mixed}
 use Rattle.position_theory.specs.Contradictions.{unlessContradicted, answerBefore}
 use Rattle.position_theory.specs.PositionWitnesses.{ReadAs, ReadWithin, ReadWithinErrorBar, NoneReads, Witnessed}
-use Rattle.position_theory.specs.PositionWitnesses.{sevenDamaged, lastDamaged, lastAllDamaged, eleven, zeroDamaged, tenDamaged, sevenInChunk2, dividedDamaged, unreadableA}
+use Rattle.position_theory.specs.PositionWitnesses.{sevenDamaged, lastDamaged, lastAllDamaged, eleven}
+use Rattle.position_theory.specs.PositionWitnesses.{zeroDamaged, tenDamaged, sevenInChunk2, dividedDamaged, unreadableA}
 use Rattle.position_theory.specs.PositionWitnesses.{mixed, mixedDamaged, mixedInChunk2, mixedByRule1, mixedByRule2}
 use Rattle.position_theory.proofs.Ranges.{nearest-in}
 use Rattle.position_theory.proofs.RuleReads.{number-of}
@@ -88,7 +89,8 @@ near-in-error-bar (Refused refusal) position e near = near
 
 both-distances : (position e : ℕ) (received : List ℕ) → SoundCard cardB → position ≤ lastPosition (codeOf cardB)
     → UndividedWithinRadius (codeOf cardB) position received → damaged (codeOf cardB) position received ≡ e
-    → (answer : ReadAnswer) → ReadWithDividedArbitrary cardB received answer → ReadWithinErrorBar e position answer × ReadWithin (2 * e) position answer
+    → (answer : ReadAnswer) → ReadWithDividedArbitrary cardB received answer
+    → ReadWithinErrorBar e position answer × ReadWithin (2 * e) position answer
 unfolding ReadWithDividedArbitrary
 both-distances position e received sound on-track within is answer promise =
     let (sharper, twice) = promise position sound on-track within in
@@ -212,11 +214,14 @@ witnessed =
       residual-counts = λ answer promise. promise card-B-sound refl refl .1 15;
       by-17 = λ answer promise. refused-as _ _ _ _ answer (promise card-B-sound refl refl .0) 16 refl;
       twice = λ answer promise. near-within answer 7 2 (promise 7 card-B-sound (computed refl) (within _ 7 sevenDamaged refl refl refl));
-      twice-at-last = λ answer promise. near-within answer 15 2 (promise 15 card-B-sound (computed refl) (within _ 15 lastDamaged refl refl refl));
+      twice-at-last =
+          λ answer promise. near-within answer 15 2 (promise 15 card-B-sound (computed refl) (within _ 15 lastDamaged refl refl refl));
       twice-in-all = λ answer promise.
           near-within answer 15 10 (promise 15 card-B-sound (computed refl) (within _ 15 lastAllDamaged refl refl refl));
-      sharper = λ answer promise. near-in-error-bar answer 7 1 (promise 7 card-B-sound (computed refl) (within _ 7 sevenDamaged refl refl refl));
-      sharper-at-last = λ answer promise. near-in-error-bar answer 15 1 (promise 15 card-B-sound (computed refl) (within _ 15 lastDamaged refl refl refl));
+      sharper =
+          λ answer promise. near-in-error-bar answer 7 1 (promise 7 card-B-sound (computed refl) (within _ 7 sevenDamaged refl refl refl));
+      sharper-at-last =
+          λ answer promise. near-in-error-bar answer 15 1 (promise 15 card-B-sound (computed refl) (within _ 15 lastDamaged refl refl refl));
       sharper-in-all = λ answer promise.
           near-in-error-bar answer 15 5 (promise 15 card-B-sound (computed refl) (within _ 15 lastAllDamaged refl refl refl));
       separator-1-arbitrary = both-distances 2 7 _ card-B-sound (computed refl) (undivided _ 2 _ refl refl refl) refl;
@@ -227,7 +232,8 @@ witnessed =
       undivided-at-last = both-distances 15 1 _ card-B-sound (computed refl) (undivided _ 15 _ refl refl refl) refl;
       error-bar = error-bar-holds 4 3 _ card-B-sound (computed refl) (undivided _ 4 _ refl refl refl) (computed refl);
       error-bar-at-last = error-bar-holds 15 1 _ card-B-sound (computed refl) (undivided _ 15 _ refl refl refl) (computed refl);
-      error-bar-residual = λ r promise. promise 4 3 card-B-sound (computed refl) (undivided _ 4 dividedDamaged refl refl refl) (computed refl) .1;
+      error-bar-residual =
+          λ r promise. promise 4 3 card-B-sound (computed refl) (undivided _ 4 dividedDamaged refl refl refl) (computed refl) .1;
       one-divided = λ promise c five is. sym (promise card-B-sound .at-most-one 14 4 c (computed refl) (computed refl) five refl is);
       just-t = λ r promise.
           let B = codeOf cardB in

@@ -78,7 +78,8 @@ true-allowed C promise s i m inside room = by-case
     on-track = omega (arith, next, start-on-track C promise (i + 1) (omega arith))
 
     by-case : TrueCase (C .D) (changedWeight C i) i (i + 1) m s → Allows (twoEnds C) s (start C i + m)
-    by-case (around-first rule r r′ parity h) = by-rule₃ (twoEnds C) s i (start C i + m) rule r r′ parity refl (omega arith, omega (arith, on-track))
+    by-case (around-first rule r r′ parity h) =
+        by-rule₃ (twoEnds C) s i (start C i + m) rule r r′ parity refl (omega arith, omega (arith, on-track))
     by-case (first-part rule r parity h) =
         by-rule₂ (twoEnds C) s i (start C i + m) rule r parity (ne-eqb i (lastCodeword C) (omega arith)) (omega arith, omega arith)
     by-case (last-part rule r parity l) =

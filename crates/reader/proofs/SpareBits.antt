@@ -45,7 +45,8 @@ module _ (C : Code) (received : List ℕ) (x : ReceivedWord) (plain : PlainWord 
   pub spare-test : (ones bits bytes : ℕ) → bits ≡ wordBits C → bytes ≡ wordLength C
       → ones ≡ sumBelow (fromPlace bits (place (x .bits))) (8 * bytes - bits) → not (eqb ones 0) ≡ spareSet C received
   spare-test ones bits bytes bits-are bytes-are counted =
-      let is : ones ≡ sumBelow (fromPlace (wordBits C) (place (x .bits))) (8 * wordLength C - wordBits C) = rw (bits-are, bytes-are) at counted in
+      let is : ones ≡ sumBelow (fromPlace (wordBits C) (place (x .bits))) (8 * wordLength C - wordBits C) =
+      rw (bits-are, bytes-are) at counted in
       ⊎-elim
       (λ (none : ones ≡ 0). rw (eq-eqb ones 0 none, spare-none (sym is ∙ none)))
       (λ (some : ones ≡ 0 → ⊥). rw (ne-eqb ones 0 some, spare-some (λ e. some (is ∙ e))))

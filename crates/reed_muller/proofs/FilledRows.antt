@@ -101,7 +101,8 @@ module _ (r m i count : ℕ) (rows : List ℕ) (inside : i < countOfSets r 6) (r
   unfolding countOfSets
   room six few h =
       let more : length (kept (2 ^ m) (take (i + 1) (setsUpTo 6 r))) ≡ length (kept (2 ^ m) (take i (setsUpTo 6 r))) + 1 =
-      ap length (entry-kept (2 ^ m) i (setsUpTo 6 r) inside h) ∙ length-append (kept (2 ^ m) (take i (setsUpTo 6 r))) (getD (setsUpTo 6 r) i 0 ∷ []) in
+      ap length (entry-kept (2 ^ m) i (setsUpTo 6 r) inside h)
+      ∙ length-append (kept (2 ^ m) (take i (setsUpTo 6 r))) (getD (setsUpTo 6 r) i 0 ∷ []) in
       omega (arith, reached .counted, more, kept-first (2 ^ m) (i + 1) (setsUpTo 6 r), ap length (kept-sets m 6 r six))
 
   pub reached-more : (row : ℕ) → count < 12 → getD (setsUpTo 6 r) i 0 < 2 ^ m → row ≡ productRow m (getD (setsUpTo 6 r) i 0)
@@ -120,7 +121,8 @@ module _ (r m i count : ℕ) (rows : List ℕ) (inside : i < countOfSets r 6) (r
   pub reached-same : 2 ^ m ≤ getD (setsUpTo 6 r) i 0 → Reached r m (i + 1) count rows
   unfolding countOfSets
   reached-same h =
-      let same : kept (2 ^ m) (take (i + 1) (setsUpTo 6 r)) ≡ kept (2 ^ m) (take i (setsUpTo 6 r)) = entry-left (2 ^ m) i (setsUpTo 6 r) inside h in
+      let same : kept (2 ^ m) (take (i + 1) (setsUpTo 6 r)) ≡ kept (2 ^ m) (take i (setsUpTo 6 r)) =
+      entry-left (2 ^ m) i (setsUpTo 6 r) inside h in
       record { counted = rw same (reached .counted); twelve = reached .twelve; filled = rw same (reached .filled) }
 
 -- the empty set is the first

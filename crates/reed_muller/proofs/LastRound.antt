@@ -63,7 +63,8 @@ module _ (r m chunk left rows : ℕ) (six : m ≤ 6) (here : VotedDown r m chunk
   ended : (left′ found : ℕ) → RoundAt m 0 left rows 0 left′ found → VotedDown r m chunk 0 left′ found
   unfolding setsBefore
   ended left′ found met =
-      let done = round-ends m 0 left rows 0 left′ found six met refl in voting-goes-on r m chunk 0 left rows here left′ found (done .0) (done .1)
+      let done = round-ends m 0 left rows 0 left′ found six met refl in
+      voting-goes-on r m chunk 0 left rows here left′ found (done .0) (done .1)
 
   pub taken-off : 2 ^ m < 2 * ones left → VotedDown r m chunk 0 (bitXor left (2 ^ 2 ^ m - 1)) (rows * 2 + 1)
   unfolding setsBefore

@@ -166,7 +166,8 @@ module _ (m s y rows : ℕ) where
           rw (here .counted) (bits-bound (met m s (at + 1)) (coefficient m (bit y)) rows (vote-bit m (bit y))) in
           let longer : suc (length (met m s (at + 1))) ≤ countOfSets s m =
           omega (arith, ap length grown, kept-last (2 ^ m) at (setsUpTo 6 s), ap length (kept-sets m 6 s six)) in
-          let more : (rows + 1) * 2 ^ suc (length (met m s (at + 1))) ≤ (rows + 1) * 2 ^ countOfSets s m = mul-le-mul-left (rows + 1) (pow-mono longer) in
+          let more : (rows + 1) * 2 ^ suc (length (met m s (at + 1))) ≤ (rows + 1) * 2 ^ countOfSets s m =
+          mul-le-mul-left (rows + 1) (pow-mono longer) in
           let twice : 2 ^ suc (length (met m s (at + 1))) ≡ 2 * 2 ^ length (met m s (at + 1)) = omega arith in
           omega (arith, bound, rw twice at more, room)
 

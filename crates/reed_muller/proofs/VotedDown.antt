@@ -20,7 +20,8 @@ use Rattle.bits.proofs.Counting.{those-pass}
 use Rattle.model.specs.Card.{radius}
 use Rattle.model.specs.Order.{gray}
 use Rattle.model.specs.Reading.{withinRadius}
-use Rattle.model.specs.ReedMuller.{setsOf, setsUpTo, countOfSets, reedMuller, classSum, classes, votesForOne, coefficient, voteRound, afterRounds, voted}
+use Rattle.model.specs.ReedMuller.{setsOf, setsUpTo, countOfSets, reedMuller, classSum, classes, votesForOne}
+use Rattle.model.specs.ReedMuller.{coefficient, voteRound, afterRounds, voted}
 use Rattle.model.specs.ReedMuller.{product, votedRows, votedNumber, votedDistance, votedWithin, votedReading}
 use Rattle.model.specs.declared.Chunk.the-variants.{Codeword, Unreadable}
 use Rattle.reed_muller_theory.proofs.Vote.{vote-bit}
@@ -48,7 +49,8 @@ module _ (m : ℕ) (y x : ℕ → ℕ) (alike : (p : ℕ) → p < 2 ^ m → y p 
   round-alike : (s p : ℕ) → p < 2 ^ m → voteRound m s y p ≡ voteRound m s x p
   unfolding voteRound
   round-alike s p l =
-      ap₂ (λ (a b : ℕ). (a + b) % 2) (alike p l) (ap (sumOver (setsOf m s)) (fun-ext (λ S. ap (λ (c : ℕ). c * product S p) (coefficient-alike S))))
+      ap₂ (λ (a b : ℕ). (a + b) % 2) (alike p l)
+      (ap (sumOver (setsOf m s)) (fun-ext (λ S. ap (λ (c : ℕ). c * product S p) (coefficient-alike S))))
 
 -- ---- the rows found
 
@@ -97,7 +99,8 @@ pub record VotedDown (r m chunk size left rows : ℕ) : Type 0 where
 -- so the rows fit twelve bits
 pub few-rows : {r m chunk size left rows : ℕ} → VotedDown r m chunk size left rows → rows < 4096
 few-rows {m = m} {size = size} {rows = rows} here =
-    let once : (rows + 1) * 1 ≤ (rows + 1) * 2 ^ length (setsBelow m size) = mul-le-mul-left (rows + 1) (pow-pos (length (setsBelow m size))) in
+    let once : (rows + 1) * 1 ≤ (rows + 1) * 2 ^ length (setsBelow m size) =
+    mul-le-mul-left (rows + 1) (pow-pos (length (setsBelow m size))) in
     omega (arith, once, here .room)
 
 pub voting-starts : (r m chunk : ℕ) → chunk < 2 ^ 2 ^ m → countOfSets r m ≤ 12 → VotedDown r m chunk (suc r) chunk 0
@@ -186,7 +189,8 @@ module _ (r m chunk left rows : ℕ) (order : r ≤ m) (here : VotedDown r m chu
   t-is : (t : ℕ) → t ≡ (2 ^ (m - r) - 1) / 2 → radius (reedMuller r m) ≡ t
   t-is t is = ap (λ (d : ℕ). (d - 1) / 2) (reed-muller-distance r m order) ∙ sym is
 
-  pub not-accepted : (t differing : ℕ) → t ≡ (2 ^ (m - r) - 1) / 2 → differing ≡ ones left → t < differing → Unreadable ≡ votedReading r m (bit chunk)
+  pub not-accepted : (t differing : ℕ) → t ≡ (2 ^ (m - r) - 1) / 2 → differing ≡ ones left → t < differing
+      → Unreadable ≡ votedReading r m (bit chunk)
   unfolding votedReading votedWithin votedDistance withinRadius
   not-accepted t differing is count far =
       rw (lt-leb (votedDistance r m (bit chunk)) (radius (reedMuller r m)) (omega (arith, left-ones, t-is t is)))

@@ -15,7 +15,8 @@ use Rattle.bits.specs.Sums.{sumBelow, difference}
 use Rattle.bits.specs.Places.{bit}
 use Rattle.bits.proofs.Numbers.{eq-or-ne}
 use Rattle.bits.proofs.Sums.{sum-ext, sum-add, sum-zero, sum-split, sum-one-odd}
-use Rattle.bits.proofs.Binary.{bit-bit, bit-zero, bit-ext, bit-ext-below, bit-and, bit-or, bit-pow-same, bit-pow-other, bit-set-here, bit-set-other}
+use Rattle.bits.proofs.Binary.{bit-bit, bit-zero, bit-ext, bit-ext-below, bit-and, bit-or, bit-pow-same, bit-pow-other}
+use Rattle.bits.proofs.Binary.{bit-set-here, bit-set-other}
 use Rattle.bits.proofs.Shifts.{bit-all-ones}
 use Rattle.model.specs.ReedMuller.{product, productRow, classSum}
 use Rattle.reed_muller_theory.proofs.LowestVariable.{same, same-yes, same-no, member}
@@ -63,11 +64,13 @@ product-more A v p new =
     (eq-or-ne (product (A + 2 ^ v) p) 1)
   where
     of-old : (w : ℕ) → bit A w ≤ bit (A + 2 ^ v) w
-    of-old w = ⊎-elim (λ (e : w ≡ v). rw (e, new) (omega arith)) (λ (ne : w ≡ v → ⊥). omega (arith, bit-set-other A v new w ne)) (eq-or-ne w v)
+    of-old w =
+        ⊎-elim (λ (e : w ≡ v). rw (e, new) (omega arith)) (λ (ne : w ≡ v → ⊥). omega (arith, bit-set-other A v new w ne)) (eq-or-ne w v)
 
     of-new : (w : ℕ) → bit (2 ^ v) w ≤ bit (A + 2 ^ v) w
     of-new w =
-        ⊎-elim (λ (e : w ≡ v). rw e (omega (arith, bit-pow-same v, bit-set-here A v new))) (λ (ne : w ≡ v → ⊥). omega (arith, bit-pow-other v w ne))
+        ⊎-elim (λ (e : w ≡ v). rw e (omega (arith, bit-pow-same v, bit-set-here A v new)))
+        (λ (ne : w ≡ v → ⊥). omega (arith, bit-pow-other v w ne))
         (eq-or-ne w v)
 
     both : (w : ℕ) → product A p ≡ 1 → product (2 ^ v) p ≡ 1 → bit (A + 2 ^ v) w ≤ bit p w

@@ -14,7 +14,8 @@ use Rattle.bits.proofs.Sums.{sum-ext, sum-over-append, sum-over-entries}
 use Rattle.bits.proofs.Counting.{where-true}
 use Rattle.model.specs.Order.{codeword}
 use Rattle.model.specs.Reading.{chunkDistance}
-use Rattle.model.specs.ReedMuller.{product, setsOf, setsUpTo, setOf, countOfSets, productOf, reedMuller, coefficient, voteRound, afterRounds, voted}
+use Rattle.model.specs.ReedMuller.{product, setsOf, setsUpTo, setOf, countOfSets, productOf, reedMuller, coefficient}
+use Rattle.model.specs.ReedMuller.{voteRound, afterRounds, voted}
 use Rattle.model.specs.ReedMuller.{votedRows, votedNumber, votedDistance}
 use Rattle.reed_muller_theory.proofs.Sets.{sum-over-sets-of}
 use Rattle.reed_muller_theory.proofs.Polynomials.{bit-of-rows, product-row-bit, row-is-product}

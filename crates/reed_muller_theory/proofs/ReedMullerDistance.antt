@@ -132,7 +132,8 @@ module _ (r m : ℕ) (order : r ≤ m) where
 
   size-of-some : (g T : ℕ) → T < 2 ^ m → (coefficientOf r m g T ≡ 0 → ⊥) → weight m T ≤ r
   size-of-some g T h ne =
-      ⊎-elim (λ (more : r < weight m T). absurd (ne (degree-of-codeword r m g T h more))) (λ (l : weight m T ≤ r). l) (lt-or-le r (weight m T))
+      ⊎-elim (λ (more : r < weight m T). absurd (ne (degree-of-codeword r m g T h more))) (λ (l : weight m T ≤ r). l)
+      (lt-or-le r (weight m T))
 
   heavy : (g : ℕ) → 0 < g → g < 2 ^ countOfSets r m → 2 ^ (m - r) ≤ weight (2 ^ m) (rows g)
   heavy g pos below =

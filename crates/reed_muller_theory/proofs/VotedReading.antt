@@ -80,7 +80,8 @@ module _ (r m : ℕ) (order : r ≤ m) (x : ℕ → ℕ) (p : ℕ) (last : p ≤
   few : 2 * sumBelow differenceAt (2 ^ m) < 2 ^ (m - r)
   unfolding withinRadius chunkDistance distance
   few =
-      let within : sumBelow differenceAt (2 ^ m) ≤ radius (reedMuller r m) = leb-true (sumBelow differenceAt (2 ^ m)) (radius (reedMuller r m)) near in
+      let within : sumBelow differenceAt (2 ^ m) ≤ radius (reedMuller r m) =
+      leb-true (sumBelow differenceAt (2 ^ m)) (radius (reedMuller r m)) near in
       omega (arith, reed-muller-distance r m order, pow-pos (m - r))
 
   below : p < 2 ^ countOfSets r m

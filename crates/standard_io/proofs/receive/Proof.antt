@@ -25,7 +25,8 @@ kept : (c : tie.After-read Inv-loop μ-loop)
 kept c =
     let head = c .before .before .before in
     let args = head .before .before .before .args in (
-      same-len-mid (args .held) (args .full - args .held) (head .loop .buffer) (c .read .last .1 .0) (c .read .kept .1 .0) ∙ head .loop .inv .0,
+      same-len-mid (args .held) (args .full - args .held) (head .loop .buffer) (c .read .last .1 .0) (c .read .kept .1 .0)
+          ∙ head .loop .inv .0,
       take-put (args .held) (args .full - args .held) (head .loop .buffer) (c .read .last .1 .0) (omega arith) ∙ head .loop .inv .1,
     )
 

@@ -67,7 +67,8 @@ reached-again : (c : tie.After-receive-words Inv-loop μ-loop)
     Reached (meaning (first (head c) .args .code)) (drop 512 (c .receive-words .last .0)) (loop .progress) (9007199254740992 - loop .turns)
 reached-again c =
     let loop = head c .loop in
-    reached-still 512 (loop .input) (c .receive-words .last .0) (omega arith) (omega (arith, c .receive-words .kept .0)) (c .receive-words .ensures .1) (loop .inv .4)
+    reached-still 512 (loop .input) (c .receive-words .last .0) (omega arith) (omega (arith, c .receive-words .kept .0))
+    (c .receive-words .ensures .1) (loop .inv .4)
 
 -- the bytes that a turn takes in: those held, and those that came
 abbrev arrived : tie.After-count Inv-loop μ-loop → ℕ

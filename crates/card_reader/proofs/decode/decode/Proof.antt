@@ -161,7 +161,8 @@ returns-7 c =
     let second = second-passed third in
     let rows = fourth .before .before .rows-of in
     let sound =
-    not-refused _ (within third) (whole second) (checked second) (placed fourth) (in-range fifth) _ (is-least weighed) (c .before .if6 .left) in
+    not-refused _ (within third) (whole second) (checked second) (placed fourth) (in-range fifth) _ (is-least weighed)
+    (c .before .if6 .left) in
     decoded-from _ _ sound refl (c .track-of .ensures) (is-offset (fifth .before .before))
     (code-of-least _ sound _ _ _ (rows .result) (is-n (third .before)) (is-k (third .before)) (rows .ensures) (is-least weighed))
 

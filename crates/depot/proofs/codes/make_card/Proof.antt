@@ -16,7 +16,8 @@ made-card-requires c κs = sym (c .before .order-within-limits .ensures) ∙ not
 returns-2 : tie.Need-returns-2
 returns-2 c =
     let asked = c .before .before in
-    card-made _ _ _ (asked .before .fits .track .fits) (sym (asked .order-within-limits .ensures) ∙ not-false _ (c .before .if1 .left)) _ (c .made-card .ensures)
+    card-made _ _ _ (asked .before .fits .track .fits)
+    (sym (asked .order-within-limits .ensures) ∙ not-false _ (c .before .if1 .left)) _ (c .made-card .ensures)
 
 pub make-card-spec : {M : Type 1} → statement M
 make-card-spec = tie.close (tie.spec (λ c κs. search needs) returns made-card-requires returns-2)

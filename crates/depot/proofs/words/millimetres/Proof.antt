@@ -27,7 +27,8 @@ last-position-requires c κs = sound c
 returns-2 : tie.Need-returns-2
 returns-2 c =
     let passed = c .before .before in
-    millimetres-above _ _ (passed .before .before .decode .ensures) (passed .if1 .left) _ _ (c .before .last-position .ensures) (c .if2 .taken)
+    millimetres-above _ _ (passed .before .before .decode .ensures) (passed .if1 .left) _ _
+    (c .before .last-position .ensures) (c .if2 .taken)
 
 -- past the position's test: the offset, whose bits are handed on
 is-offset : (c : tie.Else2) → let offset = c .before .before .before .before .decode .result .offset in toZ w32 (ofZ w32 offset) ≡ offset

@@ -37,4 +37,5 @@ returns-2 c =
     (omega (arith, c .before .before .before .if1 .left, all)) (omega (arith, all)))
 
 pub read-chunk-spec : {M : Type 1} → statement M
-read-chunk-spec = tie.close (tie.spec sub-erased returns (λ c. search needs) (λ c. search needs) (λ c κs. search needs) search-requires returns-2)
+read-chunk-spec =
+    tie.close (tie.spec sub-erased returns (λ c. search needs) (λ c. search needs) (λ c κs. search needs) search-requires returns-2)

@@ -17,7 +17,8 @@ pass-places-requires c κs =
       omega arith,
       omega (arith, word-bits-bound C sound),
       rw position (omega (arith, start-on-track C (promise C sound) (first .args .i) inside, last-position-bound C sound)),
-      residual-at-start C sound (first .args .i) (first .args .next) _ _ (c .before .word-of .ensures) (c .word-of2 .ensures) _ spare (first .args .s) position here,
+      residual-at-start C sound (first .args .i) (first .args .next) _ _ (c .before .word-of .ensures)
+          (c .word-of2 .ensures) _ spare (first .args .s) position here,
     )
 
 returns : tie.Need-returns
@@ -27,8 +28,10 @@ returns c =
     let first = old .before in
     let C = meaning (first .args .code) in
     let ((sound, spare, inside), (position, here)) = first .pre in (
-      passed-ends C sound _ _ _ _ (old .word-of .ensures) (new .word-of2 .ensures) _ spare _ position here _ (omega arith) _ (c .pass-places .ensures),
-      start-passed C sound _ _ _ _ (old .word-of .ensures) (new .word-of2 .ensures) _ spare _ position here _ (omega arith) _ (c .pass-places .ensures),
+      passed-ends C sound _ _ _ _ (old .word-of .ensures) (new .word-of2 .ensures) _ spare _ position here _ (omega arith) _
+          (c .pass-places .ensures),
+      start-passed C sound _ _ _ _ (old .word-of .ensures) (new .word-of2 .ensures) _ spare _ position here _ (omega arith) _
+          (c .pass-places .ensures),
     )
 
 pub search-after-start-spec : {M : Type 1} → statement M

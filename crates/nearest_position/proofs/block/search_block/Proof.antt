@@ -37,7 +37,8 @@ returns c =
     let C = meaning (first .args .code) in
     let ((sound, spare), (inside, is, forward, room)) = first .pre in (
       block-ends C sound _ _ _ _ (old .word-of .ensures) (new .word-of2 .ensures) _ spare _ _ _ _ is forward room (c .search-places .ensures),
-      block-searched C sound _ _ _ _ (old .word-of .ensures) (new .word-of2 .ensures) _ spare _ _ _ _ is forward room (c .search-places .ensures),
+      block-searched C sound _ _ _ _ (old .word-of .ensures) (new .word-of2 .ensures) _ spare _ _ _ _ is forward room
+          (c .search-places .ensures),
     )
 
 pub search-block-spec : {M : Type 1} → statement M

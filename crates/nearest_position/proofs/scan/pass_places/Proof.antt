@@ -43,17 +43,20 @@ next-residual-requires c κs =
     let is-new = new .bit-of2 .ensures .0 (args .t2) refl in
     let received = third .bit-of3 .ensures .0 (args .t3 .bits) refl in
     let known = c .bit-of4 .ensures .0 (args .t3 .unerased) refl in
-    let differ : place (args .t1) (loop .q) ≡ place (args .t2) (loop .q) → ⊥ = λ same. new .before .if1 .taken (joined met ∙ rw same (omega arith)) in (
+    let differ : place (args .t1) (loop .q) ≡ place (args .t2) (loop .q) → ⊥ =
+    λ same. new .before .if1 .taken (joined met ∙ rw same (omega arith)) in (
       omega (
         arith,
         loop .inv .2 .residual,
-        unerased-le (marked (place (args .t3 .unerased))) 320 (passedTo (place (args .t1)) (place (args .t2)) (loop .q)) (place (args .t3 .bits)),
+        unerased-le (marked (place (args .t3 .unerased))) 320 (passedTo (place (args .t1)) (place (args .t2)) (loop .q))
+            (place (args .t3 .bits)),
       ),
       new .bit-of2 .ensures .1,
       third .bit-of3 .ensures .1,
       c .bit-of4 .ensures .1,
       λ unerased e.
-          residual-positive _ _ _ _ _ _ _ (loop .inv .0) (omega arith) (loop .inv .2) differ (rw known at unerased) (rw (received, is-new) at e),
+          residual-positive _ _ _ _ _ _ _ (loop .inv .0) (omega arith) (loop .inv .2) differ (rw known at unerased)
+          (rw (received, is-new) at e),
     )
 
 advance-requires : tie.Need-advance-requires Inv-loop μ-loop
@@ -72,7 +75,8 @@ loop-again c =
     let args = in-loop .before .before .args in
     ⊎-elim
     (λ passing.
-    let differ : place (args .t1) (loop .q) ≡ place (args .t2) (loop .q) → ⊥ = λ same. passing .0 .taken (joined met ∙ rw same (omega arith)) in
+    let differ : place (args .t1) (loop .q) ≡ place (args .t2) (loop .q) → ⊥ =
+    λ same. passing .0 .taken (joined met ∙ rw same (omega arith)) in
     let new = passing .1 .ensures .0 (args .t2) refl in
     let received = passing .3 .ensures .0 (args .t3 .bits) refl in
     let known = passing .5 .ensures .0 (args .t3 .unerased) refl in

@@ -40,7 +40,8 @@ search-after-start-requires c κs =
       (first .pre .0 .0, first .pre .0 .2, first .pre .1),
       (
         position,
-        scanned .here ∙ ap (residualIn C (first .args .x)) position ∙ residual-of-start C (first .pre .0 .0) (first .args .x) _ (first .pre .1),
+        scanned .here ∙ ap (residualIn C (first .args .x)) position
+            ∙ residual-of-start C (first .pre .0 .0) (first .args .x) _ (first .pre .1),
       ),
     )
 

@@ -38,7 +38,8 @@ returns-3 : tie.Need-returns-3
 unfolding twoEnds
 returns-3 c =
     let first = c .before .before .before in
-    let third : first .args .rule ≡ 3 = omega (arith, c .before .if2 .left, c .before .before .if1 .left, first .pre .1 .0, first .pre .1 .1) in
+    let third : first .args .rule ≡ 3 =
+    omega (arith, c .before .if2 .left, c .before .before .if1 .left, first .pre .1 .0, first .pre .1 .1) in
     rw third (c .nearest-around .ensures)
 
 pub nearest-by-spec : {M : Type 1} → statement M

@@ -65,7 +65,8 @@ search-block-requires c κs =
       (sound later, first later .pre .0 .2),
       (
         omega (arith, inside later),
-        rw (laid later .separator₃-at, c .before .start-of-block .ensures) (sym (at-separator₃ (C later) (sound later) _ _ (after later) (inside later))),
+        rw (laid later .separator₃-at, c .before .start-of-block .ensures)
+            (sym (at-separator₃ (C later) (sound later) _ _ (after later) (inside later))),
         omega (arith, laid later .separator₃-at, laid later .bits-are),
         omega (arith, laid later .bits-are),
       ),

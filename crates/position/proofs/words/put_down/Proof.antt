@@ -21,7 +21,8 @@ module _ (first : tie.Start) where
 
   abbrev Numbers : (ℕ → ℕ) → Type 0
   Numbers u =
-      FiveChunks n d u (first .args .separator1) (first .args .chunk1) (first .args .separator2) (first .args .chunk2) (first .args .separator3)
+      FiveChunks n d u (first .args .separator1) (first .args .chunk1) (first .args .separator2) (first .args .chunk2)
+      (first .args .separator3)
 
 -- the array has the bits of u up to a place
 abbrev Holds : (ℕ → ℕ) → ℕ → List ℕ → Type 0
@@ -56,7 +57,8 @@ put-chunk-requires-2 c κs =
 
 put-chunk-requires-3 : tie.Need-put-chunk-requires-3
 put-chunk-requires-3 c κs =
-    let (u, five) = c .before .before .pre .1 in (omega arith, omega arith, five .separator₂-bits .0, zeros-behind u _ (to-separator₂ u c five))
+    let (u, five) = c .before .before .pre .1 in
+    (omega arith, omega arith, five .separator₂-bits .0, zeros-behind u _ (to-separator₂ u c five))
 
 put-chunk-requires-4 : tie.Need-put-chunk-requires-4
 put-chunk-requires-4 c κs =

@@ -29,7 +29,8 @@ separator-tested c s separator =
     ap (λ (held : ℕ). parityDiffers held (args .read .number)) separator ∙ sym (c .contradicts .ensures)
 
 returns-2 : tie.Need-returns-2
-returns-2 c s as-read separator = contradicted _ s _ _ _ as-read (block (c .before .before)) (separator-tested (c .before) s separator ∙ c .if2 .taken)
+returns-2 c s as-read separator =
+    contradicted _ s _ _ _ as-read (block (c .before .before)) (separator-tested (c .before) s separator ∙ c .if2 .taken)
 
 nearest-by-requires : tie.Need-nearest-by-requires
 nearest-by-requires c κs =
@@ -43,7 +44,8 @@ returns-3 c s as-read separator =
     let agrees = c .before .before in
     let tested = agrees .before in
     c .found .ensures
-    ∙ answered _ s _ _ _ as-read (block (tested .before)) (separator-tested tested s separator ∙ agrees .if2 .left) _ (c .before .nearest-by .ensures)
+    ∙ answered _ s _ _ _ as-read (block (tested .before)) (separator-tested tested s separator ∙ agrees .if2 .left) _
+    (c .before .nearest-by .ensures)
 
 pub by-chunks-spec : {M : Type 1} → statement M
 by-chunks-spec =

@@ -87,7 +87,8 @@ classes-of-requires c κs = let at = c .before .before .before in
 is-own : (c : tie.After-is-own Inv-loop μ-loop) → c .is-own .result ≡ ltb (S (c .before)) (2 ^ start (c .before) .args .m)
 is-own c =
     let at = c .before in
-    c .is-own .ensures (start at .args .m) (made at .before .all-positions .ensures) ∙ ap (λ (x : ℕ). ltb x (2 ^ start at .args .m)) (set at .0)
+    c .is-own .ensures (start at .args .m) (made at .before .all-positions .ensures)
+    ∙ ap (λ (x : ℕ). ltb x (2 ^ start at .args .m)) (set at .0)
 
 own : (c : tie.Then1 Inv-loop μ-loop) → S (c .before .before) < 2 ^ start (c .before .before) .args .m
 own c = ltb-true _ _ (sym (is-own (c .before)) ∙ c .if1 .taken)

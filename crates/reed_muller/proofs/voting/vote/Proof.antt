@@ -10,7 +10,8 @@ use lib.Count.{ones, ones-le}
 use lib.Pow.{pow-mono, pow-pos}
 use Rattle.model.specs.ReedMuller.{countOfSets}
 use Rattle.reed_muller_theory.proofs.OrderLimits.{order-limits-of-test, order-at-most-three}
-use Rattle.reed_muller.proofs.VotedDown.{VotedDown, few-rows, voting-starts, voting-goes-on, voting-tied, setsBelow, not-accepted, accepted}
+use Rattle.reed_muller.proofs.VotedDown.{VotedDown, few-rows, voting-starts, voting-goes-on, voting-tied}
+use Rattle.reed_muller.proofs.VotedDown.{setsBelow, not-accepted, accepted}
 use Rattle.reed_muller.proofs.LastRound.{taken-off, not-taken-off, ones-flipped}
 use Rattle.reed_muller.proofs.voting.vote.Statement.{statement}
 use Rattle.reed_muller.proofs.voting.vote.Tie as tie
@@ -124,7 +125,8 @@ ended c =
     record {
       left-over = bitXor (left last) (2 ^ 2 ^ first .args .m - 1);
       voted = rw (w .1) (taken-off _ _ _ _ _ six (here last) (omega (arith, w .0 .taken, n-is last)));
-      count = w .2 ∙ ap (λ (n : ℕ). n - ones (left last)) (n-is last) ∙ sym (ones-flipped (first .args .m) (left last) six (here last .narrow));
+      count =
+          w .2 ∙ ap (λ (n : ℕ). n - ones (left last)) (n-is last) ∙ sym (ones-flipped (first .args .m) (left last) six (here last .narrow));
     })
     (λ w.
     record {
@@ -150,7 +152,8 @@ t-is c = ap (λ (d : ℕ). (d - 1) / 2) (c .two-to2 .ensures)
 returns-2 : tie.Need-returns-2 Inv-loop μ-loop
 returns-2 c =
     let end = ended (c .before .before) in
-    not-accepted _ _ _ _ _ (limits (begun (c .before .before .before)) .order) (end .voted) _ _ (t-is (c .before)) (end .count) (c .if3 .taken)
+    not-accepted _ _ _ _ _ (limits (begun (c .before .before .before)) .order) (end .voted) _ _ (t-is (c .before))
+    (end .count) (c .if3 .taken)
 
 returns-3 : tie.Need-returns-3 Inv-loop μ-loop
 returns-3 c =

@@ -18,7 +18,8 @@ use Rattle.reed_muller_theory.proofs.OrderLimits.{count-grows}
 use Rattle.reed_muller.specs.Table.{setsBefore}
 use Rattle.reed_muller.proofs.Tables.{all-sets, set-at}
 use Rattle.reed_muller.proofs.ClassVotes.{votes-counted}
-use Rattle.reed_muller.proofs.RoundSteps.{RoundAt, round-starts, round-ends, before-all, entry-not-empty, entry-size, entry-classes, set-passed}
+use Rattle.reed_muller.proofs.RoundSteps.{RoundAt, round-starts, round-ends, before-all, entry-not-empty}
+use Rattle.reed_muller.proofs.RoundSteps.{entry-size, entry-classes, set-passed}
 use Rattle.reed_muller.proofs.RoundSteps.{votes-bound, most-for-one, not-most-for-one, found-bound, not-voted, voted-for}
 use Rattle.reed_muller.proofs.voting.vote_round.Statement.{statement}
 use Rattle.reed_muller.proofs.voting.vote_round.Tie as tie
@@ -101,7 +102,8 @@ module _ (c : tie.After-classes-of Inv-loop μ-loop) where
       c .classes-of .ensures .1 (start inside .args .m) (start inside .pre .0 .0) (made inside .before .all-positions .ensures)
       ∙ ap (productRow (start inside .args .m)) (set inside .0)
 
-  sums : (p : ℕ) → p < 64 → product (S inside) p ≡ 1 → bit (c .classes-of .result .sums) p ≡ classSum 6 (S inside) (bit (start inside .args .y)) p
+  sums : (p : ℕ) → p < 64 → product (S inside) p ≡ 1
+      → bit (c .classes-of .result .sums) p ≡ classSum 6 (S inside) (bit (start inside .args .y)) p
   sums = rw (set inside .0) at (c .classes-of .ensures .0)
 
   votes : ones (bitAnd (c .classes-of .result .sums) (c .classes-of .result .row))
