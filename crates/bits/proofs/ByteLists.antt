@@ -1,5 +1,5 @@
--- Lists of bytes: filled entry by entry, of zeros or of ones alone, and in how many bits two of them differ, byte by byte and as words that are
--- packed into bytes. Assumes nothing.
+-- Lists of bytes: filled entry by entry, and of zeros or of ones alone. In how many bits two of them differ, byte by byte, and as words
+-- that are packed into bytes. Assumes nothing.
 use mathlib.Core.Path.{_≡_, sym, ap, _∙_}
 use mathlib.Core.List.{List}
 use mathlib.Core.Logic.{⊎-elim}

@@ -1,5 +1,5 @@
 -- The Hamming distance over the unerased places. Each law is one of sums, place by place, where an erased place counts nothing; with
--- nothing erased it is the Hamming distance. The triangle inequality loses as much as there are erased places. Assumes nothing.
+-- nothing erased it is the Hamming distance. The triangle inequality is weaker by the count of erased places. Assumes nothing.
 use mathlib.Core.Path.{_≡_, refl, _∙_}
 use mathlib.Core.Bool.{Bool, true, false, cond}
 use Prim.Native.Nat.{ℕ, _+_, _≤_, _<_}

@@ -39,7 +39,7 @@ one-fewer-below (suc n) x h more =
     rw (clear-even x more even, ones-of-double) (omega (arith, ones-step x)))
     (eq-or-ne (x % 2) 1)
 
--- where x is not 0, x & (x - 1) has one one fewer
+-- where x is not 0, x & (x - 1) has one 1 fewer
 pub one-fewer : (x : ℕ) → 0 < x → ones (bitAnd x (x - 1)) + 1 ≡ ones x
 one-fewer x more = one-fewer-below x x (below-pow x) more
 

@@ -1,5 +1,5 @@
--- Numbers cut to the places of a mask, which marks the unerased places: a sum cut is the sum of the cut numbers, the ones of two cut
--- numbers joined are the unerased places in which the numbers differ, and the places that are not marked are erased. Assumes nothing.
+-- Numbers cut to the places of a mask, which marks the unerased places. An exclusive-or that is cut is that of the cut numbers, and its
+-- ones are the unerased places in which the numbers differ. The places that are not marked are erased. Assumes nothing.
 use mathlib.Core.Path.{_≡_, _∙_}
 use mathlib.Core.Bool.{cond}
 use Prim.Native.Nat.{ℕ, zero, suc, _+_, _^_, min, _<_}
@@ -12,7 +12,7 @@ use Rattle.bits.specs.Places.{bit, weight}
 use Rattle.bits.proofs.Sums.{sum-ext, sum-add, sum-of-ones}
 use Rattle.bits.proofs.Binary.{bit-bit, bit-ext, bit-and, bit-xor, ones-xor, weight-ones}
 
--- a sum cut is the sum of the cut numbers
+-- an exclusive-or that is cut is that of the cut numbers
 pub and-xor : (a b h : ℕ) → bitAnd (bitXor a b) h ≡ bitXor (bitAnd a h) (bitAnd b h)
 and-xor a b h =
     bit-ext _ _ (λ p.
@@ -22,7 +22,7 @@ and-xor a b h =
     cut-bits : (i j c : ℕ) → i < 2 → j < 2 → c < 2 → min (difference i j) c ≡ difference (min i c) (min j c)
     cut-bits i j c hi hj hc = omega arith
 
--- the ones of two cut numbers, joined, are the places of h in which the numbers differ
+-- the ones of that exclusive-or are the places of h in which the numbers differ
 pub cut-distance : (n a b h : ℕ) → a < 2 ^ n → b < 2 ^ n → h < 2 ^ n
     → ones (bitXor (bitAnd a h) (bitAnd b h)) ≡ distanceUnerased (marked (bit h)) n (bit a) (bit b)
 unfolding distance distanceUnerased

@@ -73,7 +73,7 @@ some-summand f (suc m) h =
     (λ (none : f m ≤ 0). let (q, l, some) = some-summand f m (omega arith) in (q, omega arith, some))
     (lt-or-le 0 (f m))
 
--- as many ones
+-- the sum of d ones is d
 pub sum-of-ones : (d : ℕ) → sumBelow (λ p. 1) d ≡ d
 unfolding sumBelow
 sum-of-ones zero = refl
@@ -117,7 +117,7 @@ sum-over-entries (x ∷ l) f =
 
 -- ---- parity
 
--- a multiple's parity goes by the parity of what is taken
+-- the parity of a × x goes by the parity of x
 pub times-parity : (a x : ℕ) → a * (x % 2) % 2 ≡ a * x % 2
 times-parity a x =
     let digits : a * x ≡ 2 * (a * (x / 2)) + a * (x % 2) =

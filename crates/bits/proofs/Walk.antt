@@ -59,7 +59,7 @@ module _ {u v : ℕ → ℕ} (hu : (p : ℕ) → u p < 2) (hv : (p : ℕ) → v 
       (λ (l : q ≤ p). rw (le-ltb p q l) (sym (walk-after u v m l (omega arith))))
       (lt-or-le p q)
 
-  -- below place d, walks of m and m′ steps are as many bits apart as they are steps, as far as u and v differ below d
+  -- below place d, walks of m and m′ steps are as many bits apart as steps apart, but no more than u and v differ below d
   walk-apart : (d m m′ : ℕ) → m ≤ m′
       → distance d (walk u v m) (walk u v m′) + min m (distance d u v) ≡ min m′ (distance d u v)
   unfolding distance sumBelow

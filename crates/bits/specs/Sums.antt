@@ -35,7 +35,7 @@ erasedBelow unerased d = sumBelow (λ p. cond (unerased p) 0 1) d
 abbrev pub marked : (m : ℕ → ℕ) (p : ℕ) → Bool
 marked m p = eqb (m p) 1
 
--- no place is erased
+-- the test that every place passes: no place is erased
 abbrev pub everywhere : ℕ → Bool
 everywhere p = true
 

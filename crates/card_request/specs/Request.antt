@@ -29,7 +29,7 @@ unfoldable pub numberAfter : (before : ℕ) → List ℕ → ℕ
 numberAfter before [] = before
 numberAfter before (b ∷ text) = numberAfter (10 * before + (b - 48)) text
 
--- the number that a text makes. A number written in decimal reads as itself: law decimal-read of proofs/Decimal.antt
+-- the number that a text makes. A number written in decimal reads as itself: law `decimal-read` of proofs/DecimalRead.antt
 abbrev pub numberIn : List ℕ → ℕ
 numberIn text = numberAfter 0 text
 
@@ -49,7 +49,7 @@ greatestTrack = 65535
 abbrev pub greatestNumber : ℕ
 greatestNumber = 4294967295
 
--- the refusals of a text that is no number that fits, which have no number in the documents' table: that of the track number, of r and of m
+-- the refusals of a text that is no number that fits, for the track number, for r and for m; the documents' table has no numbers for them
 abbrev pub noTrack : ℕ
 noTrack = 101
 

@@ -1,6 +1,6 @@
 -- What a chunk reads as by a search: the first of so many codewords that is near enough, by any test and any count. A search that has
 -- passed over the codewords before p and finds p near has read the chunk. The reading of a chunk depends on its n places alone, and
--- its status and values are those that stand beside it. Assumes nothing.
+-- its status and values are those that the definitions expect. Assumes nothing.
 use mathlib.Core.Path.{_≡_, refl, sym, ap, ap₂, fun-ext, _∙_}
 use mathlib.Core.Bool.{Bool, true, false, cond, not}
 use mathlib.Core.Logic.{⊎-elim}

@@ -60,7 +60,7 @@ module _ (n : ℕ) (word : ℕ → ℕ) where
       (lt-or-le (weight n (word m)) (leastWeight n word m)))
       (eq-or-ne (word m) 0)
 
-  -- so it is not 0 where nonzero codewords have weight
+  -- so it is not 0, since a nonzero word below 2^n has some weight
   pub least-positive : 1 ≤ n → ((g : ℕ) → word g < 2 ^ n) → (m : ℕ) → 1 ≤ leastWeight n word m
   least-positive hn below m = by-least (least-some m)
     where

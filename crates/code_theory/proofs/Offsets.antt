@@ -1,6 +1,6 @@
 -- What the offset leaves as it was. Zero bytes are the offset 0, which is within its range and adds nothing; and the tests for unused
--- bytes from 100 on and from 104 on agree where the four between are zero. A card's code goes by its first 100 bytes, and but for the
--- check and 14 so do its refusals and the unused bytes. Assumes nothing.
+-- bytes from 100 on and from 104 on agree where the four between are zero. A card's code goes by its first 100 bytes. Its refusals, but for
+-- the check and 14, go by these, its size and its unused bytes. Assumes nothing.
 use mathlib.Core.Path.{_≡_, refl, fun-ext}
 use mathlib.Core.Bool.{Bool, false, not}
 use mathlib.Core.List.{List}

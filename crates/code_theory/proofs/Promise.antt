@@ -1,6 +1,6 @@
 -- A sound card's code keeps the chunk promise: the first codeword within the radius, or for which 2 × wrong + erased is below D, is the
 -- only one, blocks follow one another, and consecutive codewords differ in one row. Two readers that keep a promise answer alike, so where
--- nothing is erased a chunk reads by either half of it as by the other. Assumes nothing.
+-- nothing is erased a chunk reads alike by both halves of it. Assumes nothing.
 use mathlib.Core.Path.{_∙_, _≡_, refl, sym, fun-ext}
 use mathlib.Core.Bool.{Bool, true}
 use Prim.Native.Nat.{ℕ, _+_, _^_, _≤_}

@@ -24,8 +24,8 @@ pub record Sound (C : Code) : Type 0 where
   pub independent : (g : ℕ) → 0 < g → g < 2 ^ C .k → sumOfRows (C .row) (C .k) g ≡ 0 → ⊥
   pub least : C .D ≡ leastWeight (C .n) (sumOfRows (C .row) (C .k)) (2 ^ C .k)
 
--- What a reader of chunks promises, whatever its search, of codewords 0 to `last`, a test which of them are near to a chunk, and a count of
--- the places in which the two differ. Two readers that promise it answer alike (`readers-agree`).
+-- What a reader of chunks promises, whatever its search, given codewords 0 to `last`, a test of which of them are near to a chunk, and a
+-- count of the places in which the two differ. Two readers that promise it answer alike (`readers-agree`).
 pub record ReadsNear (X : Type 0) (last : ℕ) (near : X → ℕ → Bool) (count : X → ℕ → ℕ) (read : X → Chunk) : Type 0 where
   -- a chunk to which codeword p is near reads p, with the count
   pub reads : (x : X) (p : ℕ) → p ≤ last → near x p ≡ true → read x ≡ Codeword p (count x p)
@@ -42,8 +42,8 @@ abbrev pub ReadsChunks : Code → ((ℕ → ℕ) → Chunk) → Type 0
 ReadsChunks C read = ReadsNear (ℕ → ℕ) (lastCodeword C) (withinRadius C) (chunkDistance C) read
 
 -- The chunk promise: all that the laws of words and reading know of the code and its order (only the bounds on the size of numbers,
--- which code needs, go by the card's limits). Of the reading of chunks it has two halves: words of plain bits ask the first alone, which
--- the reader that votes keeps as well, and words whose bits may be erased the second.
+-- which code needs, go by the card's limits). On the reading of chunks it has two halves. Words of plain bits need only the first, which
+-- the reader that votes keeps as well; words whose bits may be erased need the second.
 pub record ChunkPromise (C : Code) : Type 0 where
   pub D-pos : 1 ≤ C .D
   -- there are two codewords at least, so every position lies on the way from one to the next

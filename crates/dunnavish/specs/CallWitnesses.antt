@@ -1,7 +1,7 @@
--- The promises to C, held from below. Those that are written out over status and numbers give the library's own of the answer that these
--- stand for, of every card and word; so a premise that nobody can meet, or a looser bound, no longer gives its field here. The others are
--- the library's own of that answer, held by the rows of the theory crates; which answer it is, specs/LosslessDecoding.antt holds. Assumes
--- nothing.
+-- The promises to C, held from below. A promise that is written out over status and numbers gives the library's own promise of the answer
+-- that these stand for, of every card and word. So a premise that nobody can meet, or a looser bound, no longer gives its field here. Every
+-- other promise is the library's own of that answer, held by the rows of the theory crates. Which answer it is, is held by
+-- specs/LosslessDecoding.antt. Assumes nothing.
 use mathlib.Core.Path.{_≡_}
 use mathlib.Core.Bool.{true}
 use mathlib.Core.List.{List}

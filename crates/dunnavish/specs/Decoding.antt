@@ -1,5 +1,5 @@
--- The answer of the library's that a status and the numbers left stand for, of each call for C: the refusal by the status, or where that is
--- 0 the answer that has these numbers. A function, so that whatever is promised of an answer is promised of what a call leaves, and nothing
+-- For each call for C, the library's answer that a status and the numbers left stand for: the refusal by the status or, where that is 0,
+-- the answer that has these numbers. It is a function, so whatever is promised of an answer is promised of what a call leaves, and nothing
 -- of it is vacuous. Assumes nothing.
 use mathlib.Core.Bool.{cond}
 use mathlib.Core.List.{List}

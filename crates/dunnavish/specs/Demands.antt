@@ -25,14 +25,14 @@ ServedNear status left position e = (status ≡ 0) × (positionLeft left ≤ pos
 
 -- Demand 3, where five numbers are lent: for a sound card, every position on its track and whichever bits of that position's
 -- word are damaged, at most t in each of the five chunks: the status is 0, and the position left is no further off than twice the
--- bits damaged
+-- damaged bits
 unfoldable pub ServedWithinTwiceDamaged : (card received lent : List ℕ) (status : ℕ) (left : List ℕ) → Type 0
 ServedWithinTwiceDamaged card received lent status left =
     length lent ≡ readCount → (position : ℕ) → SoundCard card → position ≤ lastPosition (codeOf card)
     → WithinRadius (codeOf card) position received
     → ServedNear status left position (2 * damaged (codeOf card) position received)
 
--- The sharper bound, under the same premises: no further off than the bits damaged and the residual left together
+-- The sharper bound, under the same premises: no further off than the damaged bits and the residual left together
 unfoldable pub ServedWithinDamagedAndResidual : (card received lent : List ℕ) (status : ℕ) (left : List ℕ) → Type 0
 ServedWithinDamagedAndResidual card received lent status left =
     length lent ≡ readCount → (position : ℕ) → SoundCard card → position ≤ lastPosition (codeOf card)

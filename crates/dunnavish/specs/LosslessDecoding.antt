@@ -1,7 +1,7 @@
 -- Decoding loses nothing: the answer that a status and the numbers left stand for has that status and, where the call was served, those
--- numbers for its values. So what is promised of the decoded answer is promised of just what a caller in C was left. Status and values tell
--- an answer from every other, but for a write that is done, which has the status of a refusal by 0, and a chunk that was not read, whose
--- number could be a count: of these two, rows say which is meant. Assumes nothing.
+-- numbers for its values. So what is promised of the decoded answer is promised of just what a caller in C was left. No two answers have
+-- the same status and values, with two exceptions: a write that is done has the status of a refusal by 0, and a chunk that was not read has
+-- a number that could be a count. Of these two, rows say which is meant. Assumes nothing.
 use mathlib.Core.Path.{_≡_}
 use mathlib.Core.List.{List, [], _∷_}
 use Prim.Native.Nat.{ℕ}

@@ -127,7 +127,7 @@ module _ (c : ℕ) (some : 0 < c) where
 over-both : (k a c d : ℕ) → k * 1 ≡ a * c → k * d ≡ c * d * a
 over-both k a c d h = let e : k ≡ a * c = omega arith in rw e (omega arith)
 
--- what have whole values add up as those whole numbers
+-- floats with whole values add up as those whole numbers
 add-wholes : (f : Format) (x y : Float) (s : Bool) (a : ℕ) (t : Bool) (b : ℕ) → HasValue x s a 1 → HasValue y t b 1
     → add f x y ≡ sum f s a t b 1
 add-wholes f (fin s m e) (fin t n d) s′ a t′ b (sign, value) (sign′, value′) =

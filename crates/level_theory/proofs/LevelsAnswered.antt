@@ -1,5 +1,5 @@
 -- What the theorems of levels begin with: the position answer is the refusal, or what the levels read as; on a sound card it is that of the
--- inner call; and what it shows that a word of levels is read. Assumes nothing.
+-- inner call; and what follows where a word of levels is read. Assumes nothing.
 use mathlib.Core.Path.{_≡_, refl, sym, _∙_}
 use mathlib.Core.Bool.{false}
 use mathlib.Core.List.{List}

@@ -1,5 +1,5 @@
--- What separators of levels read: of bits that were all b, with 2 × wrong + erased below D, the levels sum to the side of b; and where
--- nothing is erased they read as the majority of their bits does. Assumes nothing.
+-- What separators of levels 1, -1 and 0 read: b where their bits were all b and 2 × wrong + erased is below D; and where nothing is erased,
+-- what the majority of their bits reads. Assumes nothing.
 use mathlib.Core.Path.{_≡_, _∙_}
 use mathlib.Core.Bool.{true}
 use mathlib.Core.Logic.{⊎-elim}

@@ -22,7 +22,7 @@ use Rattle.position_theory.specs.Contradictions.{separatorChunk, NamedChunk}
 use Rattle.level_theory.specs.UnitLevels.{UnitLevels}
 use Rattle.level_theory.specs.LevelsSeen.{unerasedOf, bitsOf, seenOf}
 
--- the rule's separator is from w(i): whatever the levels are, it reads as the parity of i, or they are 1, -1 and 0, and it has
+-- the rule's separator is from w(i): it reads as the parity of i, whatever the levels are; or the levels are 1, -1 and 0, and it has
 -- 2 × wrong + erased below D
 abbrev pub SeparatorFrom : (card : List ℕ) (levels : List Float) (i : ℕ) → Type 0
 SeparatorFrom card levels i =

@@ -48,7 +48,7 @@ allZeros = 0 ∷ 0 ∷ 0 ∷ []
 abbrev pub allOnes : List ℕ
 allOnes = 1 ∷ 1 ∷ 1 ∷ []
 
--- 7 with one bit of chunk 1 wrong; and between 6 and 7, with the bit erased by which they differ
+-- 7 with one bit of chunk 1 wrong; and 6 or 7, with the bit erased in which they differ
 abbrev pub sevenWrong : List ℕ
 sevenWrong = chunks allOnes (1 ∷ 1 ∷ 0 ∷ []) (1 ∷ 0 ∷ 0 ∷ []) allZeros allZeros
 
@@ -77,8 +77,8 @@ wrongAndErased = chunks allZeros (erased ∷ 1 ∷ 0 ∷ []) allZeros allZeros a
 abbrev pub threeErased : List ℕ
 threeErased = chunks allZeros (erased ∷ erased ∷ erased ∷ []) allZeros allZeros allZeros
 
--- w(0) with both code chunks from w(1); the same with two bits erased in separator 1 and in chunk 1, and with one wrong in either; with
--- chunk 2 alone from w(1); and by rules 1 and 2, with a separator besides
+-- w(0) with both code chunks from w(1); the same with two bits erased in separator 1 and in chunk 1, and with one wrong in each; with
+-- chunk 2 alone from w(1); with chunk 1 and separator 3 from w(1), by rule 1; and with separators 2 and 3 from w(1), by rule 2
 abbrev pub mixed : List ℕ
 mixed = chunks allZeros allOnes allZeros allOnes allZeros
 

@@ -12,7 +12,7 @@ use Rattle.model.specs.Order.{gray}
 use Rattle.model.specs.Reading.{readFirst}
 use Rattle.model.specs.declared.Chunk.{Chunk}
 
--- the ones of codeword j, a sum of the first k rows, and x, joined by exclusive-or; and whether they are within a limit
+-- in how many bits codeword j, a sum of the first k rows, and x differ; and whether that is within a limit
 abbrev pub rowsDistance : (k : ℕ) (row : ℕ → ℕ) (x j : ℕ) → ℕ
 rowsDistance k row x j = ones (bitXor (sumOfRows row k (gray j)) x)
 

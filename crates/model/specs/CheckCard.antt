@@ -1,6 +1,6 @@
 -- Document 01, "Where a call can be turned down", and 02: the check of a card. Its rows are those of the card itself, `cardRefusal`: 1 to 5
--- and 14. That an answer's status and values are the refusal and, where the card is sound, those of `cardExpected` is in the call's
--- contract. Assumes nothing.
+-- and 14. The call's contract says that an answer's status is the refusal's number, and that its values, of a sound card, are those of
+-- `cardExpected`. Assumes nothing.
 use mathlib.Core.List.{List, [], _∷_}
 use Prim.Native.Nat.{ℕ}
 use Rattle.model.specs.Refusals.{unlessRefused}

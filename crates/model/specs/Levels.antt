@@ -1,8 +1,8 @@
 -- Document 02, P5: words from a receiver that gives levels. What an arriving level is taken as, how separators and code chunks read, the
 -- residual over the bits that aren't erased, and the receiver's strength. A place whose level is zero is erased (the document says lost),
--- and every other place is unerased: 2 × wrong + erased below D is the bound of errors-and-erasures decoding. A word is seen as `Seen`
--- again, so that rules, rows and ranges are those of Reading.antt; a level is a float of single precision, in the toolchain's own account
--- of IEEE 754 (lib.Ieee). Assumes nothing.
+-- and every other place is unerased: 2 × wrong + erased below D is the bound of errors-and-erasures decoding. What is seen of a word is a
+-- `Seen` again, so that rules, rows and ranges are those of Reading.antt. A level is a float of single precision, in the toolchain's own
+-- account of IEEE 754 (lib.Ieee). Assumes nothing.
 use mathlib.Core.Bool.{Bool, true, false, cond, _||_}
 use mathlib.Core.List.{List}
 use Prim.Native.Nat.{ℕ, zero, suc, _+_, _*_, _^_}
@@ -36,11 +36,11 @@ infinite nan = false
 infinite (inf s) = true
 infinite (fin s m e) = false
 
--- 16: a level that is not a number, infinite, or above 1,000,000 in magnitude
+-- refusal 16, of one level: it is not a number, infinite, or above 1,000,000 in magnitude
 unfoldable pub outside : Float → Bool
 outside x = isNan x || infinite x || lt (ofInt binary32 (pos 1000000)) (magnitude x)
 
--- any of the d levels is
+-- refusal 16: any of the d levels is such
 unfoldable pub anyOutside : (d : ℕ) (levels : List Float) → Bool
 anyOutside d levels = anyBelow (λ p. outside (getD levels p nan)) d
 
@@ -52,7 +52,7 @@ receivedLevel x = cond (eq x zeroLevel) Lost (Level x)
 unfoldable pub receivedAt : (levels : List Float) (p : ℕ) → ReceivedLevel
 receivedAt levels p = receivedLevel (getD levels p nan)
 
--- whether a bit is unerased, and which it is: negative for 1 (of an erased bit this means nothing)
+-- whether a bit is unerased, and its value: 1 for a negative level (of an erased bit this means nothing)
 unfoldable pub isUnerased : ReceivedLevel → Bool
 isUnerased Lost = false
 isUnerased (Level x) = true
@@ -78,11 +78,11 @@ unfoldable pub sumOfLevels : (separator : ℕ → ReceivedLevel) (D : ℕ) → F
 sumOfLevels separator zero = zeroLevel
 sumOfLevels separator (suc D) = plusLevel (sumOfLevels separator D) (separator D)
 
--- a separator reads 1 when they sum below zero, else 0
+-- a separator reads 1 when its levels sum below zero, else 0
 unfoldable pub separatorReading : (D : ℕ) (separator : ℕ → ReceivedLevel) → ℕ
 separatorReading D separator = cond (lt (sumOfLevels separator D) zeroLevel) 1 0
 
--- of a code chunk against c(p): wrong are the unerased places in which the two differ
+-- how many places of a code chunk are wrong against c(p): the unerased ones in which the two differ
 unfoldable pub chunkWrong : Code → (unerased : ℕ → Bool) (x : ℕ → ℕ) (p : ℕ) → ℕ
 chunkWrong C unerased x p = distanceUnerased unerased (C .n) (bit (codeword C p)) x
 

@@ -30,8 +30,8 @@ chunkDistance C x p = distance (C .n) (bit (codeword C p)) x
 unfoldable pub withinRadius : Code → (x : ℕ → ℕ) (p : ℕ) → Bool
 withinRadius C x p = leb (chunkDistance C x p) (radius C)
 
--- what a chunk reads as by a search: the first of so many codewords that is near enough, with its count of differing places; nothing
--- where none is
+-- what a chunk reads as by a search: the first of so many codewords that is near enough, with its count of differing places; where none
+-- is, it is unreadable
 unfoldable pub readFirst : (near : ℕ → Bool) (count : ℕ → ℕ) (many : ℕ) → Chunk
 readFirst near count many = let p : ℕ = first near many in cond (ltb p many) (Codeword p (count p)) Unreadable
 
@@ -48,7 +48,7 @@ chunkRefusal C x = firstRefusal (refuses 10 (not (ltb (first (withinRadius C x) 
 unfoldable pub chunkExpected : Code → (x : ℕ → ℕ) → List ℕ
 chunkExpected C x = let p : ℕ = first (withinRadius C x) (2 ^ C .k) in p ∷ chunkDistance C x p ∷ []
 
--- what a chunk reads as, in these words: its status, 10 where no codeword is near enough, and its values
+-- the status of what a chunk reads as, 10 where no codeword is near enough; and its values
 unfoldable pub chunkStatus : Chunk → ℕ
 chunkStatus (Codeword number differing) = 0
 chunkStatus Unreadable = 10
@@ -104,8 +104,8 @@ namesSecond rule = eqb rule 2 || eqb rule 3
 unfoldable pub numberBy : Seen → (rule : ℕ) → ℕ
 numberBy s rule = cond (eqb rule 2) (numberRead (s .read₂)) (numberRead (s .read₁))
 
--- document 02, P6: the rule's separator is the one that must be equal to the parity of p, separator 1 by rules 1 and 3, separator 3 by
--- rule 2; what it reads, by what separators 1 and 3 read
+-- document 02, P6: the rule's separator is the one that must read the parity of p: separator 1 by rules 1 and 3, separator 3 by rule 2.
+-- What it reads, given what separators 1 and 3 read:
 unfoldable pub separatorOf : (rule s₁ s₃ : ℕ) → ℕ
 separatorOf rule s₁ s₃ = cond (eqb rule 2) s₃ s₁
 

@@ -63,8 +63,9 @@ orderWithinLimits r m = leb 1 m && leb m 6 && leb r m && leb (countOfSets r m) 1
 
 -- ---- the votes of document 004
 
--- Its t, v and r are r, m and the round's size s here. Three slips of its text are mended: S has the size of the round, not t; what was
--- found is taken off, by a sum modulo 2; and its premise, fewer than 2^(m-r-1) bits damaged, is the acceptance within t at the end.
+-- Its t, v and r are r, m and the round's size s here. Three slips of its text are mended: S has the size of the round, not its t; what
+-- was found is taken off, by a sum modulo 2; and in place of its premise, fewer than 2^(m-r-1) damaged bits, a result is accepted only
+-- within the radius, at the end.
 
 -- The positions that agree in all variables outside S are a class of S. It is named by its greatest position, the one that has
 -- every bit of S: position p lies in class c when p, joined with S, is c. The sum of y over class c, modulo 2:
@@ -99,7 +100,7 @@ voted r m y S = coefficient m (afterRounds r m y (r - weight m S)) S
 unfoldable pub votedRows : (r m : ℕ) (y : ℕ → ℕ) → ℕ
 votedRows r m y = sumBelow (λ z. voted r m y (setOf r m z) * 2 ^ z) (countOfSets r m)
 
--- the codeword that is their sum: the number p of which Gray(p) names these rows
+-- the codeword that is their sum: the number p for which Gray(p) names these rows
 unfoldable pub votedNumber : (r m : ℕ) (y : ℕ → ℕ) → ℕ
 votedNumber r m y = first (λ p. eqb (gray p) (votedRows r m y)) (2 ^ countOfSets r m)
 

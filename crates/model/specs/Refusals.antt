@@ -1,5 +1,5 @@
--- Document 01, "Where a call can be turned down": the table of refusals. A call has the rows that it has the thing for, each with
--- what it tests; they are checked downwards, and the first that holds is the answer. Assumes nothing.
+-- Document 01, "Where a call can be turned down": the table of refusals. A call has the rows that test something that it is given.
+-- They are checked downwards, and the first that holds is the answer. Assumes nothing.
 use mathlib.Core.Bool.{Bool, cond, not}
 use mathlib.Core.List.{List, [], _∷_}
 use Prim.Native.Nat.{ℕ}
@@ -13,7 +13,7 @@ pub record Row : Type 0 where
 abbrev pub refuses : (number : ℕ) (holds : Bool) → Row
 refuses number holds = record { number = number; holds = holds }
 
--- one row for all those of a part that has been checked already, by the number of its refusal, 0 where none holds
+-- one row for all rows of a part that has been checked already: it has the number of that part's refusal, and holds unless that is 0
 abbrev pub refusedAs : (refusal : ℕ) → Row
 refusedAs refusal = refuses refusal (not (eqb refusal 0))
 

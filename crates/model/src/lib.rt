@@ -1,6 +1,6 @@
 // What a code chunk reads as, what a card decodes to, and what the public calls answer. The definitions of specs/ give these
-// values their meaning. A refusal carries its number in documents 01 and 02 and nothing else, but that of a card that is not made,
-// beside which stand 512 zero bytes.
+// values their meaning. A refused call answers the refusal's number in documents 01 and 02 and nothing else. The exception is a card
+// that is not made: 512 zero bytes stand beside its number.
 
 // What a code chunk reads as: the number p of the codeword c(p) within the radius, and in how many places the two differ. Of a chunk with
 // erased bits, the codeword for which 2 × wrong + erased is below D, and how many places are wrong.
@@ -48,8 +48,8 @@ pub enum WriteAnswer {
     Refused(u32),
 }
 
-// How many bits a code chunk of a word needed: in how many of the unerased bits it and the codeword that it reads as differ; or the word's
-// rule does not name the chunk, and it was not read.
+// How many bits a code chunk of a word needed: the unerased ones in which it and the codeword that it reads as differ. A chunk that the
+// word's rule does not name was not read.
 pub enum ChunkBits {
     Differing(u32),
     NotRead,

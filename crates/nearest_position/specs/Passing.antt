@@ -1,6 +1,6 @@
 -- A search passes the places of two words u and v, held in arrays of forty bytes: at each place in which they differ it comes one
--- position on, from u's bit to v's. Residuals are a function of the position that is known at the positions passed alone; no code
--- stands here. Assumes nothing.
+-- position on, from u's bit to v's. Residuals are a function of the position that is known at the positions passed alone. No linear
+-- code is needed here. Assumes nothing.
 use mathlib.Core.Path.{_≡_}
 use mathlib.Core.Bool.{cond}
 use mathlib.Core.List.{List}

@@ -1,4 +1,4 @@
--- A word put together of two at a place. Assumes nothing.
+-- A word put together from two, one before a place and the other from there on. Assumes nothing.
 use mathlib.Core.Path.{_≡_}
 use mathlib.Core.Bool.{cond}
 use mathlib.Core.List.{List}

@@ -19,8 +19,8 @@ use Rattle.position_theory.proofs.Separators.{of-every-rule}
 use Rattle.position_theory.proofs.RuleReads.{BothRead, InCode, RuleReads, rule-reads}
 use Rattle.position_theory.proofs.Isometry.{isometric-block, isometric-around}
 
--- What is allowed goes by what is seen: what holds of the range of each rule, where its chunks read a number of some kind and its
--- block exists, holds of all that is allowed where chunks read such numbers only.
+-- What is allowed goes by what is seen. A property of each rule's range, where its chunks read a number of some kind and its block
+-- exists, is one of the range that is allowed, where chunks read such numbers only.
 module _ (R : Rules) (P : Range → Type 0) (Kind : ℕ → Type 0) where
   -- what a rule allows where its chunks read p
   abbrev Rule : (rule : ℕ) → Type 0

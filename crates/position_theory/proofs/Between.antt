@@ -24,7 +24,7 @@ pub record Next (C : Code) (i j A : ℕ) : Type 0 where
   pub parities : difference (i % 2) (j % 2) ≡ 1
   pub codewords : codewordDistance C i j ≡ A
 
--- the steps from w(i) to w(j) before chunk c, and in all
+-- the steps from w(i) to w(j) before chunk c; for c = 5, all of them
 abbrev pub stepsBefore : Code → (A c : ℕ) → ℕ
 stepsBefore C A c = placesBefore (C .D) A c
 

@@ -55,7 +55,7 @@ all-within C position received d =
     record { right-length = d .right-length; spare-zero = d .spare-zero; chunks = λ c b _. omega (arith, d .chunks c (omega arith)) }
 
 module _ (C : Code) where
-  -- the bits damaged, or wrong, in a chunk go by the word's places alone
+  -- the damaged, or wrong, bits in a chunk go by the word's places alone
   pub damaged-in-ext : {u u′ : ℕ → ℕ} (x : ℕ → ℕ) → ((p : ℕ) → p < wordBits C → u p ≡ u′ p) → (c : ℕ) → c < 5
       → damagedIn C c u x ≡ damagedIn C c u′ x
   unfolding damagedIn
@@ -67,7 +67,7 @@ module _ (C : Code) where
   wrong-in-ext unerased x same c b =
       unerased-ext-left (chunkOf C c unerased) _ (chunkOf C c x) (λ p l. same _ (omega (arith, chunk-fits C c b)))
 
-  -- the bits damaged in all are the residual of the true position
+  -- the damaged bits in all are the residual of the true position
   damaged-is-residual : (position : ℕ) (received : List ℕ) → damaged C position received ≡ residual C (place received) position
   unfolding damaged residual
   damaged-is-residual position received =

@@ -1,4 +1,4 @@
--- P7, of every sound card: where chunks of a position's word are divided, no clause of a call, but a law of what the clauses name.
+-- P7: where chunks of a position's word are divided, on every sound card. This is no clause of a call, but a law of what the clauses name.
 -- Assumes nothing.
 use mathlib.Core.Path.{_≡_}
 use mathlib.Core.Bool.{false}
@@ -11,7 +11,7 @@ use Rattle.position_theory.specs.DividedChunks.{AtMostOneDivided}
 use Rattle.position_theory.proofs.WhereDivided.{divided-one-by-one}
 use Rattle.position_theory.proofs.SoundCards.{card-promise}
 
--- at most one chunk is divided, and none at a block's start and at the last position
+-- at most one chunk is divided, and none at a block's start or at the last position
 pub at-most-one-divided : (card : List ℕ) → AtMostOneDivided card
 unfolding AtMostOneDivided
 at-most-one-divided card sound = divided-one-by-one (codeOf card) (card-promise card sound)

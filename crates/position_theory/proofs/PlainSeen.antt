@@ -1,5 +1,5 @@
 -- What is seen of a plain word, in which nothing is erased: a code chunk reads as the codeword within the radius, for which 2 × wrong is
--- below D; and a separator of which less than half the bits are damaged reads what its bits were. Assumes nothing.
+-- below D; and a separator of which fewer than half the bits are damaged reads what its bits were. Assumes nothing.
 use mathlib.Core.Path.{_≡_, refl, ap}
 use mathlib.Core.Logic.{⊎-elim}
 use Prim.Native.Nat.{ℕ, zero, suc, _+_, _*_, _≤_, _<_}
@@ -32,7 +32,7 @@ unfolding distance sumBelow
 distance-from-ones zero y hy = refl
 distance-from-ones (suc D) y hy = omega (arith, hy D, distance-from-ones D y hy)
 
--- a separator whose bits are all b reads b if less than half of them are damaged
+-- a separator whose bits are all b reads b if fewer than half of them are damaged
 separator-reads : (D b : ℕ) (u y : ℕ → ℕ) → b < 2 → ((p : ℕ) → p < D → u p ≡ b) → ((p : ℕ) → y p < 2) → 2 * distance D u y < D
     → majority D y ≡ b
 unfolding majority
@@ -76,7 +76,7 @@ module _ (C : Code) (promise : ChunkPromise C) where
         separator₃ = majority-reads (C .D) _ (λ p. hx _);
       }
 
-  -- a chunk with at most t bits damaged has 2 × wrong + erased below D
+  -- a chunk with at most t damaged bits has 2 × wrong + erased below D
   pub within-radius-below : (u x : ℕ → ℕ) (c : ℕ) → damagedIn C c u x ≤ radius C → ChunkBelowD C everywhere u x c
   unfolding damagedIn wrongIn erasedIn
   within-radius-below u x c h =

@@ -56,7 +56,7 @@ use Rattle.position_theory.proofs.RuleReads.{number-of}
 pub computed : {a b : ℕ} → leb a b ≡ true → a ≤ b
 computed {a} {b} test = leb-true a b test
 
--- no chunk has more than t bits damaged
+-- no chunk has more than t damaged bits
 within : (C : Code) (position : ℕ) (received : List ℕ) → length received ≡ wordLength C → spareSet C received ≡ false
     → anyBelow (λ c. ltb (radius C) (damagedIn C c (place (wordBytes C position)) (place received))) 5 ≡ false
     → WithinRadius C position received
@@ -64,7 +64,7 @@ unfolding ChunksWithin
 within C position received size spare none =
     record { right-length = size; spare-zero = spare; chunks = λ c five. ltb-false _ _ (none-of-any _ 5 none c five) }
 
--- no chunk that is not divided has
+-- no chunk that is not divided has more than t damaged bits
 undivided : (C : Code) (position : ℕ) (received : List ℕ) → length received ≡ wordLength C → spareSet C received ≡ false
     → anyBelow (λ c. not (divided C position c) && ltb (radius C) (damagedIn C c (place (wordBytes C position)) (place received))) 5 ≡ false
     → UndividedWithinRadius C position received
@@ -157,7 +157,7 @@ no-count C chunk p last bits none in-code (count, as-read, (counted, few)) =
     let far = leb-false (chunkDistance C chunk p) (radius C) (none-of-any (withinRadius C chunk) (suc last) none p (omega arith)) in
     omega arith
 
--- of two codewords, the one by whose number a rule allows positions from 0 on
+-- of two codewords, the first is the one by whose number a rule allows positions from 0 on
 pub first-codeword : (range : ℕ → Range) (p : ℕ) → p ≤ 1 → 0 < range 1 .low → range 0 ≡ range p → range 0 .low ≡ 0 → p ≡ 0
 first-codeword range zero two far is from = refl
 first-codeword range (suc zero) two far is from = let low = ap (λ (r : Range). r .low) is in absurd (omega arith)

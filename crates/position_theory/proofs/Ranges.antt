@@ -1,4 +1,4 @@
--- Any words by position, and any residual; no code stands here. On a range whose words differ in as many bits as the positions in
+-- Any words by position, and any residual, of no code at all. On a range whose words differ in as many bits as the positions in
 -- steps (isometric), two positions are no further apart than their residuals and the erased places together, by the triangle inequality; so
 -- the nearest position of the range is off by at most the residuals of it and of the true one, and the erased places. Assumes nothing.
 use mathlib.Core.Path.{_≡_}
@@ -27,7 +27,7 @@ module _ (d : ℕ) (words : ℕ → ℕ → ℕ) where
   unfolding Isometric
   isometric-part low high far l h q q′ a b c = far q q′ (omega arith) b (omega arith)
 
-  -- two positions of a range, in either order, are as far apart as their words at most
+  -- two positions of a range, in either order, are at most as far apart as their words
   pub steps-apart : (low high q q′ : ℕ) → Isometric d words low high → low ≤ q → q ≤ high → low ≤ q′ → q′ ≤ high
       → q ≤ q′ + distance d (words q) (words q′)
   unfolding Isometric
@@ -73,8 +73,8 @@ nearest-in residual range h =
       none-smaller = λ q l b. leastAt-first residual low steps q l b;
     }
 
--- the answer to a range that holds the true position is as near to it as the two residuals and the erased places say, and its own is no
--- larger
+-- the answer to a range that holds the true position is as near to it as the two residuals and the erased places say, and its own residual
+-- is no larger than that of the true position
 module _ (d : ℕ) (words : ℕ → ℕ → ℕ) (residual : ℕ → ℕ) (erased : ℕ) (within : WithinResiduals d words residual erased) where
   pub answer-off-by : (s : Seen) (rule : ℕ) (range : Range) → Isometric d words (range .low) (range .high)
       → (position : ℕ) → range .low ≤ position → position ≤ range .high

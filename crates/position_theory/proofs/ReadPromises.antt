@@ -31,8 +31,8 @@ use Rattle.position_theory.proofs.SoundCards.{card-promise, read-sound}
 
 -- ---- how far off: P7, and demand 3 from it
 
--- P7, where the divided chunk is damaged arbitrarily: the word is read, off by at most the bits damaged and the residual together; and
--- since the residual is at most the bits damaged, by at most twice these. (Each distance is compared as a number, so that a claim of a
+-- P7, where the divided chunk is damaged arbitrarily: the word is read, off by at most the damaged bits and the residual together; and
+-- since the residual is at most the damaged bits, by at most twice these. (Each distance is compared as a number, so that a claim of a
 -- smaller one is refused by a counterexample.)
 pub read-with-divided-arbitrary : (card received : List ℕ) → ReadWithDividedArbitrary card received (readAnswer card received)
 unfolding ReadWithDividedArbitrary
@@ -86,7 +86,7 @@ counts-bits-of-chunks card received r answered =
     let (sound, none, is) = read-shows card received r answered in
     rw (← is) (bits-of-chunks (codeOf card) (card-promise card sound) (place received) none)
 
--- a word damaged within the radius allows its position, so the bits needed are those damaged
+-- a word damaged within the radius allows its position, so the bits needed are the damaged ones
 pub needed-as-damaged : (card received : List ℕ) → NeededAsDamaged card received (readAnswer card received)
 unfolding NeededAsDamaged readingOfSeen
 needed-as-damaged card received position sound h d r answered =

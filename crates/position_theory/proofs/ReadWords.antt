@@ -1,4 +1,4 @@
--- What it shows that a word is read: its card is sound, no row of the table holds of what is seen of it, and the answer is its reading.
+-- What follows where a word is read: its card is sound, no row of the table holds of what is seen of it, and the answer is its reading.
 -- Assumes nothing.
 use mathlib.Core.Path.{_≡_, refl, sym, _∙_}
 use mathlib.Core.List.{List}

@@ -1,6 +1,6 @@
--- How what is seen of a true word reads, whichever chunk is divided and however that one reads: the separators name a rule that
+-- How a true word reads, by what is seen of it, whichever chunk is divided and however that one reads: the separators name a rule that
 -- names whole chunks only. Four cases, each with its rule, what the named chunks read as, the parity that a separator has, and
--- where the word stands on the way from number i to number j. No code and no position stands here. Assumes nothing.
+-- where the word stands on the way from number i to number j. Neither a code nor a position is needed here. Assumes nothing.
 use mathlib.Core.Path.{_≡_, sym, _∙_}
 use mathlib.Core.Logic.{_⊎_, inl, inr, ⊎-elim}
 use Prim.Native.Nat.{ℕ, _+_, _*_, _%_, _≤_, _<_}

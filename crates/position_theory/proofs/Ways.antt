@@ -1,4 +1,4 @@
--- Part of a track on which its words, whichever track they are of, walk from one codeword's word to the next one's: from w(i) at one
+-- A way is a part of a track, of whatever kind, on which the words walk from one codeword's word to the next one's: from w(i) at one
 -- position to w(j) at another, one bit flipped a step. Words on the way differ in as many bits as they are steps apart, and so do those
 -- within D steps of where one way ends and the next begins: before it only separator 3 changes, after it only separator 1, and since
 -- these share no place, the distances add. Chunks ahead hold c(i), and chunks passed c(j); the word is w(j) below some place, and w(i) from

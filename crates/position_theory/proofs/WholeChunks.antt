@@ -1,6 +1,6 @@
 -- What is seen of a chunk reads as a number: a separator as the number's parity, a code chunk as the number itself. A whole chunk whose
--- 2 × wrong + erased is below D reads as the number that it stands for: a separator if it is seen so that this holds, a code chunk by the
--- chunk promise. So on the way from one codeword to the next every whole chunk reads as its number; of the one that is divided nothing is
+-- 2 × wrong + erased is below D reads as the number that it stands for: a separator by `ReadsParity`, a code chunk by the chunk promise. So
+-- on the way from one codeword to the next every whole chunk reads as its number; of the one that is divided nothing is
 -- asked and nothing said. Assumes nothing.
 use mathlib.Core.Path.{_≡_, _∙_}
 use mathlib.Core.Bool.{Bool}

@@ -54,8 +54,8 @@ WrongOfChunks C unerased x s =
     (λ named. CountsWrong C named (chunk₁ C unerased) (chunk₁ C x))
     (λ named. CountsWrong C named (chunk₂ C unerased) (chunk₂ C x))
 
--- as numbers, the bits of either code chunk, where the rule names it, are those of the position's word that are damaged in it (of the five
--- chunks, 0 to 4, the code chunks are 1 and 3)
+-- as numbers: a code chunk that the rule names needed as many bits as are damaged in that chunk of the position's word (of the five chunks,
+-- 0 to 4, the code chunks are 1 and 3)
 abbrev pub AreDamaged : Code → (position : ℕ) (received : List ℕ) (rule bits₁ bits₂ : ℕ) → Type 0
 AreDamaged C position received rule bits₁ bits₂ =
     (namesFirst rule ≡ true → bits₁ ≡ damagedIn C 1 (place (wordBytes C position)) (place received))

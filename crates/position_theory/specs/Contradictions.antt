@@ -48,7 +48,7 @@ abbrev pub NamedChunk : (rule c : ℕ) → Type 0
 NamedChunk rule c = ((c ≡ 1) × (namesFirst rule ≡ true)) ⊎ ((c ≡ 3) × (namesSecond rule ≡ true))
 
 -- A word x is mixed from two telegrams, w(i) and w(j), whose parities differ: by the rule that its separators name, it has the rule's
--- separator from the first and a code chunk c that the rule names from the second, at most t bits damaged in either, and whatever else
+-- separator from the first and a code chunk c that the rule names from the second, with at most t damaged bits in each, and whatever else
 -- elsewhere. (A telegram of any position has, in a chunk that is not being changed there, what some w(i) has.)
 pub record Mixed (C : Code) (x : ℕ → ℕ) (i j c : ℕ) : Type 0 where
   pub in-code : i ≤ lastCodeword C

@@ -14,12 +14,12 @@ use Rattle.model.specs.ReadWord.{spareSet}
 use Rattle.model.specs.declared.ReadAnswer.{ReadAnswer}
 use Rattle.model.specs.declared.ReadAnswer.the-variants.{At, Refused}
 
--- the number of bits damaged in chunk c, of the chunks 0 to 4: the places of it in which x differs from u
+-- the number of damaged bits in chunk c, of the chunks 0 to 4: the places of it in which x differs from u
 unfoldable pub damagedIn : Code → (c : ℕ) (u x : ℕ → ℕ) → ℕ
 damagedIn C c u x = distance (chunkSize (C .D) (C .n) c) (chunkOf C c u) (chunkOf C c x)
 
--- where only some places are unerased: the number of bits that are wrong in chunk c, the unerased places of it in which x differs from u,
--- and the number of bits that are erased in it
+-- where only some places are unerased: the number of wrong bits in chunk c, the unerased places of it in which x differs from u; and the
+-- number of erased bits in it
 unfoldable pub wrongIn : Code → (unerased : ℕ → Bool) (c : ℕ) (u x : ℕ → ℕ) → ℕ
 wrongIn C unerased c u x = distanceUnerased (chunkOf C c unerased) (chunkSize (C .D) (C .n) c) (chunkOf C c u) (chunkOf C c x)
 
@@ -33,7 +33,7 @@ ChunkBelowD C unerased u x c = 2 * wrongIn C unerased c u x + erasedIn C unerase
 unfoldable pub ChunksBelowD : Code → (unerased : ℕ → Bool) (u x : ℕ → ℕ) → Type 0
 ChunksBelowD C unerased u x = (c : ℕ) → c < 5 → ChunkBelowD C unerased u x c
 
--- the number of bits that are wrong in all, and of those erased in all: the sums over the five chunks
+-- the number of wrong bits in all, and of erased bits in all: the sums over the five chunks
 unfoldable pub wrongInAll : Code → (unerased : ℕ → Bool) (u x : ℕ → ℕ) → ℕ
 wrongInAll C unerased u x = sumBelow (λ c. wrongIn C unerased c u x) 5
 
@@ -44,16 +44,16 @@ erasedInAll C unerased = sumBelow (erasedIn C unerased) 5
 unfoldable pub ChunksWithin : Code → (e : ℕ) (u x : ℕ → ℕ) → Type 0
 ChunksWithin C e u x = (c : ℕ) → c < 5 → damagedIn C c u x ≤ e
 
--- the number of bits damaged in all: the sum over the five chunks
+-- the number of damaged bits in all: the sum over the five chunks
 unfoldable pub damagedInAll : Code → (u x : ℕ → ℕ) → ℕ
 damagedInAll C u x = sumBelow (λ c. damagedIn C c u x) 5
 
--- the bits of the position's word that are damaged in the received word
+-- how many bits of the position's word are damaged in the received word
 unfoldable pub damaged : Code → (position : ℕ) (received : List ℕ) → ℕ
 damaged C position received = damagedInAll C (place (wordBytes C position)) (place received)
 
--- the received bytes are a word with spare bits zero in which at most t bits of each chunk of the word sent are damaged; and of the word
--- of a position
+-- the received bytes are a word with spare bits zero in which at most t bits of each chunk of the word sent are damaged; and the same
+-- where that is the word of a position
 pub record WithinRadiusOf (C : Code) (sent received : List ℕ) : Type 0 where
   pub right-length : length received ≡ wordLength C
   pub spare-zero : spareSet C received ≡ false
@@ -62,8 +62,8 @@ pub record WithinRadiusOf (C : Code) (sent received : List ℕ) : Type 0 where
 abbrev pub WithinRadius : Code → (position : ℕ) (received : List ℕ) → Type 0
 WithinRadius C position = WithinRadiusOf C (wordBytes C position)
 
--- The received bytes are a word with spare bits zero in which each chunk of the position's word that is not divided has at most t bits
--- damaged. A divided chunk may be damaged arbitrarily; where none is divided, the limit binds all five, as in `WithinRadius`.
+-- The received bytes are a word with spare bits zero in which each chunk of the position's word that is not divided has at most t damaged
+-- bits. A divided chunk may be damaged arbitrarily; where none is divided, the limit binds all five, as in `WithinRadius`.
 pub record UndividedWithinRadius (C : Code) (position : ℕ) (received : List ℕ) : Type 0 where
   pub right-length : length received ≡ wordLength C
   pub spare-zero : spareSet C received ≡ false
@@ -75,7 +75,7 @@ unfoldable pub Near : ReadAnswer → (position e : ℕ) → Type 0
 Near (At r) position e = (r .position ≤ position + e) × (position ≤ r .position + e)
 Near (Refused refusal) position e = ⊥
 
--- the residual of an answer
+-- the residual of an answer (0 of a refusal, which means nothing)
 unfoldable pub residualOf : ReadAnswer → ℕ
 residualOf (At r) = r .residual
 residualOf (Refused refusal) = 0

@@ -8,7 +8,7 @@ use Rattle.model.specs.Card.{Code, codeOf, SoundCard}
 use Rattle.model.specs.Order.{lastCodeword, changedWeight, blockLength, start, lastPosition}
 use Rattle.model.specs.Words.{placesBefore, divided}
 
--- At most one chunk of a position's word is divided, and none at a block's start and at the last position. Of the steps of block i,
+-- At most one chunk of a position's word is divided, and none at a block's start or at the last position. Of the steps of block i,
 -- placesBefore D A(i) c are made before chunk c. So m steps into the block, or at the block's end, chunk c is divided just where m is more
 -- than these and fewer than placesBefore D A(i) (c + 1), the steps to the chunk's end.
 pub record DividedOneByOne (C : Code) : Type 0 where

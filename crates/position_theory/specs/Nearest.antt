@@ -17,8 +17,8 @@ refusalOf R s = firstRefusal (rowsSeen R s (ruleSeen s))
 abbrev pub allowedBy : Rules → Seen → Range
 allowedBy R s = rangeSeen R s (ruleSeen s)
 
--- none of these rows holds, the position q is allowed by this rule, the one named, and on the track, no allowed one is nearer, none
--- smaller is as near, and e is its residual
+-- None of these rows holds, and `rule` is the rule named. The position q is allowed by it and on the track, no allowed one is nearer, and
+-- no smaller one is as near. e is the residual of q.
 pub record NearestOf (R : Rules) (last : ℕ) (s : Seen) (residualAt : ℕ → ℕ) (q e rule : ℕ) : Type 0 where
   pub none-refuses : refusalOf R s ≡ 0
   pub by-rule : rule ≡ ruleSeen s

@@ -45,7 +45,7 @@ ReadWithinErrorBar e position (Refused refusal) = ⊥
 abbrev pub sevenDamaged : List ℕ
 sevenDamaged = 0b01011111 ∷ 0b0000000 ∷ []
 
--- 15, the last position, with one bit of separator 3 damaged; it reads as 13, by rule 3, which is just twice as far off
+-- 15, the last position, with one bit of separator 3 damaged; it reads as 13, by rule 3, which is off by just twice the damaged bits
 abbrev pub lastDamaged : List ℕ
 lastDamaged = 0b11111111 ∷ 0b1011111 ∷ []
 
@@ -106,8 +106,8 @@ abbrev pub NoneReads : (Promised : ReadAnswer → Type 0) → Type 0
 NoneReads Promised = (r : Reading) → Promised (At r) → ⊥
 
 pub record Witnessed : Type 0 where
-  -- writing: at the last position the word is written, and a refusal leaves what was lent; neighbours are asked of 14 and 15 in either
-  -- order, and of 0; the last position's word is no other's
+  -- writing: at the last position the word is written, and a refusal leaves what was lent; one bit lies between 14 and 15, in either
+  -- order, and between 1 and 0; the last position's word is no other's
   pub written : (answer : WriteAnswer) → WrittenIfServable cardB 15 (0xaa ∷ 0xaa ∷ []) answer → answer ≡ Written
   pub unchanged : (left : List ℕ) → UnchangedIfRefused (0xaa ∷ 0xaa ∷ []) left (WriteRefused 7) → left ≡ 0xaa ∷ 0xaa ∷ []
   pub last-is-next : (word : List ℕ) → NeighboursDifferInOneBit cardB 14 word → differingBits word (0xff ∷ 0x7f ∷ []) ≡ 1
@@ -121,15 +121,16 @@ pub record Witnessed : Type 0 where
   pub residual-counts : (answer : ReadAnswer) → NearestOfAllowed cardB lastDamaged answer
       → residual (codeOf cardB) (place lastDamaged) 15 ≡ differingBits (wordBytes (codeOf cardB) 15) lastDamaged
   pub by-17 : (answer : ReadAnswer) → NearestOfAllowed cardB mixed answer → answer ≡ Refused 17
-  -- demand 3: off by at most twice the bits damaged, which 5 for 7 and 13 for 15 are; and t bits damaged in every chunk
+  -- demand 3: off by at most twice the damaged bits, which 5 for 7 and 13 for 15 are; with t damaged bits in every chunk; and the sharper
+  -- bound of the same words
   pub twice : (answer : ReadAnswer) → OffByAtMostTwiceDamaged cardB sevenDamaged answer → ReadWithin 2 7 answer
   pub twice-at-last : (answer : ReadAnswer) → OffByAtMostTwiceDamaged cardB lastDamaged answer → ReadWithin 2 15 answer
   pub twice-in-all : (answer : ReadAnswer) → OffByAtMostTwiceDamaged cardB lastAllDamaged answer → ReadWithin 10 15 answer
   pub sharper : (answer : ReadAnswer) → OffByAtMostDamagedAndResidual cardB sevenDamaged answer → ReadWithinErrorBar 1 7 answer
   pub sharper-at-last : (answer : ReadAnswer) → OffByAtMostDamagedAndResidual cardB lastDamaged answer → ReadWithinErrorBar 1 15 answer
   pub sharper-in-all : (answer : ReadAnswer) → OffByAtMostDamagedAndResidual cardB lastAllDamaged answer → ReadWithinErrorBar 5 15 answer
-  -- each chunk in turn divided and damaged in every bit, each other one with t bits damaged, and the last position, where none is divided;
-  -- and the error bar for just the bits damaged
+  -- each chunk in turn divided and damaged in every bit, each other one with t damaged bits, and the last position, where none is divided;
+  -- and the error bar for just the damaged bits
   pub separator-1-arbitrary : SevenArbitrary 2 (0b01001100 ∷ 0b0010010 ∷ [])
   pub chunk-1-arbitrary : SevenArbitrary 5 (0b01100110 ∷ 0b0010010 ∷ [])
   pub separator-2-arbitrary : SevenArbitrary 8 (0b00110110 ∷ 0b0010011 ∷ [])
@@ -141,8 +142,8 @@ pub record Witnessed : Type 0 where
   pub error-bar-at-last : (answer : ReadAnswer) → ErrorBarHoldsPosition cardB lastDamaged answer → ReadWithinErrorBar 1 15 answer
   pub error-bar-residual : (r : Reading) → ErrorBarHoldsPosition cardB dividedDamaged (At r) → r .residual ≤ 3
   pub one-divided : AtMostOneDivided cardB → (c : ℕ) → c < 5 → divided (codeOf cardB) 14 c ≡ true → c ≡ 4
-  -- bits of chunks: a count of just t, of a chunk that is not named none, and of a chunk with t + 1 bits damaged, which is card A's 100, no
-  -- reading
+  -- bits of chunks: a count of just t, no count of a chunk that is not named, and no reading of a chunk with t + 1 damaged bits, card A's
+  -- 100; and a chunk that is named needed the damaged bits
   pub just-t : (r : Reading) → CountsBitsOfChunks cardB zeroDamaged (At r) → (r .chunk1 ≡ Differing 1) × (r .chunk2 ≡ Differing 0)
   pub not-named : (r : Reading) → CountsBitsOfChunks cardB sevenDamaged (At r) → (r .chunk1 ≡ NotRead) × (r .chunk2 ≡ Differing 0)
   pub not-named-by-rule-1 : (r : Reading) → CountsBitsOfChunks cardB eleven (At r) → r .chunk2 ≡ NotRead
@@ -154,7 +155,7 @@ pub record Witnessed : Type 0 where
   pub needed-by-rule-1 : (r : Reading) → r .rule ≡ 1 → NeededAsDamaged cardB tenDamaged (At r) → bitsValue (r .chunk1) ≡ 1
   pub needed-by-rule-2 : (r : Reading) → r .rule ≡ 2 → NeededAsDamaged cardB sevenInChunk2 (At r) → bitsValue (r .chunk2) ≡ 1
   -- separators that contradict the codeword, by each rule; and words mixed from two telegrams, by each rule and each chunk that it names,
-  -- with t bits damaged in both parts
+  -- with t damaged bits in both parts
   pub contradicts : NoneReads (ReadOnlyIfParityAgrees cardB mixed)
   pub contradicts-by-rule-1 : NoneReads (ReadOnlyIfParityAgrees cardB mixedByRule1)
   pub contradicts-by-rule-2 : NoneReads (ReadOnlyIfParityAgrees cardB mixedByRule2)

@@ -22,13 +22,13 @@ use Rattle.position_theory.specs.Contradictions.{AgreesIfRead, Mixed, co
 -- ---- clauses of their own
 
 -- Demand 3: for a sound card, every position on its track and whichever bits of that position's word are damaged, at most t
--- in each of the five chunks: the answer is no refusal, and no further from the position than twice the bits damaged
+-- in each of the five chunks: the answer is no refusal, and no further from the position than twice the damaged bits
 unfoldable pub OffByAtMostTwiceDamaged : (card received : List ℕ) → ReadAnswer → Type 0
 OffByAtMostTwiceDamaged card received answer =
     (position : ℕ) → SoundCard card → position ≤ lastPosition (codeOf card)
     → WithinRadius (codeOf card) position received → Near answer position (2 * damaged (codeOf card) position received)
 
--- The sharper bound, under the same premises: no further than the bits damaged and the residual together
+-- The sharper bound, under the same premises: no further than the damaged bits and the residual together
 unfoldable pub OffByAtMostDamagedAndResidual : (card received : List ℕ) → ReadAnswer → Type 0
 OffByAtMostDamagedAndResidual card received answer =
     (position : ℕ) → SoundCard card → position ≤ lastPosition (codeOf card)
@@ -38,8 +38,8 @@ OffByAtMostDamagedAndResidual card received answer =
 -- ---- the clause `promises`
 
 -- P7, where the divided chunk is damaged arbitrarily: for a sound card, every position on its track and every such word the answer is no
--- refusal, and both distances hold. It is no further from the position than the bits damaged and the residual together, and no further
--- than twice the bits damaged.
+-- refusal, and both distances hold. It is no further from the position than the damaged bits and the residual together, and no further
+-- than twice the damaged bits.
 unfoldable pub ReadWithDividedArbitrary : (card received : List ℕ) → ReadAnswer → Type 0
 ReadWithDividedArbitrary card received answer =
     (position : ℕ) → SoundCard card → position ≤ lastPosition (codeOf card) → UndividedWithinRadius (codeOf card) position received
@@ -47,8 +47,8 @@ ReadWithDividedArbitrary card received answer =
     × Near answer position (2 * damaged (codeOf card) position received)
 
 -- The error bar about the answer reaches, on either side, as far as the residual and e, the bits that one is ready to assume damaged.
--- Under the same premises, where at most e bits are damaged, the error bar holds the position; and the residual is at most e, so that a
--- greater one shows that the word is not such a one, or that more bits are damaged.
+-- Under the same premises, where at most e bits are damaged, the error bar holds the position. The residual is then at most e: a greater
+-- one shows that the word is not such a one, or that more bits are damaged.
 unfoldable pub ErrorBarHoldsPosition : (card received : List ℕ) → ReadAnswer → Type 0
 ErrorBarHoldsPosition card received answer =
     (position e : ℕ) → SoundCard card → position ≤ lastPosition (codeOf card) → UndividedWithinRadius (codeOf card) position received

@@ -46,7 +46,7 @@ AnswersRule R C residual x rule separator answer =
 abbrev pub rows12And17 : Rules → (rule separator p : ℕ) → List Row
 rows12And17 R rule separator p = refuses 12 (R .noBlock rule p) ∷ refuses 17 (parityDiffers separator p) ∷ []
 
--- of what is seen of a word the rule's chunks have been read so: none of rows 9 to 11 holds
+-- this is what the rule's chunks have been read as, by what is seen of a word; none of rows 9 to 11 holds
 pub record ChunksReadAs (s : Seen) (rule : ℕ) (read : ChunksRead) : Type 0 where
   pub number-is : read .number ≡ numberBy s rule
   pub chunk₁-is : read .chunk1 ≡ bitsNeeded (namesFirst rule) (s .read₁)

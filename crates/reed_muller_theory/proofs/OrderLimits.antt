@@ -89,7 +89,7 @@ limit-in-table r (suc i) low high =
     limit-is (suc i) (getD greatestOrders (suc i) 0) low high
     (not-false _ (none-of-any (λ i. not (greatestOrder (suc i) (getD greatestOrders (suc i) 0))) 6 all-greatest i (omega arith))) r
 
--- ---- what lies outside for want of a number of variables
+-- ---- what lies outside the limits by its number of variables
 
 pub too-few-variables : (r m : ℕ) → m < 1 → false ≡ orderWithinLimits r m
 unfolding orderWithinLimits

@@ -1,6 +1,6 @@
 -- One vote. Where y is a polynomial of no more variables than S with some positions damaged, each class of S sums to the coefficient
 -- of S and to what is damaged in the class. A damaged position lies in one class, so at most as many classes sum wrong as positions
--- are damaged: fewer than half of them where twice as many are fewer than the classes. Assumes nothing.
+-- are damaged. Where twice the damaged positions are fewer than the classes, these are fewer than half of the classes. Assumes nothing.
 use mathlib.Core.Path.{_≡_, sym, ap, _∙_}
 use mathlib.Core.Bool.{Bool, true, false, cond}
 use mathlib.Core.Logic.{⊎-elim}

@@ -21,7 +21,7 @@ use Rattle.reed_muller_theory.specs.Votes.{KeepsPromise, AnswersAsSearch
 abbrev pub summary12 : CardSummary
 summary12 = record { n = 4; k = 3; track = 14; distance = 2; radius = 0; bits = 14; last = 86 }
 
--- chunks of order 1 in three variables, whose t is 1: one bit from codeword 12, and two from any
+-- chunks of order 1 in three variables, whose t is 1: one bit from codeword 12, and two or more from every codeword
 abbrev pub oneOff : ℕ
 oneOff = 0b01011110
 

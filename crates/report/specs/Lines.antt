@@ -44,7 +44,7 @@ unfoldable pub wordLine : (number : ℕ) → ReadAnswer → List ℕ
 wordLine number (At r) = decimal number ++ textField " at " (r .position) ++ textField " residual " (r .residual) ++ ruleAndBits r
 wordLine number (ReadRefused refusal) = decimal number ++ lastField " refused " refusal
 
--- the line of the bytes short of a word at the end; no line where there is none
+-- the line of the bytes short of a word at the end; no line where there are none
 unfoldable pub shortLine : (bytes : ℕ) → List ℕ
 shortLine bytes = cond (eqb bytes 0) [] (lastField "short " bytes)
 

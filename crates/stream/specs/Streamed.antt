@@ -9,8 +9,8 @@ use Rattle.model.specs.Words.{wordLength}
 use Rattle.report.specs.Report.{wordLines, wordsRead, wordsReport}
 use Rattle.stream.specs.declared.turn.Progress.{Progress}
 
--- `all` has come in, and `text` is the lines of its whole words, which are met and, where they are read, counted; the bytes short of
--- a word stand at the front of `input`
+-- `all` has come in, and `text` is the lines of its whole words. p counts these, and those of them that are read. The bytes short of a
+-- word stand at the front of `input`.
 pub record Streamed (C : Code) (all text input : List ℕ) (p : Progress) : Type 0 where
   pub met : p .met ≡ length all / wordLength C
   pub read : p .read ≡ wordsRead C all (p .met)
