@@ -1,8 +1,8 @@
 /*
  * Dunnavish: position words of trams on stabling tracks, for programs in C.
  *
- * Six calls on a track's card: check it, write the word of a position, read a received word, read one that came as levels, the
- * start of a block, and the distance of a position in millimetres. Two calls on a Reed-Muller code, which are given no card: make
+ * Six calls on a track's card: check it, write the word of a position, read a received word, read one that came as levels, give the
+ * start of a block, and give the distance of a position in millimetres. Two calls on a Reed-Muller code, which are given no card: make
  * its card, and read a chunk of it by majority votes. docs/FORMAT.md says what the bytes of a card and of a word are, how a word
  * is read, which card is made, and what each refusal means. The archive is target/staticlib/libdunnavish.a, for x86-64 Linux; `rt
  * staticlib dunnavish` builds it. From the repository's root, link it as   cc -Iinclude program.c -Ltarget/staticlib -ldunnavish
@@ -19,16 +19,16 @@
  *   A word is its d bits in dunnavish_word_bytes(d) bytes: bit p of the word is bit p % 8, lowest first, of byte p / 8. The spare
  *   bits of the last byte are zero. The levels of a word are d floats, level p that of bit p.
  *   `values` is where the call puts its answer. Its count must be exactly the call's (DUNNAVISH_CARD_VALUES and so on), or the
- *   call is answered DUNNAVISH_VALUE_COUNT before anything else is looked at. So must the count of `strength` be exactly
- *   DUNNAVISH_STRENGTH_VALUES, and the bytes of a card that is to be made exactly DUNNAVISH_CARD_BYTES.
- *   An array whose count is 0 may be NULL, which is what an empty vector hands over: no call looks behind a pointer that comes with a
- *   count of 0, and answers as for any other array of a wrong count.
+ *   call is answered DUNNAVISH_VALUE_COUNT before anything else is looked at. In the same way the count of `strength` must be
+ *   exactly DUNNAVISH_STRENGTH_VALUES, and the bytes of a card that is to be made exactly DUNNAVISH_CARD_BYTES.
+ *   An array whose count is 0 may be NULL, which is what an empty vector hands over. A call never looks behind a pointer that comes
+ *   with a count of 0, and answers as for any other array of a wrong count.
  *
  * What a call cannot check, and asks of its caller
  *   That at each pointer stand as many elements as its count says, aligned as uint32_t, int32_t and float are; that they can be read,
  *   and those that the call writes (`values`, `strength`, the word of dunnavish_write_word, the card of dunnavish_make_card) written;
  *   that nobody else changes them during the call; and that an array that the call writes overlaps no other one of the same call.
- *   Of dunnavish_read_levels besides: the processor's default floating-point settings, those that a program starts with: sums rounded
+ *   dunnavish_read_levels also asks for the processor's default floating-point settings, those that a program starts with: sums rounded
  *   to the nearest, ties to even, subnormal numbers kept, no exception trapped. A program that is linked with -ffast-math or -Ofast
  *   starts with others: subnormal numbers count as zeros, so that a word of levels of 1e-40, say, is all erased and answered
  *   DUNNAVISH_CHUNK_UNREADABLE. Link without these flags, or call fesetenv(FE_DFL_ENV) in each thread before it reads levels.
@@ -153,11 +153,11 @@ uint32_t dunnavish_write_word(const uint8_t *card, size_t card_bytes, uint32_t p
 
 /*
  * Read a received word. Answers 0 to 6, 8 to 12, 14, 17, or 100. On 0 the five values are those of the indices below. If five values
- * are lent and each of the word's five chunks has at most t bits damaged, the answer is 0 and the position is off by at most twice
- * the bits damaged in all, and by at most the bits damaged and the residual together. The answer is also 0, and both distances hold,
- * where the divided chunk of the position's word is damaged arbitrarily and each other one has at most t bits damaged. A chunk is
- * divided if some, but not all, of the places in which w(i) and w(i+1), the words of codewords i and i+1, differ in it are taken
- * from w(i+1), i being the position's block: at most one chunk is, and none at a block's start or at the last position.
+ * are lent and each of the word's five chunks has at most t damaged bits, the answer is 0, and the position is off by at most twice
+ * the damaged bits of the word, and by at most these bits plus the residual. The answer is also 0, and both bounds hold, where the
+ * divided chunk of the position's word is damaged arbitrarily and each other one has at most t damaged bits. A chunk is divided if
+ * some, but not all, of the places in which w(i) and w(i+1), the words of codewords i and i+1, differ in it are taken from w(i+1),
+ * i being the position's block: at most one chunk is, and none at a block's start or at the last position.
  *
  * To draw an error bar about the answer: decide on the greatest number of bits that you are ready to assume damaged in all. On either
  * side of the position the error bar reaches as many steps as this number and the residual together, and it ends where the track
@@ -166,7 +166,7 @@ uint32_t dunnavish_write_word(const uint8_t *card, size_t card_bytes, uint32_t p
  *
  * The rule names the code chunks that are read: rule 1 names chunk 1, rule 2 chunk 2, and rule 3 both. The value of a chunk that
  * is read is the number of bits in which it, as received, differs from the codeword that it was read as: at most t, which is at
- * most 31. If each of the word's five chunks has at most t bits damaged, it is the number of bits damaged in the chunk. A chunk that
+ * most 31. If each of the word's five chunks has at most t damaged bits, it is the number of damaged bits in the chunk. A chunk that
  * the rule does not name is not read, whatever it holds, and its value is DUNNAVISH_NOT_READ.
  *
  * Separator 1, under rule 2 separator 3, must be equal to the parity of the number of the codeword that was read; if it is not, the
@@ -189,12 +189,12 @@ uint32_t dunnavish_read_word(const uint8_t *card, size_t card_bytes, const uint8
  * either sign an erased bit (document 02 calls it lost). Any level, whatever its place, that is not a number, infinite or above
  * 1,000,000 in magnitude is answered DUNNAVISH_LEVEL_LIMITS; 1,000,000 itself is allowed. Answers 0 to 5, 9 to 12, 14 to 17, or 100.
  *
- * A separator reads 1 if its levels, added in order from zero in single precision, each sum rounded to the nearest, ties to even,
- * sum below zero; so a sum of zero reads 0. A code chunk reads as the codeword for which 2 * wrong + erased is below D (there is at
- * most one): wrong counts the unerased bits that differ from it, erased the erased ones. On 0 the five values are those of
- * dunnavish_read_word, at the same indices, with one difference: only unerased bits count, in the residual, by which the
- * nearest position is found, and in the bits of the chunks. The two floats are the receiver's strength, at the indices below. What is
- * said there of the separators and the codeword's number holds here too, a separator being what its levels sum to.
+ * A separator reads 1 if the sum of its levels is below zero, and otherwise 0. They are added in order from zero in single precision,
+ * each sum rounded to the nearest, ties to even. A code chunk reads as the codeword for which 2 * wrong + erased is below D (there is
+ * at most one): wrong counts the unerased bits that differ from it, erased the erased ones. On 0 the five values are those of
+ * dunnavish_read_word, at the same indices, with one difference: only unerased bits count, in the residual, by which the nearest
+ * position is found, and in the bits of the chunks. The two floats are the receiver's strength, at the indices below. What is said
+ * of dunnavish_read_word's separators and the codeword's number holds here too, of separators read by the sums of their levels.
  *
  * Where five values and two floats are lent: if there are d levels, each 1 or -1, status and values are those that
  * dunnavish_read_word answers for these bits. If there are d levels, each 1, -1 or 0, and, against the word of a position, each of

@@ -2,8 +2,8 @@
 //!
 //! A tram reports where it stands by a coded word; a track's *card*, 512 bytes, says which code, and how far position 0 is from
 //! the buffer face. Six calls here take a card: they check it, write the word of a position, read a received word, read one that
-//! came as levels, give the start of a block, and turn a position into millimetres. Two take the order and the number of
-//! variables of a Reed-Muller code instead: they make its card, and read a chunk of it by majority votes. All are thin and safe
+//! came as levels, and give the start of a block and the distance of a position in millimetres. Two take the order and the number
+//! of variables of a Reed-Muller code instead: they make its card, and read a chunk of it by majority votes. All are thin and safe
 //! wrappers of a library that is proved: each call ends, answers every input, and keeps no state, so any number of threads may
 //! use it. No call allocates or panics.
 //!
@@ -29,7 +29,7 @@
 //! word[0] ^= 0x20; // the cable damages a bit, in code chunk 1
 //! let reading = dunnavish::read_word(&card, &word)?;
 //! assert_eq!((reading.position, reading.residual), (5, 1));
-//! // Rule 2 reads code chunk 2 alone, which came as its codeword is.
+//! // Rule 2 reads code chunk 2 alone, which arrived undamaged.
 //! assert_eq!(reading.rule, dunnavish::Rule::FirstDiffers);
 //! assert_eq!((reading.chunk1_bits, reading.chunk2_bits), (None, Some(0)));
 //!
@@ -84,7 +84,7 @@ pub const WIDEST_WORD_BYTES: usize = 40;
 /// Defines [`Refusal`] by one table: a name, the number in docs/FORMAT.md, and the reason, which is its documentation and text.
 macro_rules! refusals {
     ($($name:ident = $number:literal: $reason:literal,)+) => {
-        /// Why a call was turned down. A call reports the first that holds, in the order of their numbers, but
+        /// Why a call was refused. A call reports the first reason that holds, in the order of their numbers, but
         /// [`CardOffset`](Refusal::CardOffset) between [`CardStrayBits`](Refusal::CardStrayBits) and
         /// [`DependentRows`](Refusal::DependentRows), [`CodeLimits`](Refusal::CodeLimits) before any other, and
         /// [`LevelCount`](Refusal::LevelCount) and [`LevelLimits`](Refusal::LevelLimits) in the places of
@@ -281,8 +281,8 @@ mod exported {
     }
 }
 
-/// The status of a call as a result. A status without a name here (100 says that too few or too many numbers or floats were lent, or
-/// bytes for a card, and the calls below lend exactly enough) is an error too.
+/// The status of a call as a result. A status without a name here is an error too. (100 is one: it says that too few or too many
+/// numbers, floats, or bytes for a card were lent, and the calls below lend exactly enough.)
 fn served(status: u32) -> Result<(), Refusal> {
     match status {
         0 => Ok(()),
@@ -330,11 +330,11 @@ pub fn write_word(card: &[u8], position: u32, word: &mut [u8]) -> Result<(), Ref
 /// Reads a received word: the nearest of the positions that its separators and code chunks allow, and in how many bits each code
 /// chunk that was read differs from its codeword.
 ///
-/// If each of the word's five chunks has at most [`CardSummary::radius`] bits damaged, the answer is a reading, and its position
-/// is off by at most twice the bits damaged in all, and by at most the bits damaged and [`Reading::residual`] together; and each
-/// chunk that was read differs from its codeword in as many bits as are damaged in it. The word is also read, and both distances
-/// hold, where the divided chunk of the position's word is damaged arbitrarily and each other one has at most that many bits
-/// damaged. A chunk is divided if some, but not all, of the places in which w(i) and w(i+1), the words of codewords i and i+1,
+/// If each of the word's five chunks has at most [`CardSummary::radius`] damaged bits, the answer is a reading, and its position
+/// is off by at most twice the damaged bits of the word, and by at most these bits plus [`Reading::residual`]. Each chunk that
+/// was read then differs from its codeword in as many bits as are damaged in it. The word is also read, and both bounds hold,
+/// where the divided chunk of the position's word is damaged arbitrarily and each other one has at most that many damaged
+/// bits. A chunk is divided if some, but not all, of the places in which w(i) and w(i+1), the words of codewords i and i+1,
 /// differ in it are taken from w(i+1), i being the position's block: at most one chunk is, and none at a block's start or at the
 /// last position.
 ///
@@ -359,17 +359,17 @@ pub fn read_word(card: &[u8], word: &[u8]) -> Result<Reading, Refusal> {
 /// Reads a received word whose bits came as levels, [`CardSummary::word_bits`] of them, and gives the receiver's strength beside
 /// the answer. A level below zero is a 1, one above zero a 0, and a zero of either sign an erased bit.
 ///
-/// A separator reads 1 if its levels, added in order from zero in single precision, each sum rounded to the nearest, ties to even,
-/// sum below zero. A code chunk reads as the codeword for which 2 × wrong + erased is below D, the card's [`CardSummary::distance`]:
-/// wrong counts the unerased bits that differ from it, erased the erased ones. Only unerased bits count, in the residual, by which
-/// the nearest position is found, and in the bits of the chunks.
+/// A separator reads 1 if the sum of its levels is below zero, and otherwise 0. They are added in order from zero in single
+/// precision, each sum rounded to the nearest, ties to even. A code chunk reads as the codeword for which 2 × wrong + erased is
+/// below D, the card's [`CardSummary::distance`]: wrong counts the unerased bits that differ from it, erased the erased ones. Only
+/// unerased bits count, in the residual, by which the nearest position is found, and in the bits of the chunks.
 ///
 /// If there are as many levels as a word has bits, each 1 or -1, the reading, or the refusal, is that of [`read_word`] for these
 /// bits. If there are as many, each 1, -1 or 0, and, against the word of a position, each of the five chunks has 2 × wrong + erased
 /// below D, the answer is a reading, and its position is off by at most 2 × wrong + erased, counted over the whole word. What
-/// [`read_word`] says of the separators and the codeword's number holds here too, a separator being what its levels sum to.
+/// [`read_word`] says of the separators and the codeword's number holds here too, of separators read by the sums of their levels.
 ///
-/// All of this is asked under the processor's default floating-point settings: rounding to the nearest, ties to even, subnormal
+/// All of this holds under the processor's default floating-point settings: rounding to the nearest, ties to even, subnormal
 /// numbers kept. Rust code never changes them, but a program that is linked by a C compiler with `-ffast-math` or `-Ofast` starts
 /// with others: subnormal levels, 1e-40 say, then count as zeros and are erased. The call may set the thread's floating-point
 /// exception flags, by its comparisons too.

@@ -1,4 +1,4 @@
-// Powers of two, and numbers of ones.
+// Powers of two, and numbers whose lowest bits are 1.
 ghost use mathlib.Core.Path.{_≡_};
 ghost use Prim.Native.Nat.{_-_, _^_, _≤_, _<_};
 
@@ -10,7 +10,7 @@ pub fn two_to(k: u32) -> u32
     1u32 << k
 }
 
-// The number whose lowest n bits are 1 and no other.
+// The number whose lowest n bits are 1, and no others.
 pub fn low_bits(n: u32) -> u64
     requires { ⌜ n ≤ 64 ⌝ }
     ensures { λ r. ⌜ r ≡ 2 ^ n - 1 ⌝ }

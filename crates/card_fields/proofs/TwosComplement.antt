@@ -1,5 +1,5 @@
--- Two's complement of 32 bits, as the code reads it: a number below 2^31 is itself, and one from there on is -1 less what it is short of
--- 2^32 - 1. Assumes nothing.
+-- Two's complement of 32 bits, as the code reads it: a number x below 2^31 is itself, and one from there on is -1 - (2^32 - 1 - x).
+-- Assumes nothing.
 use mathlib.Core.Path.{_≡_, refl}
 use Prim.Native.Nat.{ℕ, zero, suc, _-_, _^_, _≤_, _<_}
 use native.Mathlib.Nat.{zero-add}

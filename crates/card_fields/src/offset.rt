@@ -4,7 +4,7 @@ ghost use lib.ListN.{length};
 ghost use Rattle.model.specs.Card.{highFirst, twosComplement, offsetOf, offsetOutside};
 use super::fields;
 
-// The number in bytes 100 to 103, high byte first: two and two, in the 32 bits that the offset has.
+// The number in bytes 100 to 103, high byte first: two at a time, in the 32 bits that the offset has.
 fn offset_bits(card: &[u8]) -> u32
     requires { ⌜ length (now card) ≡ 512 ⌝ }
     ensures { λ r. ⌜ r ≡ highFirst (now (card .entry)) 100 4 ⌝ }
@@ -14,8 +14,7 @@ fn offset_bits(card: &[u8]) -> u32
     high * 65536 + low
 }
 
-// A number of 32 bits, read by two's complement: from 2^31 on it stands for itself less 2^32, which is -1 less what it is short of
-// 2^32 - 1.
+// A number x of 32 bits, read by two's complement: from 2^31 on it stands for x - 2^32, which is computed as -1 - (2^32 - 1 - x).
 fn twos_complement(x: u32) -> i32
     ensures { λ r. ⌜ r ≡ twosComplement x ⌝ }
 {

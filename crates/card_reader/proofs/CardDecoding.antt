@@ -1,6 +1,6 @@
--- What decoding a card shows once refusals 1 to 3 are past: what is misplaced is refusal 4 and then an offset outside its range 14; the
--- least weight of the sets of rows, where no row is too wide, is 0 where the rows are dependent, refusal 5, and the code's least
--- distance where they are not. Assumes nothing.
+-- What decoding a card shows past refusals 1 to 3. What is misplaced is refusal 4, and then an offset outside its range is 14. Where no
+-- row is too wide, the least weight of the sets of rows is 0 if the rows are dependent, which is refusal 5, and the code's least distance
+-- if they are not. Assumes nothing.
 use mathlib.Core.Path.{_≡_, sym, _∙_}
 use mathlib.Core.Bool.{true, false, cond}
 use mathlib.Core.List.{List}
@@ -26,7 +26,7 @@ use Rattle.card_reader.proofs.CardRefusals.{refusal-4-14-5-or-0}
 abbrev pub least : List ℕ → ℕ
 least b = leastOfSets (lengthOf b) (rowCountOf b) (rowOf b) (2 ^ rowCountOf b - 1)
 
--- a least weight of the rows that the card has, said of the card
+-- the least weight for an n, a k and rows that are the card's is the card's
 pub least-of-card : (b : List ℕ) (n k distance : ℕ) (row : ℕ → ℕ) → n ≡ lengthOf b → k ≡ rowCountOf b → row ≡ rowOf b
     → (Narrow n k row → distance ≡ leastOfSets n k row (2 ^ k - 1)) → Narrow (lengthOf b) (rowCountOf b) (rowOf b) → distance ≡ least b
 least-of-card b n k distance row is-n is-k is-row is-least = rw (← is-n, ← is-k, ← is-row) is-least
@@ -53,7 +53,7 @@ module _ (b : List ℕ) (limits : withinLimits (lengthOf b) (rowCountOf b) ≡ t
       rw (ne-eqb (least b) 0 ne) (independent-of-least (lengthOf b) (rowCountOf b) (rowOf b) (omega arith)))
       (eq-or-ne (least b) 0)
 
-  -- the last three refusals, 5 by a number that is the least weight of rows that are narrow, and a card that passes all three
+  -- the last three refusals, and a card that passes all three; 5 is tested by a number that is the least weight if the rows are narrow
   module _ (whole : length b ≡ 512) (checked : storedCheck b ≡ computedCheck b) where
     pub refusal-4 : misplaced b ≡ true → cardRefusal b ≡ 4
     refusal-4 test = rw (refusal-4-14-5-or-0 b whole checked limits, test)

@@ -1,5 +1,5 @@
--- The least of some numbers is known whatever the order in which they are met, and one number more is one minimum more. Assumes
--- nothing.
+-- The least of some numbers and a start: with no number it is the start, one number more takes one minimum more, and functions with the
+-- same values have the same least. Assumes nothing.
 use mathlib.Core.Path.{_≡_}
 use mathlib.Core.Logic.{⊎-elim}
 use Prim.Native.Nat.{ℕ, _+_, _≤_, _<_, min}

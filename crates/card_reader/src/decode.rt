@@ -26,9 +26,9 @@ fn refused(refusal: u32) -> Decoded
     }
 }
 
-// Refusals 1 to 5 and 14 of any bytes as a card, 14 between 4 and 5, and the track, the offset and the code of a sound one. The rows are
-// dependent where a nonempty set of them has weight 0, so where their least weight is 0; that is known once every row lies within
-// n bits.
+// Any bytes as a card: refused by 1 to 5 or 14, which is tested between 4 and 5; or the track, the offset and the code of a sound card.
+// The rows are dependent where a nonempty set of them sums to 0, so where their least weight is 0. The least weight is tested after
+// refusal 4, since it is right only if every row lies within n bits.
 pub fn decode(card: &[u8]) -> Decoded
     ensures { λ r. ⌜ DecodedFrom (now (card .entry)) r ⌝ }
 {

@@ -41,7 +41,7 @@ fn low_sums(low: u32, rows: [u64; 12]) -> [u64; 32]
     sums
 }
 
-// How many bits of a word are 1. It is a byte, because a processor compares more bytes at a time than wider numbers.
+// How many bits of a word are 1. The count is a byte, because a processor compares more bytes at a time than wider numbers.
 fn ones_of(word: u64) -> u8
     ensures { λ r. ⌜ r ≡ ones word ⌝ }
 {

@@ -1,3 +1,3 @@
-// A card is read: its bytes are checked and decoded, and its code's least distance is counted.
+// A card is read: its bytes are checked and decoded, and its code's least distance is computed.
 pub mod decode;
 pub mod least_weight;

@@ -1,4 +1,4 @@
--- What a request is answered, one law for each way out of the code: a text that is no number, a code outside the limits, and the card.
+-- The answer to a request, one law for each way out of the code: a text that is no number, a code outside the limits, and the card.
 -- The status and the values are those of the answer that the definition gives, and where its outcome is that the card is made, the card is
 -- the one of document 02, P1. Assumes nothing.
 use mathlib.Core.Path.{_≡_, refl, sym, ap, _∙_}
@@ -31,7 +31,7 @@ use Rattle.card_request.specs.declared.Answer.{Answer}
 different : _≡_ {A = ℕ} 0 1 → ⊥
 different e = omega arith
 
--- ---- what a text read as says of it
+-- ---- what a text reads as, and what that says of it
 
 module _ (most : ℕ) (text : List ℕ) where
   no-number : NoNumber ≡ numberText most text → isNumber most text ≡ false

@@ -12,7 +12,7 @@ const GREATEST_TRACK: u32 = 65535;
 
 const GREATEST_NUMBER: u32 = 4294967295;
 
-// The refusals of a text that is no number that fits: that of the track number, of r and of m.
+// The refusals of a text that is no number, or one that does not fit: for the track number, for r and for m.
 pub const NO_TRACK: u32 = 101;
 
 pub const NO_ORDER: u32 = 102;
@@ -74,7 +74,7 @@ fn no_card(refusal: u32) -> Answer
 }
 
 // The answer to a request: the card for the track number, the order r and the number of variables m that the texts give. Refused: a text
-// that is no number that fits, by the numbers above; a code outside the limits, 13.
+// that is no number or one that does not fit, by the numbers above; a code outside the limits, 13.
 pub fn card_for(track: &[u8], r: &[u8], m: &[u8]) -> Answer
     ensures answer { λ a. ⌜ a ≡ requestAnswer (now (track .entry)) (now (r .entry)) (now (m .entry)) ⌝ }
     ensures status { λ a. ⌜ requestStatus a ≡ requestRefusal (now (track .entry)) (now (r .entry)) (now (m .entry)) ⌝ }

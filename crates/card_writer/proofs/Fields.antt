@@ -1,5 +1,5 @@
--- The card as it is written: n, k and the track number stand before zeros, then one row more each turn, and last the check, which is that of the
--- 510 bytes before it. Assumes nothing.
+-- The card as it is written: n, k and the track number stand before zeros, then one row more each turn, and last the check, which is that
+-- of the 510 bytes before it. Assumes nothing.
 use mathlib.Core.Path.{_≡_, refl, sym, _∙_}
 use mathlib.Core.Bool.{false}
 use mathlib.Core.List.{List, [], _∷_, _++_, append-assoc, append-nil}

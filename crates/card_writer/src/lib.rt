@@ -21,8 +21,8 @@ fn put_high_first(bytes: &mut [u8], at: usize, m: usize, number: u64)
     }
 }
 
-// The card with these fields: n, k, the track number and the twelve rows, then zeros, then the check. The check is taken last, of the
-// fields that stand by then, and is told that no unused byte is set.
+// The card with these fields: n, k, the track number and the twelve rows, then zeros, then the check. The check is computed last,
+// from the fields that stand by then; `false` says that no unused byte is set.
 pub fn write_card(n: u32, k: u32, track: u16, rows: [u64; 12]) -> [u8; 512]
     requires { ⌜ (n < 256) × (k < 256) ⌝ }
     ensures { λ r. ⌜ r ≡ cardOf n k track (λ z. getD rows z 0) ⌝ }

@@ -16,9 +16,9 @@ use reed_muller::made;
 use reed_muller::rows;
 use reed_muller::voting;
 
-// Makes the card of the Reed-Muller code of order r in m variables for a track. Refused: m outside 1 to 6, r above m, or k above 12,
-// 13; the bytes are then all zero. Any other is made, and is sound: its n is 2^m, its k the count of sets of at most r variables, its
-// D 2^(m-r), and its track the one that was given.
+// Makes the card of the Reed-Muller code of order r in m variables for a track. Refused by 13: m outside 1 to 6, r above m, or k above
+// 12; the bytes are then all zero. Any other card is made, and is sound: its n is 2^m, its k the count of sets of at most r variables,
+// its D 2^(m-r), and its track the one that was given.
 pub fn make_card(track: u16, r: u32, m: u32) -> MadeCard
     ensures answer { λ a. ⌜ a ≡ makeAnswer track r m ⌝ }
     ensures status { λ a. ⌜ a .refusal ≡ makeRefusal r m ⌝ }

@@ -16,7 +16,7 @@ use model::LevelsAnswer;
 // against the word of any position on the track, 2 × wrong + erased below D in every chunk, it is a position, and off by at most
 // 2 × wrong + erased, counted over the whole word (`bounded`). The promises: of d levels of 1 and -1 it is that of the plain reading of the
 // word of these bits; of any word that is read, the nearest of the allowed positions over the bits that aren't erased, and the count of
-// each chunk's wrong places; and of separators, each what its levels sum to, the same as of a plain word.
+// each chunk's wrong places; and of separators, each read by the sum of its levels, the same as of a plain word.
 pub fn read_levels(card: &[u8], levels: &[f32]) -> LevelsAnswer
     ensures answer { λ r. ⌜ r ≡ levelsAnswer (now (card .entry)) (now (levels .entry)) ⌝ }
     ensures status { λ r. ⌜ levelsStatus r ≡ levelsRefusal (now (card .entry)) (now (levels .entry)) ⌝ }

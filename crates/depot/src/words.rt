@@ -54,20 +54,20 @@ pub fn write_word(card: &[u8], position: u32, word: &mut [u8]) -> WriteAnswer
     WriteAnswer::Written
 }
 
-// Reads a received word: its position, the residual, the rule, and how many bits each code chunk that the rule names needed: chunk 1 by
-// rule 1, chunk 2 by rule 2, both by rule 3. A chunk that the rule does not name was not read, and has no count. Refused: the card, 1
-// to 5 or 14; a word that has not exactly the bytes of a word, 6; a spare bit set, 8; separators that name no rule, 9; a chunk that
-// the rule names with no codeword within the radius, 10; two chunks that read differently, 11; a block before the first or after the
-// last, 12; separator 1, by rule 2 separator 3, that differs from the parity of the codeword's number, 17.
-// Of the word of any position on the track, with at most t bits damaged in each chunk, the answer is a position, and it is at most
-// twice as many steps off as bits are damaged (`bounded`), and at most as many as bits are damaged and the residual together (`sharper`).
-// The promises: a chunk that is read needed as many bits as are damaged in it; both distances hold also where the divided chunk of that
-// position's word (`divided`, model/specs/Words.antt; at most one is, by the theorem `at-most-one-divided`) is damaged arbitrarily and
-// each other one has at most t bits damaged, and if then at most e bits are damaged in all, the residual plus e on either side of the
-// answer, the error bar, holds the position, and the residual is at most e. Of any word that is read, the answer is the nearest of the
-// positions that the rule allows, a chunk's count is that of the places in which it differs from its codeword, at most t, and separator 1,
-// by rule 2 separator 3, has the parity of the codeword's number: a word mixed from two telegrams whose parities differ is never read.
-// 17 changes no other answer.
+// Reads a received word: its position, the residual, the rule, and in how many bits each code chunk that the rule names differs from its
+// codeword. Rule 1 names chunk 1, rule 2 chunk 2, rule 3 both. A chunk that the rule does not name is not read, and has no count.
+// Refused: the card, 1 to 5 or 14; a word that has not exactly the bytes of a word, 6; a spare bit set, 8; separators that name no rule,
+// 9; a chunk that the rule names with no codeword within the radius, 10; two chunks that read differently, 11; a block before the first
+// or after the last, 12; separator 1, by rule 2 separator 3, that differs from the parity of the codeword's number, 17.
+// Of the word of any position on the track, with at most t damaged bits in each chunk, the answer is a position. It is off by at most
+// twice the damaged bits (`bounded`), and by at most the damaged bits plus the residual (`sharper`).
+// The promises: a chunk that is read differs from its codeword in as many bits as are damaged in it. Both bounds hold also where the
+// divided chunk of that position's word (`divided`, model/specs/Words.antt; at most one is, by the theorem `at-most-one-divided`) is
+// damaged arbitrarily and each other one has at most t damaged bits. If then at most e bits are damaged in all, the residual is at most e,
+// and the position lies within the error bar: the residual plus e on either side of the answer. Of any word that is read, the answer is
+// the nearest of the positions that the rule allows; a chunk's count is that of the places in which it differs from its codeword, at most
+// t; and separator 1, by rule 2 separator 3, has the parity of the codeword's number, so that a word mixed from two telegrams whose
+// parities differ is never read. Refusal 17 changes no other answer.
 pub fn read_word(card: &[u8], word: &[u8]) -> ReadAnswer
     ensures answer { λ r. ⌜ r ≡ readAnswer (now (card .entry)) (now (word .entry)) ⌝ }
     ensures status { λ r. ⌜ readStatus r ≡ readRefusal (now (card .entry)) (now (word .entry)) ⌝ }

@@ -1,4 +1,4 @@
--- Decoding loses nothing, of every call: a status is that of the answer which it decodes to, and a list of so many entries is the list of
+-- Decoding loses nothing, for every call: a status is that of the answer which it decodes to, and a list of so many entries is the list of
 -- its entries, from which the values of the answer were taken. Assumes nothing.
 use mathlib.Core.Path.{_≡_, refl, ap, _∙_}
 use mathlib.Core.List.{List, [], _∷_}
@@ -37,7 +37,7 @@ kept {status} {values} refused served count number none served-0 whole =
       values-kept = λ left is. ap values (served-if-none 0 refused (served left) refl) ∙ whole left is;
     }
 
--- the entries of a list from place i on, so many
+-- the `many` entries of a list from place i on
 abbrev entriesFrom : {A : Type 0} (d : A) (l : List A) (i many : ℕ) → List A
 entriesFrom d l i zero = []
 entriesFrom d l i (suc many) = getD l i d ∷ entriesFrom d l (suc i) many

@@ -1,5 +1,5 @@
 -- The values of a word that is read, plain or of levels, decode to its reading. They do where the count of a chunk's bits is not the number
--- that stands for a chunk that was not read; by what is promised of the bits a count is below D, which is at most 64. Assumes nothing.
+-- that stands for a chunk that was not read. By what is promised of the bits, a count is below D, which is at most 64. Assumes nothing.
 use mathlib.Core.Path.{_≡_, sym, _∙_}
 use mathlib.Core.Bool.{Bool, true, false}
 use mathlib.Core.List.{List}
@@ -31,7 +31,7 @@ count-decodes : (answered : ChunkBits) (count : ℕ) → answered ≡ Differing 
 unfolding bitsLeft bitsValue
 count-decodes answered count is few = rw (is, ne-eqb count notRead (λ e. omega arith))
 
--- so do the bits of a chunk, of a plain word and of one of which only some places are unerased
+-- so do the bits of a chunk, of a plain word and of one with erased places
 module _ (C : Code) (small : C .D < notRead) where
   bits-decode : (named : Bool) (chunk : ℕ → ℕ) (p : ℕ) (answered : ChunkBits) → CountsBits C named chunk p answered
       → bitsLeft (bitsValue answered) ≡ answered

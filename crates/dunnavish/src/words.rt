@@ -21,7 +21,7 @@ use model::ReadAnswer;
 use model::Reading;
 use model::WriteAnswer;
 
-// The bits of a code chunk that was not read. A count of bits is at most t, so it is never this number.
+// The count of bits of a code chunk that was not read. Any other count is at most t, so it is never this number.
 const NOT_READ: u32 = 4294967295;
 
 // Writes the word of a position into the lent word.
@@ -41,7 +41,7 @@ pub extern "C" fn dunnavish_write_word(card: &[u8], position: u32, word: &mut [u
     }
 }
 
-// How many bits a code chunk needed, as a number.
+// In how many bits a code chunk differs from its codeword, as a number.
 fn bits_value(bits: ChunkBits) -> u32
     ensures { λ r. ⌜ r ≡ bitsValue bits ⌝ }
 {
@@ -67,10 +67,10 @@ pub fn put_reading(read: Reading, values: &mut [u32])
     values[4] = bits2;
 }
 
-// Reads a received word: position, residual, rule, and the bits that chunk 1 and chunk 2 needed, NOT_READ for a chunk that the rule does
-// not name, into five numbers. Of the word of any position on the track, with at most t bits damaged in each chunk, the status is 0 where
-// five numbers are lent, and the position put into the first of them is at most twice as many steps off as bits are damaged (`bounded`),
-// and at most as many as bits are damaged and the residual, the second, together (`sharper`).
+// Reads a received word, into five numbers: position, residual, rule, and in how many bits chunk 1 and chunk 2 differ from their codeword,
+// NOT_READ for a chunk that the rule does not name. Of the word of any position on the track, with at most t damaged bits in each chunk,
+// the status is 0 where five numbers are lent. The position put into the first of them is then off by at most twice the damaged bits
+// (`bounded`), and by at most the damaged bits plus the residual, the second number (`sharper`).
 #[no_mangle]
 pub extern "C" fn dunnavish_read_word(card: &[u8], word: &[u8], values: &mut [u32]) -> u32
     ensures status { λ r. ⌜ r ≡ statusFor readCount (now (values .entry))

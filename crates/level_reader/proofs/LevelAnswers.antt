@@ -1,5 +1,5 @@
--- What levels are answered, one law for each way out of the code: 15, 16, and where neither holds what the rule answers that the separators
--- name, a word that is read with its strength. Assumes nothing.
+-- The answer to levels, one law for each way out of the code: 15, 16, and where neither holds the answer of the rule that the separators
+-- name, with the strength where the word is read. Assumes nothing.
 use mathlib.Core.Path.{_≡_, refl, sym, ap, fun-ext, _∙_}
 use mathlib.Core.Bool.{Bool, true, false, cond}
 use mathlib.Core.List.{List}

@@ -1,5 +1,5 @@
 // A word of levels, folded once: its five chunks in order, each level of them taken as a received level and added to one struct that is
-// passed by value. Separators and code chunks are read from that struct, and nothing behind it looks at a level.
+// passed by value. Separators and code chunks are read from that struct, and nothing after it looks at a level.
 ghost use mathlib.Core.Path.{_≡_};
 ghost use lib.ListN.{length};
 ghost use Rattle.model.specs.Decoded.{meaning};

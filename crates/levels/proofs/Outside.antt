@@ -22,7 +22,7 @@ above-a-million nan above = refl
 above-a-million (inf s) above = refl
 above-a-million (fin s m e) above = above
 
--- a number is like itself
+-- a number does not differ from itself
 same-number : (s : Bool) (m : ℕ) (e : ℤ) → ne (fin s m e) (fin s m e) ≡ false
 unfolding ne eq
 same-number false m e = rw (eq-eqb _ _ refl)

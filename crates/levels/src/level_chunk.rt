@@ -1,5 +1,5 @@
 // What the levels of a chunk give, folded in order into a struct that is passed by value: bits, unerased places, the sum of the levels, and
-// the receiver's strength. Behind this nothing looks at a level.
+// the receiver's strength. Nothing after this looks at a level.
 ghost use mathlib.Core.Path.{_≡_};
 ghost use Prim.Native.Nat.{_+_, _*_, _^_, _≤_, _<_};
 ghost use lib.ListN.{length};
@@ -38,7 +38,7 @@ fn bit_in_place(level: f32, worth: u64) -> u64
     if level < 0.0 { worth } else { 0 }
 }
 
-// The chunk with one level more, in a place of this worth. An erased bit has no level.
+// The chunk with one level more, in a place of this worth. An erased bit adds nothing.
 fn with_received(chunk: LevelChunk, worth: u64, received: ReceivedLevel) -> LevelChunk
     requires { ⌜ (chunk .bits + worth < 2 ^ 64) × (chunk .unerased + worth < 2 ^ 64) ⌝ }
     ensures { λ r. ⌜ OneLevelMore chunk worth received r ⌝ }
@@ -63,8 +63,8 @@ fn with_received(chunk: LevelChunk, worth: u64, received: ReceivedLevel) -> Leve
 // The `len` levels from place `at` on, folded one by one, where `before` is the strength over the levels before them. Document 01 names the
 // forms: an enum with Level(f32) and Lost, made from each incoming f32 before separators and chunks are read; a separator sum in f32,
 // bit-exact against the fold's definition (`folded`), and exact where levels are 1, -1 or 0 (`exact`): then it is the unerased zeros less
-// the unerased ones; and a struct of f32 sum of magnitudes and f32 greatest, passed by value through the word's levels. (It begins float by
-// float: copied whole it would be moved through an integer at each level.)
+// the unerased ones; and a struct of f32 sum of magnitudes and f32 greatest, passed by value through the word's levels. (`before` is
+// copied float by float: copied whole it would be moved through an integer at each level.)
 pub fn chunk_of_levels(levels: &[f32], at: u32, len: u32, before: Strength) -> LevelChunk
     requires { ⌜ (at + len ≤ length (now levels)) × (at + len ≤ 320) × (len ≤ 64) ⌝ }
     requires { ⌜ before ≡ strengthOf (receivedAt (now levels)) at ⌝ }

@@ -1,4 +1,4 @@
-// What an arriving level is taken as. No other function looks at a level to decide whether its bit is erased.
+// What an arriving level is received as. No other function looks at a level to decide whether its bit is erased.
 ghost use mathlib.Core.Path.{_≡_};
 ghost use Rattle.model.specs.Levels.{receivedLevel};
 use model::ReceivedLevel;

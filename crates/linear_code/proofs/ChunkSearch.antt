@@ -38,7 +38,7 @@ pub counted-past : (t d count rest : ℕ) → count + ones rest ≡ ones d → (
 counted-past t d count rest all more far =
     record { whole = λ l. absurd (omega arith); past = λ l. omega (arith, one-fewer rest (omega arith)) }
 
--- ---- the codewords, by any test which of them are near to the chunk
+-- ---- the codewords, by any test of which are near to the chunk
 
 -- the search stands at codeword i of last, `apart` is where it and the chunk x differ, and the codewords before it are not near
 pub record AtCandidate (k : ℕ) (row : ℕ → ℕ) (x : ℕ) (near : ℕ → Bool) (last apart i : ℕ) : Type 0 where
@@ -47,7 +47,7 @@ pub record AtCandidate (k : ℕ) (row : ℕ → ℕ) (x : ℕ) (near : ℕ → B
   pub differ : apart ≡ bitXor word x
   pub passed : (j : ℕ) → j < i → near j ≡ false
 
--- a row added to the codeword is added to where it differs
+-- a row added to the codeword is added to the places in which it and x differ
 differ-next : (word x row : ℕ) → bitXor (bitXor word x) row ≡ bitXor (bitXor word row) x
 differ-next word x row = rw (xor-assoc word x row, xor-comm x row, ← xor-assoc word row x)
 

@@ -1,6 +1,6 @@
--- The search over the unerased places: rows and chunk are cut to these places, so their sums are codewords cut to them, and the ones
--- counted are the wrong places. At most (D - 1 - erased) / 2 of these are as good as 2 × wrong + erased below D. A chunk with nothing
--- erased is a plain one. Assumes nothing.
+-- The search over the unerased places: rows and chunk are cut to these places, so the sums of rows are codewords cut to them, and the
+-- ones counted are the wrong places. That these are at most (D - 1 - erased) / 2 is the same as 2 × wrong + erased below D. A chunk with
+-- nothing erased is a plain one. Assumes nothing.
 use mathlib.Core.Path.{_≡_, refl, sym, ap, ap₂, fun-ext, _∙_}
 use mathlib.Core.Bool.{Bool}
 use mathlib.Core.List.{List}

@@ -14,7 +14,7 @@ fn gray_number(i: u32) -> u32
     i ^ (i >> 1)
 }
 
-// Bit z of a number. It is one of 32 bits: of one of 64 the compiler takes several rows in a step and branches on each of the rest.
+// Bit z of a number of 32 bits. Of a number of 64, the compiler would take several rows in a step and branch on each of the rest.
 fn gray_bit(x: u32, z: u32) -> u64
     requires { ⌜ z < 32 ⌝ }
     ensures { λ r. ⌜ (r ≡ bit x z) × (r < 2) ⌝ }

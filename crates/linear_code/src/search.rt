@@ -39,11 +39,11 @@ fn unerased_rows(code: DecodedCode, unerased: u64) -> [u64; 12]
     rows
 }
 
-// The first codeword that differs from `x` in at most `limit` places, with the count of these places; the codewords are the sums of the
-// first k of these rows, in their order.
+// The first codeword that differs from `x` in at most `limit` places, with the count of these places. The codewords are the sums of the
+// first k of `rows`, in Gray order.
 // Document 01 names the form: nested loops, over codewords and, inside, over bits. A label leaves the bit loop once the limit
 // is passed, and the loop over codewords yields its value by `break`. What is kept of codeword i is `apart`, the places in which
-// it and x differ: from one codeword to the next they change by one row. The bits met are those: each turn counts one
+// it and x differ: from one codeword to the next they change by one row. The bit loop goes through these places: each turn counts one
 // and, unless the limit is passed, clears the lowest that is left. The count that is answered is the number of ones of `apart`, taken
 // once the codeword is found: where the bit loop's own count is not kept, each of its turns is compiled to one instruction fewer.
 fn search(k: u32, rows: [u64; 12], x: u64, limit: u32) -> Chunk
@@ -80,11 +80,11 @@ fn search(k: u32, rows: [u64; 12], x: u64, limit: u32) -> Chunk
     found
 }
 
-// What the chunk `x` reads as, whose unerased places are those marked in `unerased`: the codeword for which 2 × wrong + erased is below D,
-// with the count of wrong places. Rows and chunk are cut to the unerased places, so that the search counts wrong places alone; and its
-// limit is the most that may be wrong. Of a plain chunk, with nothing erased, this is the codeword within the radius, with the count of
-// places in which the two differ: the status is 0, and the values are the codeword's number and the count; the status is 10 where there is
-// no such codeword.
+// What the chunk `x` reads as, where `unerased` marks its unerased places: the codeword for which 2 × wrong + erased is below D, with the
+// count of wrong places. Rows and chunk are cut to the unerased places, so that the search counts wrong places alone; its limit is the
+// most that may be wrong. Of a plain chunk, with nothing erased, this is the codeword within the radius, with the count of places in which
+// the two differ. The status is then 0, and the values are the codeword's number and the count. Where there is no such codeword, the
+// status is 10.
 pub fn read_chunk(code: DecodedCode, x: u64, unerased: u64) -> Chunk
     requires { ⌜ Sound (meaning code) × (x < 2 ^ code .n) × (unerased < 2 ^ code .n) ⌝ }
     ensures unerased { λ r. ⌜ r ≡ erasureReading (meaning code) (marked (bit unerased)) (bit x) ⌝ }

@@ -1,6 +1,6 @@
--- The residuals of a block's positions, as a search through the places of the block's two words meets them, which are held in arrays: where
--- the places below q have been passed, the word is that of a position, and the unerased bits in which it differs from the received one are
--- as many as its residual. Assumes nothing.
+-- The residuals of a block's positions, as a search meets them on its way through the places of the block's two words, held in arrays.
+-- Where the places below q have been passed, the word is that of a position, and the unerased bits in which it differs from the received
+-- one are as many as its residual. Assumes nothing.
 use mathlib.Core.Path.{_≡_, sym, ap, _∙_}
 use mathlib.Core.List.{List}
 use mathlib.Core.Logic.{⊎-elim}

@@ -117,7 +117,7 @@ module _ (u v : List ℕ) (x : ReceivedWord) (at q : ℕ) (s t : Scan) (from-at 
               (is-next ∙ sym (along (q + 1) (t .position + 1) (omega arith) (omega arith) (omega (arith, so-far .position))));
         }
 
--- the residual of a word w put together of the two at a place is the one there
+-- a word w that is put together of the two at a place has the residual of that place
 module _ (u v w : List ℕ) (at : ℕ) (splice : Spliced u v w at) where
   pub residual-counted : (x : ReceivedWord) → receivedDistance 320 (place w) x ≡ residualTo u v x at
   unfolding passedTo

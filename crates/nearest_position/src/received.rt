@@ -1,4 +1,4 @@
-// A received word, as the reader hands it on: its bits and its unerased places, which are all places of a plain word, and of one that comes
+// A received word, as the reader hands it on: its bits and its unerased places. Of a plain word these are all places, and of one that comes
 // as levels those whose level is not zero.
 ghost use Prim.Native.Nat.{_≤_};
 ghost use lib.ListN.{length};

@@ -13,7 +13,7 @@ fn unerased_byte_distance(x: u8, y: u8, unerased: u8) -> u32
     u32::count_ones(((x ^ y) & unerased) as u32)
 }
 
-// The distance count, to which the word and the received one are passed by value.
+// The residual of a word against a received one. Both are passed by value.
 pub fn unerased_distance(w: [u8; 40], x: ReceivedWord) -> u32
     ensures { λ r. ⌜ r ≡ receivedDistance 320 (place w) x ⌝ }
 {

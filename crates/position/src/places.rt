@@ -7,8 +7,9 @@ ghost use Rattle.bits.specs.Sums.{sumBelow, fromPlace};
 ghost use Rattle.bits.specs.Places.{bit, place};
 use bit_arithmetic::powers;
 
-// The bit at place p of any word of which `byte` is byte p / 8. It takes the byte, since its callers go from place to place of
-// the same words: a whole word, by value, was copied at each place, 14 % more instructions for a read on the benchmark's rm64.
+// The bit at place p of any word of which `byte` is byte p / 8. It takes the byte alone, since its callers go from place to
+// place of the same words: a whole word, passed by value, would be copied at each place, which took 14 % more instructions for a read on
+// the benchmark's rm64.
 pub fn bit_of(byte: u8, p: u32) -> u32
     ensures { λ r. ⌜ ((w : List ℕ) → getD w (p / 8) 0 ≡ byte → r ≡ place w p) × (r < 2) ⌝ }
 {

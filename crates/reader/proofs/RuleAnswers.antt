@@ -1,7 +1,7 @@
 -- What a rule answers, by what its chunks read as: one law for each way out of the code. A chunk that is unreadable is refusal 10; chunks
 -- that read differently are 11; where they read as a codeword, a block that does not exist is 12, and a separator that contradicts the
--- codeword is 17. What a search of the allowed positions has found is answered with the bits that the rule's chunks needed. No kind of
--- track is known here. Assumes nothing.
+-- codeword is 17. What a search of the allowed positions has found is answered with the counts of bits in which the rule's chunks differ
+-- from the codeword. No kind of track is known here. Assumes nothing.
 use mathlib.Core.Path.{_≡_, refl, ap, _∙_}
 use mathlib.Core.Bool.{true, false}
 use mathlib.Core.Logic.{⊎-elim}

@@ -18,7 +18,7 @@ use nearest_position::received::ReceivedWord;
 use position::layout::Layout;
 use position::places;
 
-// The number of the codeword that the rule's chunks read as, and the bits that either code chunk needed.
+// The number of the codeword that the rule's chunks read as, and in how many bits each code chunk that was read differs from it.
 pub struct ChunksRead {
     pub number: u32,
     pub chunk1: ChunkBits,
@@ -32,7 +32,7 @@ pub enum NamedChunks {
     Read(ChunksRead),
 }
 
-// The code chunk that starts at this place.
+// What the code chunk that starts at this place reads as.
 fn chunk_reading(code: DecodedCode, x: ReceivedWord, at: u32) -> Chunk
     requires { ⌜ Sound (meaning code) × (at + code .n ≤ wordBits (meaning code)) ⌝ }
     ensures { λ r. ⌜ r ≡ erasureReading (meaning code) (fromPlace at (marked (place (x .unerased)))) (fromPlace at (place (x .bits))) ⌝ }
@@ -43,7 +43,7 @@ fn chunk_reading(code: DecodedCode, x: ReceivedWord, at: u32) -> Chunk
     search::read_chunk(code, chunk, places::bits_at(unerased, at, code.n))
 }
 
-// The chunks that the rule names.
+// What the chunks that the rule names read as.
 pub fn chunks_named(code: DecodedCode, at: Layout, x: ReceivedWord, rule: u32) -> NamedChunks
     requires { ⌜ Sound (meaning code) × LayoutOf (meaning code) at × (1 ≤ rule) × (rule ≤ 3) ⌝ }
     ensures { λ r. ⌜ ReadsNamed (meaning code) x rule r ⌝ }

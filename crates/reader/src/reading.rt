@@ -26,7 +26,8 @@ use position::layout;
 use position::layout::Layout;
 use position::places;
 
-// What a rule answers of a search through all positions that it allows, with the bits that either code chunk needed.
+// What a rule answers of a search through all positions that it allows, with the counts of bits in which the code chunks differ from the
+// codeword.
 fn found(s: Scan, rule: u32, read: ChunksRead) -> ReadAnswer
     ensures { λ r. ⌜ r ≡ foundAt s rule read ⌝ }
 {

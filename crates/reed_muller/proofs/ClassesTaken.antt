@@ -109,8 +109,7 @@ module _ (y set positions sums row rest others v : ℕ) (is : rest ≡ others + 
           → bit (bitXor sums (sums * 2 ^ 2 ^ v % 2 ^ 64)) c ≡ classSum 6 (before .done + 2 ^ v) (bit y) c
       cleared c l has (d, is-c, none) = rw is-c (sum-more d (rw is-c at l) none (rw is-c at has))
 
--- as the loop takes it: the variable is the lowest of the rest, what is left is the rest without it, and the shift is what that took
--- off
+-- as the loop takes it: the variable is the lowest of the rest, what is left is the rest without it, and the shift is their difference
 module _ (rest : ℕ) (some : rest ≡ 0 → ⊥) where
   abbrev others : ℕ
   others = bitAnd rest (rest - 1)

@@ -85,7 +85,7 @@ module _ (b i : ℕ) (l : List ℕ) (inside : i < length l) where
 
 -- ---- the loop over the table
 
--- the rows filled in are those of the sets of m variables among the first i of at most r
+-- the rows filled in are those of the sets of the m variables, among the first i of the sets of at most r variables
 pub record Reached (r m i count : ℕ) (rows : List ℕ) : Type 0 where
   pub counted : count ≡ length (kept (2 ^ m) (take i (setsUpTo 6 r)))
   pub twelve : length rows ≡ 12

@@ -1,5 +1,5 @@
--- The last round, of the empty set alone. Each of its classes is one position, so its votes for 1 are the ones that are left; where they
--- are most, its product, a one at each position, is taken off, and the others are left. Assumes nothing.
+-- The last round, of the empty set alone. Each of its classes is one position, so its votes for 1 are the ones that are left. Where they
+-- are most, its product, a one at each position, is taken off, which leaves ones at all the others. Assumes nothing.
 use mathlib.Core.Path.{_≡_, refl, sym, ap, _∙_}
 use Prim.Native.Nat.{ℕ, _+_, _-_, _*_, _^_, _≤_, _<_}
 use native.Mathlib.Nat.{mod-eq-of-lt}
@@ -31,7 +31,7 @@ module _ (m left : ℕ) (six : m ≤ 6) (narrow : left < 2 ^ 2 ^ m) where
       sym (votes-counted m 0 (productRow m 0) six refl left left (λ c l has. sym (class-sum-alone 6 (bit left) c l ∙ mod-eq-of-lt (bit-bit left c))))
       ∙ ap ones (ap (bitAnd left) (product-of-none m) ∙ and-mask left (2 ^ m) ∙ mod-eq-of-lt narrow)
 
-  -- with all positions flipped, the ones are the others
+  -- with all positions flipped, the ones stand where the zeros stood
   pub ones-flipped : ones (bitXor left (2 ^ 2 ^ m - 1)) ≡ 2 ^ m - ones left
   unfolding distance weight
   ones-flipped =

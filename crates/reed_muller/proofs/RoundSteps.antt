@@ -30,7 +30,7 @@ use Rattle.reed_muller.proofs.FilledRows.{kept-last}
 
 -- ---- bits of the entries of a list
 
--- with a bit for each entry, the number grows to at most so many bits more
+-- with a bit for each entry put below it, a number grows by at most as many bits
 pub bits-bound : (l : List ℕ) (f : ℕ → ℕ) (above : ℕ) → ((S : ℕ) → f S < 2) → bitsThen l f above + 1 ≤ (above + 1) * 2 ^ length l
 unfolding bitsThen
 bits-bound [] f above bits = omega arith

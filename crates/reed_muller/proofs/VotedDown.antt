@@ -1,5 +1,5 @@
--- All rounds of votes, from the sets of r variables down: what is left and the rows found stand for the rounds done. A round goes by the
--- 2^m positions alone, so it may be said of the number that holds them. Assumes nothing.
+-- All rounds of votes, from the sets of r variables down: what is left and the rows found stand for the rounds done. A round depends
+-- on the 2^m positions alone, so its laws hold of the number that has them as its bits. Assumes nothing.
 use mathlib.Core.Path.{_≡_, refl, sym, ap, ap₂, _∙_, fun-ext}
 use mathlib.Core.Bool.{true, cond}
 use mathlib.Core.List.{List, [], _∷_, _++_}
@@ -31,7 +31,7 @@ use Rattle.reed_muller_theory.proofs.LeftOver.{left-count}
 use Rattle.reed_muller.specs.RoundResult.{bitsThen, rowsAfter, Tied, LeftBy}
 use Rattle.reed_muller.proofs.RoundSteps.{bits-bound}
 
--- ---- a round goes by the positions
+-- ---- a round depends on the positions alone
 
 module _ (m : ℕ) (y x : ℕ → ℕ) (alike : (p : ℕ) → p < 2 ^ m → y p ≡ x p) where
   class-sum-alike : (S c : ℕ) → classSum m S y c ≡ classSum m S x c

@@ -23,7 +23,7 @@ pub fn all_positions(m: u32) -> u64
 }
 
 // The rows, by the table of sets: those that are not sets of the m variables are left out. The empty set comes first, whose product is a
-// one at each position. A row is the product of its set, whatever word is summed over the classes.
+// one at each position. A row is the product of its set, whatever word is summed over the classes: here it is 0.
 pub fn product_rows(r: u32, m: u32) -> Rows
     requires { ⌜ orderWithinLimits r m ≡ true ⌝ }
     ensures { λ a. ⌜ (a .count ≡ countOfSets r m) × ((λ z. getD (a .rows) z 0) ≡ productOf r m) ⌝ }

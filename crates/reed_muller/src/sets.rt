@@ -71,7 +71,7 @@ pub fn start_of(size: usize) -> usize
     STARTS[size] as usize
 }
 
-// Is a set one of a code's variables alone? As a number it is then one of the code's positions, of which each is a one of `positions`.
+// Has a set variables of the code alone? As a number it is then one of the code's positions, each of which is a 1 in `positions`.
 pub fn is_own(set: u32, positions: u64) -> bool
     requires { ⌜ set < 64 ⌝ }
     ensures { λ a. ⌜ ((m : ℕ) → positions ≡ 2 ^ 2 ^ m - 1 → a ≡ ltb set (2 ^ m)) ⌝ }

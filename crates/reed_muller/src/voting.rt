@@ -13,8 +13,8 @@ use super::sets;
 use bit_arithmetic::powers;
 use model::Chunk;
 
-// The number of the codeword that is the sum of the rows named by a number's bits: the one of which that is the Gray number. What is
-// left of the bits, halved again and again, is added up.
+// The number of the codeword that is the sum of the rows whose bits are set in `rows`: the i for which Gray(i) is `rows`. It is the
+// exclusive-or of `rows` and of what is left of it by each further halving.
 fn number_of(rows: u32) -> u32
     ensures { λ a. ⌜ (gray a ≡ rows) × ((k : ℕ) → rows < 2 ^ k → a < 2 ^ k) ⌝ }
 {
@@ -46,7 +46,7 @@ fn tie() -> Voted
     }
 }
 
-// One round, step 2 of document 004: the coefficient of each product of `size` variables is what most class sums of y are, and the
+// One round, step 2 of document 004: the coefficient of each product of `size` variables is what most of its class sums of y are, and the
 // products with coefficient 1 are taken off. The table is gone through downwards, as the rounds are.
 fn vote_round(m: u32, size: u32, y: u64, rows: u32, sets: &[u8; 42], variables: &[u64; 6]) -> Voted
     requires { ⌜ (m ≤ 6) × (size ≤ m) × (size ≤ 3) × (y < 2 ^ 2 ^ m) × ((rows + 1) * 2 ^ countOfSets size m ≤ 4096) × (0 < size) ⌝ }
@@ -86,8 +86,8 @@ fn vote_round(m: u32, size: u32, y: u64, rows: u32, sets: &[u8; 42], variables: 
 
 // Reads a chunk by voting: rounds from the products of r variables down to that of none, and the result is accepted only within t
 // bits. Where a codeword lies within t bits no vote is tied, so a tie shows at once that none does.
-// Each class of the empty set is one position. So the last round needs no table: its votes for 1 are the ones that are left, and what
-// then is left, where the chunk and the codeword that was voted for differ, are those or all the others.
+// Each class of the empty set is one position. So the last round needs no table: its votes for 1 are the ones that are left. The chunk and
+// the codeword that was voted for differ in these places, or, where these are most, in all the others.
 pub fn vote(r: u32, m: u32, chunk: u64) -> Chunk
     requires { ⌜ (orderWithinLimits r m ≡ true) × (chunk < 2 ^ 2 ^ m) ⌝ }
     ensures { λ a. ⌜ a ≡ votedReading r m (bit chunk) ⌝ }

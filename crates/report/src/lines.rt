@@ -1,4 +1,4 @@
-// The lines that tramread prints, and the parts of a word's line. A line wants room for the longest one, a part for the longest such
+// The lines that tramread prints, and the parts of a word's line. A line needs room for the longest one, a part for the longest such
 // part; each function answers the next place.
 ghost use Prim.Native.Nat.{_+_, _≤_};
 ghost use lib.ListN.{length};
@@ -29,7 +29,7 @@ pub fn put_card_line(out: &mut [u8], at: usize, answer: CardAnswer) -> usize
     }
 }
 
-// How many bits a code chunk needed, after a space; nothing where the chunk was not read.
+// In how many bits a code chunk differs from its codeword, after a space; nothing where the chunk was not read.
 fn put_bits(out: &mut [u8], at: usize, bits: ChunkBits) -> usize
     requires { ⌜ at + 21 ≤ length (now out) ⌝ }
     ensures { λ r. ⌜ Puts (now (out .entry)) at (bitsText bits) (now (out .exit)) r ⌝ }
@@ -41,7 +41,7 @@ fn put_bits(out: &mut [u8], at: usize, bits: ChunkBits) -> usize
     }
 }
 
-// The last part of the line of a word that is read: the rule, the bits that its chunks needed, chunk 1 first, and the line's end. With 20
+// The last part of the line of a word that is read: the rule, the counts of bits of its chunks, chunk 1 first, and the line's end. With 20
 // digits to a number that is at most 26 bytes, twice 21, and one.
 fn put_rule_and_bits(out: &mut [u8], at: usize, read: Reading) -> usize
     requires { ⌜ at + 69 ≤ length (now out) ⌝ }

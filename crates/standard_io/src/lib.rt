@@ -1,5 +1,5 @@
 // Standard input and standard output of a program. A call of the system's that was interrupted is made again; any other failure gets
-// one line on standard error, the `message` that the caller gives and the system's reason, and is answered to the caller. What a call
+// one line on standard error, the `message` that the caller gives and the system's reason, and the caller learns of it. What a call
 // reads or writes is the system's: no contract speaks of it.
 ghost use mathlib.Core.Path.{_≡_};
 ghost use Prim.Native.Nat.{_+_, _≤_, _<_};

@@ -1,6 +1,6 @@
 // tramcard: makes the card of a Reed-Muller code. Its arguments are the track number, the order r and the number of variables m, in
 // decimal; standard output gets the card's 512 bytes. Where no card is made, standard error gets a line that says why, and standard
-// output nothing. What the arguments are answered is `requestAnswer`, a definition of crate card_request.
+// output nothing. The answer to the arguments is `requestAnswer`, a definition of crate card_request.
 // The stored args are track 14, r 1 and m 4, and stdout is that card: n is 16, k is 5 and D is 8.
 ghost use mathlib.Core.Path.{_≡_};
 ghost use lib.ListN.{length};
@@ -12,7 +12,7 @@ use card_request::NO_VARIABLES;
 use card_request::Outcome;
 use libc::STDERR_FILENO;
 
-// A buffer for an argument: the system hands a program none of more bytes.
+// A buffer for an argument: the system hands a program no longer one.
 fn argument_buffer() -> [u8; 131072]
     ensures { λ r. ⌜ 131072 ≡ length r ⌝ }
 {
@@ -36,7 +36,7 @@ fn print_refusal(refusal: u32) {
     }
 }
 
-// Puts out the card that these three texts are answered: the outcome is that it is made, and these are its bytes. Nothing else goes to
+// Puts out the card that answers these three texts: the outcome is that it is made, and these are its bytes. Nothing else goes to
 // standard output.
 fn put_out_card(track: &[u8], r: &[u8], m: &[u8], card: &[u8])
     requires made { ⌜ requestAnswer (now track) (now r) (now m) .outcome ≡ Made ⌝ }

@@ -1,4 +1,4 @@
--- `tramcard::main` is safe and ends. What it puts out is the card that the three arguments are answered. Assumes nothing.
+-- `tramcard::main` is safe and ends. What it puts out is the card that answers the three arguments. Assumes nothing.
 use mathlib.Core.Path.{refl}
 use borrow.Author.Needs.{needs}
 use Rattle.tramcard.proofs.main.Statement.{statement}

@@ -1,4 +1,4 @@
--- `tramcard::put_out_card` is safe and ends: the card that a request is answered is sound, so it has 512 bytes. Assumes nothing.
+-- `tramcard::put_out_card` is safe and ends: the card that answers a request is sound, so it has 512 bytes. Assumes nothing.
 use native.Mathlib.Omega.{arith}
 use borrow.Author.Needs.{needs}
 use Rattle.code_theory.proofs.SoundCard.{card-tests}

@@ -1,4 +1,4 @@
--- `card_fields::offset::offset_bits` meets its contract: four bytes, two and two, are the number that they make one by one, and each is
+-- `card_fields::offset::offset_bits` meets its contract: four bytes, taken two at a time, make the same number as one by one, and each is
 -- below 256, so that it fits 32 bits. Assumes nothing.
 use borrow.Author.Needs.{needs}
 use native.Mathlib.Omega.{arith}

@@ -1,6 +1,6 @@
--- `card_reader::decode::decode` meets its contract: each test that fails is one of refusals 1 to 3, by its law, and past the three what was
--- read of the card is said of its bytes: n, k, the rows, the offset, and the rows' least weight where none is too wide. From these the
--- last tests tell refusals 4, 14 and 5 from a sound card, whose code and offset they are. Assumes nothing.
+-- `card_reader::decode::decode` meets its contract. The first three tests are refusals 1 to 3, one law each. Past them, what was read is
+-- what the card's bytes hold: n, k, the rows, the offset, and the rows' least weight where none is too wide. By these the last tests
+-- decide between refusals 4, 14 and 5 and a sound card, whose code and offset they are. Assumes nothing.
 use mathlib.Core.Path.{_≡_, refl, sym, _∙_}
 use mathlib.Core.Bool.{true, false}
 use mathlib.Core.List.{List}

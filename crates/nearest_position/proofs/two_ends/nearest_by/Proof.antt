@@ -1,5 +1,5 @@
--- `nearest_position::two_ends::nearest_by` meets its contract: the rule's number decides, and where it has a block, p is not the first codeword by rule
--- 1, and not the last by rule 2. Assumes nothing.
+-- `nearest_position::two_ends::nearest_by` meets its contract: the rule's number decides. Where the rule has a block, p is not the first
+-- codeword by rule 1, and not the last by rule 2. Assumes nothing.
 use mathlib.Core.Path.{_≡_, sym, _∙_}
 use native.Mathlib.Omega.{arith}
 use borrow.Author.Needs.{needs}

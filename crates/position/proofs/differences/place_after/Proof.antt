@@ -1,6 +1,6 @@
 -- `position::differences::place_after` meets its contract. Both loops keep that u and v differ in `passed` places before the byte, or the
--- place, that they have come to, and that these are at most m; the second goes on until they are m. It comes to no end of the word
--- before, since u and v differ in m places at least. The measures are the bytes and the places that are left. Assumes nothing.
+-- place, that they have come to, and that these are at most m; the second goes on until they are m. It does not reach the word's
+-- end before, since u and v differ in m places at least. The measures are the bytes and the places that are left. Assumes nothing.
 use mathlib.Core.Path.{_≡_, refl}
 use mathlib.Core.Logic.{⊎-elim}
 use mathlib.Core.List.{List}

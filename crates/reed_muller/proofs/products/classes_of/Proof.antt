@@ -27,7 +27,7 @@ module _ (c : tie.At-loop Inv-loop μ-loop) where
   v-below : trailingZeros 32 (c .loop .rest) < 6
   v-below = lowest-below (c .loop .rest) some (c .loop .inv .1)
 
-  -- and what is then taken of the set
+  -- and what is then left of the set
   abbrev others : ℕ
   others = bitAnd (c .loop .rest) (c .loop .rest - 1)
 

@@ -1,5 +1,5 @@
--- `number_of` meets its contract. The loop's invariant: the Gray number of the number so far is the rows, with what is still to be added
--- added; halved once more, that is one bit less. Assumes nothing.
+-- `number_of` meets its contract. The loop's invariant: the Gray number of the number so far is the exclusive-or of `rows` and `rest`,
+-- which is still to be added. A turn adds it and halves it. Assumes nothing.
 use mathlib.Core.Path.{_≡_, refl, ap, _∙_}
 use Prim.Native.Nat.{ℕ, _^_, _/_, _<_}
 use native.Mathlib.Omega.{arith}
