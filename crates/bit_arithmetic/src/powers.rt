@@ -11,7 +11,7 @@ pub fn two_to(k: u32) -> u32
 }
 
 // The number whose lowest n bits are 1, and no others.
-pub fn low_bits(n: u32) -> u64
+pub fn low_ones(n: u32) -> u64
     requires { ⌜ n ≤ 64 ⌝ }
     ensures { λ r. ⌜ r ≡ 2 ^ n - 1 ⌝ }
 {

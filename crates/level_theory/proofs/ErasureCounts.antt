@@ -10,7 +10,7 @@ use Rattle.bits.proofs.Sums.{sum-ext}
 use Rattle.model.specs.Levels.{zeroLevel, isUnerased, bitOfLevel, unerasedIn, bitsIn}
 use Rattle.model.specs.declared.ReceivedLevel.{ReceivedLevel}
 use Rattle.model.specs.declared.ReceivedLevel.the-variants.{Lost, Level}
-use Rattle.level_theory.specs.UnitLevels.{zerosUnerased, onesUnerased}
+use Rattle.level_theory.specs.UnitLevels.{unerasedZeros, unerasedOnes}
 
 -- the bit of a received level is 0 or 1
 pub level-bit : (b : ReceivedLevel) → bitOfLevel b < 2
@@ -24,23 +24,23 @@ one-of-three true x h = omega arith
 one-of-three false x h = refl
 
 module _ (t : ℕ → ReceivedLevel) where
-  pub places-in-all : (m : ℕ) → zerosUnerased t m + onesUnerased t m + erasedBelow (unerasedIn t) m ≡ m
-  unfolding zerosUnerased onesUnerased erasedBelow sumBelow
+  pub places-in-all : (m : ℕ) → unerasedZeros t m + unerasedOnes t m + erasedBelow (unerasedIn t) m ≡ m
+  unfolding unerasedZeros unerasedOnes erasedBelow sumBelow
   places-in-all zero = refl
   places-in-all (suc m) = omega (arith, places-in-all m, one-of-three (isUnerased (t m)) (bitOfLevel (t m)) (level-bit (t m)))
 
   -- of bits that were all 0 those received as 1 are wrong, and of bits that were all 1 those received as 0
-  pub wrong-zeros : (m : ℕ) (u : ℕ → ℕ) → ((p : ℕ) → p < m → u p ≡ 0) → distanceUnerased (unerasedIn t) m u (bitsIn t) ≡ onesUnerased t m
-  unfolding distanceUnerased onesUnerased
+  pub wrong-zeros : (m : ℕ) (u : ℕ → ℕ) → ((p : ℕ) → p < m → u p ≡ 0) → distanceUnerased (unerasedIn t) m u (bitsIn t) ≡ unerasedOnes t m
+  unfolding distanceUnerased unerasedOnes
   wrong-zeros m u hu =
       sum-ext m (λ p b. let e : difference (u p) (bitOfLevel (t p)) ≡ bitOfLevel (t p) = omega (arith, hu p b, level-bit (t p)) in rw e)
 
-  pub wrong-ones : (m : ℕ) (u : ℕ → ℕ) → ((p : ℕ) → p < m → u p ≡ 1) → distanceUnerased (unerasedIn t) m u (bitsIn t) ≡ zerosUnerased t m
-  unfolding distanceUnerased zerosUnerased
+  pub wrong-ones : (m : ℕ) (u : ℕ → ℕ) → ((p : ℕ) → p < m → u p ≡ 1) → distanceUnerased (unerasedIn t) m u (bitsIn t) ≡ unerasedZeros t m
+  unfolding distanceUnerased unerasedZeros
   wrong-ones m u hu =
       sum-ext m (λ p b. let e : difference (u p) (bitOfLevel (t p)) ≡ 1 - bitOfLevel (t p) = omega (arith, hu p b, level-bit (t p)) in rw e)
 
   -- where no place is erased, the ones are those of the bits
-  pub ones-all-unerased : (m : ℕ) → ((p : ℕ) → p < m → isUnerased (t p) ≡ true) → onesUnerased t m ≡ sumBelow (bitsIn t) m
-  unfolding onesUnerased
+  pub ones-all-unerased : (m : ℕ) → ((p : ℕ) → p < m → isUnerased (t p) ≡ true) → unerasedOnes t m ≡ sumBelow (bitsIn t) m
+  unfolding unerasedOnes
   ones-all-unerased m unerased = sum-ext m (λ p b. rw (unerased p b))

@@ -11,7 +11,7 @@ use lib.Ieee.Exact.{HasValue}
 use Rattle.bits.specs.Sums.{sumBelow}
 use Rattle.model.specs.Levels.{zeroLevel, isUnerased, bitOfLevel, plusLevel, sumOfLevels, separatorReading}
 use Rattle.model.specs.declared.ReceivedLevel.{ReceivedLevel}
-use Rattle.level_theory.specs.UnitLevels.{zerosUnerased, onesUnerased, zerosLessOnes}
+use Rattle.level_theory.specs.UnitLevels.{unerasedZeros, unerasedOnes, zerosLessOnes}
 use Rattle.level_theory.proofs.IntegerFloats.{sum-of-differences, difference-negative, difference-absolute, difference-in-float}
 use Rattle.level_theory.proofs.IntegerFloats.{integer-value, integer-below-zero, integers-add}
 use Rattle.level_theory.proofs.UnitsReceived.{UnitOrErased, erased, plus, less, plus-one-bit, minus-one-bit}
@@ -43,41 +43,41 @@ zero-float = refl
 
 module _ (t : ℕ → ReceivedLevel) where
   -- there are no more unerased zeros than places, and no more unerased ones
-  few-zeros : (m : ℕ) → m ≤ 2 ^ 24 → zerosUnerased t m ≤ 2 ^ 24
+  few-zeros : (m : ℕ) → m ≤ 2 ^ 24 → unerasedZeros t m ≤ 2 ^ 24
   few-zeros m h = omega (arith, places-in-all t m)
 
-  few-ones : (m : ℕ) → m ≤ 2 ^ 24 → onesUnerased t m ≤ 2 ^ 24
+  few-ones : (m : ℕ) → m ≤ 2 ^ 24 → unerasedOnes t m ≤ 2 ^ 24
   few-ones m h = omega (arith, places-in-all t m)
 
   -- the sum of m levels is the float of the unerased zeros less the unerased ones
   pub sum-exact : (m : ℕ) → m ≤ 2 ^ 24 → ((p : ℕ) → p < m → UnitOrErased (t p))
       → sumOfLevels t m ≡ zerosLessOnes t m
-  unfolding sumOfLevels zerosUnerased onesUnerased sumBelow
+  unfolding sumOfLevels unerasedZeros unerasedOnes sumBelow
   sum-exact zero h units = zero-float
   sum-exact (suc m) h units =
       rw (sum-exact m (omega arith) (λ p b. units p (omega arith)))
-      (bit-added (units m (omega arith)) (zerosUnerased t m) (onesUnerased t m) (few-zeros m (omega arith)) (few-ones m (omega arith)))
+      (bit-added (units m (omega arith)) (unerasedZeros t m) (unerasedOnes t m) (few-zeros m (omega arith)) (few-ones m (omega arith)))
 
   module _ (m : ℕ) (h : m ≤ 2 ^ 24) (units : (p : ℕ) → p < m → UnitOrErased (t p)) where
-    in-float : T (inFloat binary32 (minus (zerosUnerased t m) (onesUnerased t m)))
-    in-float = difference-in-float binary32 (zerosUnerased t m) (onesUnerased t m) (few-zeros m h) (few-ones m h)
+    in-float : T (inFloat binary32 (minus (unerasedZeros t m) (unerasedOnes t m)))
+    in-float = difference-in-float binary32 (unerasedZeros t m) (unerasedOnes t m) (few-zeros m h) (few-ones m h)
 
     -- nothing of it is rounded off: it has the value of that difference, negative where there are more unerased ones than zeros
-    pub sum-value : HasValue (sumOfLevels t m) (ltb (zerosUnerased t m) (onesUnerased t m))
-        ((zerosUnerased t m - onesUnerased t m) + (onesUnerased t m - zerosUnerased t m)) 1
+    pub sum-value : HasValue (sumOfLevels t m) (ltb (unerasedZeros t m) (unerasedOnes t m))
+        ((unerasedZeros t m - unerasedOnes t m) + (unerasedOnes t m - unerasedZeros t m)) 1
     sum-value =
-        rw (sum-exact m h units, ← (difference-negative (zerosUnerased t m) (onesUnerased t m)))
-        (rw (← (difference-absolute (zerosUnerased t m) (onesUnerased t m)))
-        (integer-value binary32 (minus (zerosUnerased t m) (onesUnerased t m)) in-float))
+        rw (sum-exact m h units, ← (difference-negative (unerasedZeros t m) (unerasedOnes t m)))
+        (rw (← (difference-absolute (unerasedZeros t m) (unerasedOnes t m)))
+        (integer-value binary32 (minus (unerasedZeros t m) (unerasedOnes t m)) in-float))
 
     -- it is below zero exactly if there are more unerased ones than zeros
-    pub below-zero : lt (sumOfLevels t m) zeroLevel ≡ ltb (zerosUnerased t m) (onesUnerased t m)
+    pub below-zero : lt (sumOfLevels t m) zeroLevel ≡ ltb (unerasedZeros t m) (unerasedOnes t m)
     below-zero =
         rw (sum-exact m h units)
-        (integer-below-zero binary32 (minus (zerosUnerased t m) (onesUnerased t m)) in-float
-        ∙ difference-negative (zerosUnerased t m) (onesUnerased t m))
+        (integer-below-zero binary32 (minus (unerasedZeros t m) (unerasedOnes t m)) in-float
+        ∙ difference-negative (unerasedZeros t m) (unerasedOnes t m))
 
     -- so a separator reads 1 exactly if it has more unerased ones than zeros
-    pub separator-by-count : separatorReading m t ≡ cond (ltb (zerosUnerased t m) (onesUnerased t m)) 1 0
+    pub separator-by-count : separatorReading m t ≡ cond (ltb (unerasedZeros t m) (unerasedOnes t m)) 1 0
     unfolding separatorReading
     separator-by-count = rw below-zero

@@ -14,7 +14,7 @@ use Rattle.bits.proofs.Erasures.{none-erased}
 use Rattle.model.specs.Reading.{majority}
 use Rattle.model.specs.Levels.{zeroLevel, isUnerased, unerasedIn, bitsIn, sumOfLevels, separatorReading}
 use Rattle.model.specs.declared.ReceivedLevel.{ReceivedLevel}
-use Rattle.level_theory.specs.UnitLevels.{zerosUnerased, onesUnerased}
+use Rattle.level_theory.specs.UnitLevels.{unerasedZeros, unerasedOnes}
 use Rattle.level_theory.proofs.UnitsReceived.{UnitOrErased}
 use Rattle.level_theory.proofs.ErasureCounts.{places-in-all, wrong-zeros, wrong-ones, ones-all-unerased}
 use Rattle.level_theory.proofs.ExactSums.{separator-by-count}
@@ -32,21 +32,21 @@ module _ (D : ℕ) (t : ℕ → ReceivedLevel) (h : D ≤ 2 ^ 24) (units : (p : 
       rw (separator-by-count t D h units)
       (⊎-elim
       (λ (e : b ≡ 0).
-      rw (e, le-ltb (zerosUnerased t D) (onesUnerased t D) (omega (arith, places-in-all t D, wrong-zeros t D u (λ p l. hu p l ∙ e)))))
+      rw (e, le-ltb (unerasedZeros t D) (unerasedOnes t D) (omega (arith, places-in-all t D, wrong-zeros t D u (λ p l. hu p l ∙ e)))))
       (λ (l : 0 < b).
       let one : b ≡ 1 = omega arith in
-      rw (one, lt-ltb (zerosUnerased t D) (onesUnerased t D) (omega (arith, places-in-all t D, wrong-ones t D u (λ p l. hu p l ∙ one)))))
+      rw (one, lt-ltb (unerasedZeros t D) (unerasedOnes t D) (omega (arith, places-in-all t D, wrong-ones t D u (λ p l. hu p l ∙ one)))))
       (eq-zero-or-pos b))
 
   -- where nothing is erased a separator reads as its bits do
   pub separator-as-bits : ((p : ℕ) → p < D → isUnerased (t p) ≡ true) → separatorReading D t ≡ majority D (bitsIn t)
   unfolding majority
   separator-as-bits unerased =
-      let all-unerased : zerosUnerased t D + onesUnerased t D ≡ D = omega (arith, places-in-all t D, none-erased (unerasedIn t) D unerased) in
+      let all-unerased : unerasedZeros t D + unerasedOnes t D ≡ D = omega (arith, places-in-all t D, none-erased (unerasedIn t) D unerased) in
       rw (separator-by-count t D h units, ← (ones-all-unerased t D unerased))
       (⊎-elim
-      (λ (l : zerosUnerased t D < onesUnerased t D).
-      rw (lt-ltb (zerosUnerased t D) (onesUnerased t D) l, lt-ltb D (2 * onesUnerased t D) (omega arith)))
-      (λ (l : onesUnerased t D ≤ zerosUnerased t D).
-      rw (le-ltb (zerosUnerased t D) (onesUnerased t D) l, le-ltb D (2 * onesUnerased t D) (omega arith)))
-      (lt-or-le (zerosUnerased t D) (onesUnerased t D)))
+      (λ (l : unerasedZeros t D < unerasedOnes t D).
+      rw (lt-ltb (unerasedZeros t D) (unerasedOnes t D) l, lt-ltb D (2 * unerasedOnes t D) (omega arith)))
+      (λ (l : unerasedOnes t D ≤ unerasedZeros t D).
+      rw (le-ltb (unerasedZeros t D) (unerasedOnes t D) l, le-ltb D (2 * unerasedOnes t D) (omega arith)))
+      (lt-or-le (unerasedZeros t D) (unerasedOnes t D)))

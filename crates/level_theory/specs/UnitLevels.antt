@@ -38,12 +38,12 @@ abbrev pub UnitLevelsFrom : (at : ℕ) (levels : List Float) (D : ℕ) → Type 
 UnitLevelsFrom at levels D = (q : ℕ) → q < D → UnitLevel (getD levels (at + q) nan)
 
 -- how many of the unerased bits at the first m places are 0, and how many are 1
-unfoldable pub zerosUnerased : (t : ℕ → ReceivedLevel) (m : ℕ) → ℕ
-zerosUnerased t m = sumBelow (λ p. cond (isUnerased (t p)) (1 - bitOfLevel (t p)) 0) m
+unfoldable pub unerasedZeros : (t : ℕ → ReceivedLevel) (m : ℕ) → ℕ
+unerasedZeros t m = sumBelow (λ p. cond (isUnerased (t p)) (1 - bitOfLevel (t p)) 0) m
 
-unfoldable pub onesUnerased : (t : ℕ → ReceivedLevel) (m : ℕ) → ℕ
-onesUnerased t m = sumBelow (λ p. cond (isUnerased (t p)) (bitOfLevel (t p)) 0) m
+unfoldable pub unerasedOnes : (t : ℕ → ReceivedLevel) (m : ℕ) → ℕ
+unerasedOnes t m = sumBelow (λ p. cond (isUnerased (t p)) (bitOfLevel (t p)) 0) m
 
 -- the former less the latter, as a level
 abbrev pub zerosLessOnes : (t : ℕ → ReceivedLevel) (m : ℕ) → Float
-zerosLessOnes t m = ofInt binary32 (minus (zerosUnerased t m) (onesUnerased t m))
+zerosLessOnes t m = ofInt binary32 (minus (unerasedZeros t m) (unerasedOnes t m))

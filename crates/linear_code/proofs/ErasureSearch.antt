@@ -30,7 +30,7 @@ use Rattle.code_theory.specs.Promise.{Sound}
 use Rattle.code_theory.proofs.LeastDistance.{codeword-narrow}
 use Rattle.code_theory.proofs.ChunkReading.{reading-passed, erasure-reading-ext, chunk-answered}
 use Rattle.code_theory.proofs.Promise.{promise, plain-reading}
-use Rattle.linear_code.specs.FirstWithin.{rowsDistance, nearBits, firstWithin}
+use Rattle.linear_code.specs.FirstWithin.{rowsDistance, rowsWithin, firstWithin}
 
 -- ---- rows cut to the unerased places
 
@@ -81,7 +81,7 @@ module _ (C : Code) (sound : Sound C) (x h : ℕ) (fits : x < 2 ^ C .n) (mask : 
           (lt-or-le (2 * wrong + erased) D)
 
       near : (j : ℕ)
-          → nearBits (C .k) (λ z. getD rows z 0) (bitAnd x h) limit j
+          → rowsWithin (C .k) (λ z. getD rows z 0) (bitAnd x h) limit j
           ≡ ltb (2 * chunkWrong C unerased (bit x) j + erasedBelow unerased (C .n)) (C .D)
       near j = rw (counted j, is-limit) (within (chunkWrong C unerased (bit x) j) (erasedBelow unerased (C .n)) (C .D) some)
 

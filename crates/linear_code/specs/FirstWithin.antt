@@ -16,9 +16,9 @@ use Rattle.model.specs.declared.Chunk.{Chunk}
 abbrev pub rowsDistance : (k : ℕ) (row : ℕ → ℕ) (x j : ℕ) → ℕ
 rowsDistance k row x j = ones (bitXor (sumOfRows row k (gray j)) x)
 
-abbrev pub nearBits : (k : ℕ) (row : ℕ → ℕ) (x limit j : ℕ) → Bool
-nearBits k row x limit j = leb (rowsDistance k row x j) limit
+abbrev pub rowsWithin : (k : ℕ) (row : ℕ → ℕ) (x limit j : ℕ) → Bool
+rowsWithin k row x limit j = leb (rowsDistance k row x j) limit
 
 unfoldable pub firstWithin : (k : ℕ) (rows : List ℕ) (x limit : ℕ) → Chunk
 firstWithin k rows x limit =
-    let row : ℕ → ℕ = λ z. getD rows z 0 in readFirst (nearBits k row x limit) (rowsDistance k row x) (2 ^ k)
+    let row : ℕ → ℕ = λ z. getD rows z 0 in readFirst (rowsWithin k row x limit) (rowsDistance k row x) (2 ^ k)

@@ -41,7 +41,7 @@ pub fn bits_at(w: [u8; 40], at: u32, n: u32) -> u64
         value ^= moved_to(w[j], 0, p);
         p += 8;
     }
-    value & powers::low_bits(n)
+    value & powers::low_ones(n)
 }
 
 // How many of the `len` bits from place `at` on are 1.

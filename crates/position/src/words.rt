@@ -52,7 +52,7 @@ fn separator(i: u32, distance: u32) -> u64
     if i % 2 == 0 {
         return 0;
     }
-    powers::low_bits(distance)
+    powers::low_ones(distance)
 }
 
 // A word from the numbers of its five chunks, put down one behind the other: code chunks of n bits, separators of d.

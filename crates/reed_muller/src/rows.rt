@@ -19,7 +19,7 @@ pub fn all_positions(m: u32) -> u64
     requires { ⌜ m ≤ 6 ⌝ }
     ensures { λ a. ⌜ a ≡ 2 ^ 2 ^ m - 1 ⌝ }
 {
-    powers::low_bits(powers::two_to(m))
+    powers::low_ones(powers::two_to(m))
 }
 
 // The rows, by the table of sets: those that are not sets of the m variables are left out. The empty set comes first, whose product is a

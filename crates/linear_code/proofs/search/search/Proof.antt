@@ -12,7 +12,7 @@ use lib.Bits.{and-le-r}
 use lib.Count.{ones, trailingZeros}
 use lib.ListN.{getD}
 use lib.Pow.{pow-pos}
-use Rattle.linear_code.specs.FirstWithin.{nearBits, firstWithin}
+use Rattle.linear_code.specs.FirstWithin.{rowsWithin, firstWithin}
 use Rattle.code_theory.proofs.GrayStep.{row-of-twelve}
 use Rattle.linear_code.proofs.ChunkSearch.{Counted, one-counted, counted-all, counted-past}
 use Rattle.linear_code.proofs.ChunkSearch.{AtCandidate, search-starts, search-goes-on, search-found, search-failed, bits-apart}
@@ -27,7 +27,7 @@ abbrev μ-bits : tie.MeasureT-bits
 
 abbrev Inv-loop : tie.InvT-loop
 Inv-loop k x limit rows size apart₀ i₀ apart i =
-    let row : ℕ → ℕ = λ z. getD rows z 0 in AtCandidate k row x (nearBits k row x limit) (size - 1) apart i
+    let row : ℕ → ℕ = λ z. getD rows z 0 in AtCandidate k row x (rowsWithin k row x limit) (size - 1) apart i
 
 abbrev μ-loop : tie.MeasureT-loop
 μ-loop k x limit rows size apart₀ i₀ apart i = size - i
@@ -57,7 +57,7 @@ counted c =
 far : (c : tie.Left-bits Inv-bits μ-bits Inv-loop μ-loop)
     → let at = c .before .before in
     let args = at .before .before .args in
-    args .limit < c .bits-test .differing → nearBits (args .k) (λ z. getD (args .t2) z 0) (args .x) (args .limit) (at .loop .i) ≡ false
+    args .limit < c .bits-test .differing → rowsWithin (args .k) (λ z. getD (args .t2) z 0) (args .x) (args .limit) (at .loop .i) ≡ false
 far c past =
     let at = c .before .before in lt-leb _ _ (rw (bits-apart (at .loop .inv)) at (counted c .past past))
 

@@ -40,7 +40,7 @@ loop-again c =
 returns-2 : tie.Need-returns-2 Inv-loop μ-loop
 returns-2 c =
     let loop = c .before .before .loop in
-    rw (c .low-bits .ensures) (gathered-cut _ (loop .p) (loop .value) _ (omega arith) (omega arith) (loop .inv .2))
+    rw (c .low-ones .ensures) (gathered-cut _ (loop .p) (loop .value) _ (omega arith) (omega arith) (loop .inv .2))
 
 pub bits-at-spec : {M : Type 1} → statement M
 bits-at-spec =

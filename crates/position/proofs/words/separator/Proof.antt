@@ -16,7 +16,7 @@ returns-2 : tie.Need-returns-2
 returns-2 c =
     let args = c .before .before .args in
     let odd : args .i % 2 ≡ 1 = omega arith in
-    rw (c .low-bits .ensures) (omega (arith, pow-pos (args .distance)), λ p h. bit-all-ones (args .distance) p h ∙ sym odd)
+    rw (c .low-ones .ensures) (omega (arith, pow-pos (args .distance)), λ p h. bit-all-ones (args .distance) p h ∙ sym odd)
 
 pub separator-spec : {M : Type 1} → statement M
 separator-spec = tie.close (tie.spec returns (λ c κs. search needs) returns-2)
