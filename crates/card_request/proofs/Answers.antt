@@ -119,7 +119,8 @@ module _ (track r m : List ℕ) where
           (e ∙ rw (a-number greatestTrack track is-track .0, a-number greatestNumber r is-order .0, no-number greatestNumber m none))
 
       -- three numbers, for which the library has answered
-      module _ {v : ℕ} (is-variables : Number v ≡ numberText greatestNumber m) (made : MadeCard) (refusal : made .refusal ≡ makeRefusal o v) where
+      module _ {v : ℕ} (is-variables : Number v ≡ numberText greatestNumber m) (made : MadeCard)
+          (refusal : made .refusal ≡ makeRefusal o v) where
         numbers-read : (isNumber greatestTrack track ≡ true) × (isNumber greatestNumber r ≡ true) × (isNumber greatestNumber m ≡ true)
         numbers-read = (
           a-number greatestTrack track is-track .0,

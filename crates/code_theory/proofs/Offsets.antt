@@ -27,7 +27,8 @@ use Rattle.model.specs.Millimetres.{millimetresRefusal, millimetresAnswer}
 use Rattle.model.specs.declared.NumberAnswer.the-variants.{Number, Refused as NumberRefused}
 use Rattle.model.specs.declared.MillimetresAnswer.the-variants.{Millimetres, Refused as MillimetresRefused}
 use Rattle.code_theory.specs.Offsets.{OldCard, oldMisplaced, oldCardRefusal, oldCardAnswer, oldMillimetresAnswer, asSigned}
-use Rattle.code_theory.specs.Offsets.{CheckedAsBefore, DistanceAsBefore, CheckPromises, MillimetresPromises, SameButOffset, AnsweredAlike}
+use Rattle.code_theory.specs.Offsets.{CheckedAsBefore, DistanceAsBefore, CheckPromises, MillimetresPromises}
+use Rattle.code_theory.specs.Offsets.{SameButOffset, AnsweredAlike}
 
 -- ---- old cards
 
@@ -117,7 +118,8 @@ module _ (b b′ : List ℕ) (same : SameButOffset b b′) where
       )
 
   pub alike-but-distances : AnsweredAlike b b′
-  unfolding cardAnswer summaryOf trackOf writeRefusal writeAnswer lentAfterWrite readRefusal readAnswer levelsRefusal levelsAnswer startRefusal startAnswer
+  unfolding cardAnswer summaryOf trackOf writeRefusal writeAnswer lentAfterWrite readRefusal readAnswer
+      levelsRefusal levelsAnswer startRefusal startAnswer
   alike-but-distances =
       record {
         refused = same-refusal;

@@ -8,7 +8,8 @@ use Rattle.bits.specs.Walk.{walk}
 use Rattle.bits.specs.Places.{weight, place}
 use Rattle.bits.specs.Searches.{anyBelow, firstFrom, first, leastAt, greatest}
 use Rattle.model.specs.Refusals.{firstRefusal, unlessRefused}
-use Rattle.model.specs.Card.{highFirst, trackOf, rowOf, twosComplement, offsetOf, storedCheck, computedCheck, sumOfRows, leastWeight, codeOf}
+use Rattle.model.specs.Card.{highFirst, trackOf, rowOf, twosComplement, offsetOf, storedCheck, computedCheck, sumOfRows}
+use Rattle.model.specs.Card.{leastWeight, codeOf}
 use Rattle.model.specs.Card.{withinLimits, rowTooWide, unusedRowSet, unusedByteSet, misplaced, offsetOutside, dependent, cardRefusal}
 use Rattle.model.specs.Order.{gray, lastCodeword, codeword, changedRow, changedWeight, start, lastPosition}
 use Rattle.model.specs.Words.{fiveChunks, word, blockOf, wordAt}

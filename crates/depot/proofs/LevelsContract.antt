@@ -6,7 +6,8 @@ use Prim.Native.Nat.{ℕ}
 use lib.Ieee.{Float}
 use Rattle.model.specs.Decoded.{meaning}
 use Rattle.model.specs.Refusals.{ifServed}
-use Rattle.model.specs.ReadLevels.{readLevels, levelsAnswered, levelsAnswer, levelsRefusal, levelsExpected, strengthExpected, positionAnswer}
+use Rattle.model.specs.ReadLevels.{readLevels, levelsAnswered, levelsAnswer, levelsRefusal, levelsExpected}
+use Rattle.model.specs.ReadLevels.{strengthExpected, positionAnswer}
 use Rattle.model.specs.ReadLevels.{levelsStatus, levelsValues, strengthValues}
 use Rattle.model.specs.declared.Decoded.{Decoded}
 use Rattle.model.specs.declared.LevelsAnswer.{LevelsAnswer}

@@ -114,7 +114,8 @@ fn from_face(offset: i32, position: u32) -> i32
 pub fn millimetres(card: &[u8], position: u32) -> MillimetresAnswer
     ensures answer { λ r. ⌜ r ≡ millimetresAnswer (now (card .entry)) position ⌝ }
     ensures status { λ r. ⌜ millimetresStatus r ≡ millimetresRefusal (now (card .entry)) position ⌝ }
-    ensures values { λ r. ⌜ millimetresValues r ≡ ifServed (millimetresStatus r) (millimetresOf (offsetOf (now (card .entry))) position ∷ []) ⌝ }
+    ensures values { λ r. ⌜ millimetresValues r
+        ≡ ifServed (millimetresStatus r) (millimetresOf (offsetOf (now (card .entry))) position ∷ []) ⌝ }
     ensures promises { λ r. ⌜ MillimetresPromises (now (card .entry)) position r ⌝ }
 {
     let decoded = decode::decode(card);

@@ -9,7 +9,8 @@ use Rattle.position_theory.specs.ReadPromises.{OffByAtMostTwiceDamaged, OffByAt
 use Rattle.level_theory.specs.LevelPromises.{OffByAtMostTwiceWrongAndErased}
 use Rattle.dunnavish.specs.Crossing.{UnchangedUnlessZero}
 use Rattle.dunnavish.specs.Decoding.{residualLeft, readLeft}
-use Rattle.dunnavish.specs.Demands.{ServedNear, ServedWithinTwiceDamaged, ServedWithinDamagedAndResidual, ServedWithinTwiceWrongAndErased}
+use Rattle.dunnavish.specs.Demands.{ServedNear, ServedWithinTwiceDamaged, ServedWithinDamagedAndResidual}
+use Rattle.dunnavish.specs.Demands.{ServedWithinTwiceWrongAndErased}
 use Rattle.dunnavish.specs.Demands.{MadeWithinLimits}
 use Rattle.dunnavish.specs.CallWitnesses.{HeldForC}
 

@@ -14,7 +14,8 @@ use Rattle.position_theory.specs.ReadPromises.{OffByAtMostTwiceDamaged, OffByAt
 use Rattle.level_theory.specs.LevelPromises.{OffByAtMostTwiceWrongAndErased}
 use Rattle.dunnavish.specs.Crossing.{readCount, strengthCount}
 use Rattle.dunnavish.specs.Decoding.{residualLeft, readLeft}
-use Rattle.dunnavish.specs.Demands.{ServedNear, ServedWithinTwiceDamaged, ServedWithinDamagedAndResidual, ServedWithinTwiceWrongAndErased}
+use Rattle.dunnavish.specs.Demands.{ServedNear, ServedWithinTwiceDamaged, ServedWithinDamagedAndResidual}
+use Rattle.dunnavish.specs.Demands.{ServedWithinTwiceWrongAndErased}
 
 refused-left : (status : ℕ) (left : List ℕ) → readLeft (suc status) left ≡ Refused (suc status)
 unfolding readLeft

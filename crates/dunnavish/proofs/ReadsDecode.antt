@@ -63,7 +63,8 @@ module _ (card : List ℕ) {answered : ReadAnswer} (r : Reading) (given : answer
       let bits = counted r given in
       reading-decodes r (bits-decode (codeOf card) small _ _ _ _ (bits .first)) (bits-decode (codeOf card) small _ _ _ _ (bits .second))
 
-  pub levels-decode : (levels : List Float) → answered ≡ positionAnswer (levelsAnswer card levels) → CountsWrongOfChunks card levels answered
+  pub levels-decode : (levels : List Float) → answered ≡ positionAnswer (levelsAnswer card levels)
+      → CountsWrongOfChunks card levels answered
       → readLeft 0 (readValues (At r)) ≡ unlessRefused 0 Refused (At r)
   unfolding CountsWrongOfChunks
   levels-decode levels is counted =

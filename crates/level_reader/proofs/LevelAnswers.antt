@@ -52,7 +52,9 @@ module _ (C : Code) (word : ℕ → ReceivedLevel) (w : LevelWord) (holds : Leve
   mark false m e = rw e
 
   unerased-marked : (p : ℕ) → p < wordBits C → unerasedIn word p ≡ marked (place (w .word .unerased)) p
-  unerased-marked p b = sym (mark (unerasedIn word p) (place (w .word .unerased) p) (holds .unerased-are p ∙ cut-below (wordBits C) (unerasedBits word) p b))
+  unerased-marked p b =
+      sym (mark (unerasedIn word p) (place (w .word .unerased) p)
+      (holds .unerased-are p ∙ cut-below (wordBits C) (unerasedBits word) p b))
 
   bits-placed : (p : ℕ) → p < wordBits C → bitsIn word p ≡ place (w .word .bits) p
   bits-placed p b = sym (holds .bits-are p ∙ cut-below (wordBits C) (bitsIn word) p b)

@@ -44,7 +44,8 @@ use Rattle.level_theory.proofs.LevelsAnswered.{position-answered, read-
 
 -- ---- the nearest allowed position over the bits that aren't erased
 
-pub nearest-over-unerased : (card : List ℕ) (levels : List Float) → NearestOverUnerased card levels (positionAnswer (levelsAnswer card levels))
+pub nearest-over-unerased : (card : List ℕ) (levels : List Float)
+    → NearestOverUnerased card levels (positionAnswer (levelsAnswer card levels))
 unfolding NearestOverUnerased
 nearest-over-unerased card levels sound whole inside =
     let C = codeOf card in
@@ -54,7 +55,8 @@ nearest-over-unerased card levels sound whole inside =
     (two-ends-nearest C promised (seenInLevels C word) (reads-in-code C (levels-see-chunks C promised word)) _)
 
 -- and the wrong places of the chunks that the rule names
-pub counts-wrong-of-chunks : (card : List ℕ) (levels : List Float) → CountsWrongOfChunks card levels (positionAnswer (levelsAnswer card levels))
+pub counts-wrong-of-chunks : (card : List ℕ) (levels : List Float)
+    → CountsWrongOfChunks card levels (positionAnswer (levelsAnswer card levels))
 unfolding CountsWrongOfChunks
 counts-wrong-of-chunks card levels r answered =
     let C = codeOf card in

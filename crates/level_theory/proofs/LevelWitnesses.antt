@@ -38,7 +38,8 @@ use Rattle.position_theory.specs.Damage.{wrongIn, erasedIn, ChunksBelowD, wrong
 use Rattle.position_theory.specs.ChunkBits.{CountsWrong, WrongOfChunks}
 use Rattle.position_theory.specs.Contradictions.{NamedChunk, unlessContradicted}
 use Rattle.position_theory.specs.PositionWitnesses.{ReadAs, ReadWithin, NoneReads}
-use Rattle.position_theory.proofs.PositionWitnesses.{computed, near-within, read-as, refused-as, first-codeword, first-agrees, second-agrees}
+use Rattle.position_theory.proofs.PositionWitnesses.{computed, near-within, read-as, refused-as, first-codeword}
+use Rattle.position_theory.proofs.PositionWitnesses.{first-agrees, second-agrees}
 use Rattle.level_theory.specs.UnitLevels.{OneLevel, plus-one, minus-one, OneLevels, UnitLevel, one, zero-level, UnitLevels}
 use Rattle.level_theory.specs.LevelPromises.{NearestOverUnerased, CountsWrongOfChunks}
 use Rattle.level_theory.specs.LevelsSeen.{unerasedOf, bitsOf, seenOf}

@@ -33,7 +33,8 @@ OffByAtMostTwiceWrongAndErased card levels answer =
     let C : Code = codeOf card in
     (position : ℕ) → SoundCard card → position ≤ lastPosition C → length levels ≡ wordBits C → UnitLevels levels (wordBits C)
     → ChunksBelowD C (unerasedOf levels) (place (wordBytes C position)) (bitsOf levels)
-    → Near answer position (2 * wrongInAll C (unerasedOf levels) (place (wordBytes C position)) (bitsOf levels) + erasedInAll C (unerasedOf levels))
+    → Near answer position
+    (2 * wrongInAll C (unerasedOf levels) (place (wordBytes C position)) (bitsOf levels) + erasedInAll C (unerasedOf levels))
 
 -- ---- the clause `promises`
 

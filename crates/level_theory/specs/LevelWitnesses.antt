@@ -113,7 +113,8 @@ pub record LevelsWitnessed : Type 0 where
   pub smallest-of-erased : (answer : ReadAnswer) → NearestOverUnerased cardB (levelsOf lastErased) answer → ReadAs 13 0 3 answer
   pub by-17 : (answer : ReadAnswer) → NearestOverUnerased cardB (levelsOf mixed) answer → answer ≡ Refused 17
   -- wrong bits of chunks, with 2 × wrong + erased just below D; of a chunk that is not named none; and with D itself no reading
-  pub below-D : (r : Reading) → CountsWrongOfChunks cardB (levelsOf zeroDamaged) (At r) → (r .chunk1 ≡ Differing 0) × (r .chunk2 ≡ Differing 1)
+  pub below-D : (r : Reading) → CountsWrongOfChunks cardB (levelsOf zeroDamaged) (At r)
+      → (r .chunk1 ≡ Differing 0) × (r .chunk2 ≡ Differing 1)
   pub not-named : (r : Reading) → CountsWrongOfChunks cardB (levelsOf sevenWrong) (At r) → (r .chunk1 ≡ NotRead) × (r .chunk2 ≡ Differing 0)
   pub wrong-and-erased : NoneReads (CountsWrongOfChunks cardB (levelsOf wrongAndErased))
   pub three-erased : NoneReads (CountsWrongOfChunks cardB (levelsOf threeErased))
@@ -138,4 +139,5 @@ pub record LevelsWitnessed : Type 0 where
   -- what 17 changes: a word that was read is refused by it, another is read as before, and a refusal stays
   pub refused-now : (answer : ReadAnswer) → LevelsAsBeforeUnlessContradicted cardB (levelsOf mixed) answer → answer ≡ Refused 17
   pub read-as-before : (answer : ReadAnswer) → LevelsAsBeforeUnlessContradicted cardB (levelsOf sixOrSeven) answer → ReadAs 6 0 2 answer
-  pub refused-as-before : (answer : ReadAnswer) → LevelsAsBeforeUnlessContradicted cardB (levelsOf mixedInChunk2) answer → answer ≡ Refused 11
+  pub refused-as-before : (answer : ReadAnswer) → LevelsAsBeforeUnlessContradicted cardB (levelsOf mixedInChunk2) answer
+      → answer ≡ Refused 11

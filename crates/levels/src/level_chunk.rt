@@ -70,7 +70,8 @@ pub fn chunk_of_levels(levels: &[f32], at: u32, len: u32, before: Strength) -> L
     requires { ⌜ before ≡ strengthOf (receivedAt (now levels)) at ⌝ }
     ensures received { λ r. ⌜ LevelChunkOf (receivedAt (now (levels .entry))) at len r ⌝ }
     ensures folded { λ r. ⌜ r .sum ≡ sumOfLevels (fromPlace at (receivedAt (now (levels .entry)))) len ⌝ }
-    ensures exact { λ r. ⌜ (UnitLevelsFrom at (now (levels .entry)) len → r .sum ≡ zerosLessOnes (fromPlace at (receivedAt (now (levels .entry)))) len) ⌝ }
+    ensures exact { λ r. ⌜ (UnitLevelsFrom at (now (levels .entry)) len
+        → r .sum ≡ zerosLessOnes (fromPlace at (receivedAt (now (levels .entry)))) len) ⌝ }
 {
     let mut so_far = LevelChunk {
         bits: 0,

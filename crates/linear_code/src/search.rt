@@ -90,7 +90,8 @@ pub fn read_chunk(code: DecodedCode, x: u64, unerased: u64) -> Chunk
     ensures unerased { λ r. ⌜ r ≡ erasureReading (meaning code) (marked (bit unerased)) (bit x) ⌝ }
     ensures answer { λ r. ⌜ (unerased ≡ 2 ^ code .n - 1 → r ≡ chunkReading (meaning code) (bit x)) ⌝ }
     ensures status { λ r. ⌜ (unerased ≡ 2 ^ code .n - 1 → chunkStatus r ≡ chunkRefusal (meaning code) (bit x)) ⌝ }
-    ensures values { λ r. ⌜ (unerased ≡ 2 ^ code .n - 1 → chunkValues r ≡ ifServed (chunkStatus r) (chunkExpected (meaning code) (bit x))) ⌝ }
+    ensures values { λ r. ⌜ (unerased ≡ 2 ^ code .n - 1
+        → chunkValues r ≡ ifServed (chunkStatus r) (chunkExpected (meaning code) (bit x))) ⌝ }
 {
     let erased = code.n - u64::count_ones(unerased);
     if code.distance <= erased {

@@ -63,7 +63,8 @@ residual-more : (u v : List ℕ) (x : ReceivedWord) (q : ℕ) → q < 320
     ≡ residualTo u v x q + differenceUnerased (place (x .unerased) q) (place v q) (place (x .bits) q)
 residual-more u v x q room =
     rw (← passed-above (place u) (place v) q q (omega arith), ← passed-below (place u) (place v) (q + 1) q (omega arith))
-    (unerased-one-place (marked (place (x .unerased))) (passedTo (place u) (place v) (q + 1)) (passedTo (place u) (place v) q) (place (x .bits)) 320 q room
+    (unerased-one-place (marked (place (x .unerased)))
+    (passedTo (place u) (place v) (q + 1)) (passedTo (place u) (place v) q) (place (x .bits)) 320 q room
     elsewhere)
   where
     elsewhere : (p : ℕ) → p < 320 → (p ≡ q → ⊥) → passedTo (place u) (place v) (q + 1) p ≡ passedTo (place u) (place v) q p

@@ -26,7 +26,8 @@ pub fn search_block(
     to: u32,
 ) -> Scan
     requires { ⌜ Sound (meaning code) × NothingSpare (meaning code) x ⌝ }
-    requires { ⌜ (i ≤ lastCodeword (meaning code)) × (low ≡ positionAt (meaning code) i next from) × (from ≤ to) × (to ≤ wordBits (meaning code)) ⌝ }
+    requires { ⌜ (i ≤ lastCodeword (meaning code)) × (low ≡ positionAt (meaning code) i next from)
+        × (from ≤ to) × (to ≤ wordBits (meaning code)) ⌝ }
     ensures { λ r. ⌜ (r .low ≡ low) × (r .position ≡ positionAt (meaning code) i next to) ⌝ }
     ensures { λ r. ⌜ ((f : ℕ → ℕ) → ResidualsOf (meaning code) x i next f → Scanned f r) ⌝ }
 {
@@ -38,7 +39,8 @@ pub fn search_block(
 // The search on from the block's start, at which it stands, through the places of separator 1.
 pub fn search_after_start(code: DecodedCode, x: ReceivedWord, i: u32, next: u32, s: Scan) -> Scan
     requires { ⌜ Sound (meaning code) × NothingSpare (meaning code) x × (i ≤ lastCodeword (meaning code)) ⌝ }
-    requires { ⌜ (s .position ≡ start (meaning code) i) × (s .residual ≡ receivedDistance (wordBits (meaning code)) (word (meaning code) i) x) ⌝ }
+    requires { ⌜ (s .position ≡ start (meaning code) i)
+        × (s .residual ≡ receivedDistance (wordBits (meaning code)) (word (meaning code) i) x) ⌝ }
     ensures { λ r. ⌜ (r .low ≡ s .low) × (r .position ≡ positionAt (meaning code) i next (code .distance)) ⌝ }
     ensures { λ r. ⌜ ((f : ℕ → ℕ) → ResidualsOf (meaning code) x i next f → Scanned f s → Scanned f r) ⌝ }
 {

@@ -41,7 +41,8 @@ pub fn begin(w: [u8; 40], x: ReceivedWord, low: u32) -> Scan
 // erased. A word has at most 320 bits, so a residual is at most that.
 fn next_residual(residual: u32, new: u32, received: u32, unerased: u32) -> u32
     requires { ⌜ (residual ≤ 320) × (new < 2) × (received < 2) × (unerased < 2) × (unerased ≡ 1 → received ≡ new → 1 ≤ residual) ⌝ }
-    ensures { λ r. ⌜ ((old : ℕ) → old < 2 → difference old new ≡ 1 → r + differenceUnerased unerased old received ≡ residual + differenceUnerased unerased new received) ⌝ }
+    ensures { λ r. ⌜ ((old : ℕ) → old < 2 → difference old new ≡ 1
+        → r + differenceUnerased unerased old received ≡ residual + differenceUnerased unerased new received) ⌝ }
 {
     if received == new {
         residual - unerased

@@ -56,7 +56,8 @@ fn nearest_after(code: DecodedCode, at: Layout, x: ReceivedWord, p: u32) -> Scan
 // The search from D steps before r(p), or from 0, to r(p): separator 3 of the block before changes.
 fn search_before_start(code: DecodedCode, at: Layout, x: ReceivedWord, p: u32) -> Scan
     requires { ⌜ ReceivedIn (meaning code) at x × (p ≤ lastCodeword (meaning code)) ⌝ }
-    ensures { λ r. ⌜ (r .low ≡ start (meaning code) p - code .distance) × (r .position ≡ start (meaning code) p) × Scanned (residualIn (meaning code) x) r ⌝ }
+    ensures { λ r. ⌜ (r .low ≡ start (meaning code) p - code .distance) × (r .position ≡ start (meaning code) p)
+        × Scanned (residualIn (meaning code) x) r ⌝ }
 {
     if p == 0 {
         return scan::begin(words::word_of(code, 0), x, 0);

@@ -49,7 +49,8 @@ all-below C unerased position u x below c b _ = below c b
 
 -- likewise a word within the radius in every chunk is within it in those that are not divided (limits are compared as numbers, so that a
 -- claim of a wider one is refused by a counterexample)
-pub all-within : (C : Code) (position : ℕ) (received : List ℕ) → WithinRadius C position received → UndividedWithinRadius C position received
+pub all-within : (C : Code) (position : ℕ) (received : List ℕ) → WithinRadius C position received
+    → UndividedWithinRadius C position received
 unfolding ChunksWithin
 all-within C position received d =
     record { right-length = d .right-length; spare-zero = d .spare-zero; chunks = λ c b _. omega (arith, d .chunks c (omega arith)) }

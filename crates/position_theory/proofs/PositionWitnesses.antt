@@ -82,7 +82,8 @@ unfolding Near ReadWithin
 near-within (At r) position e near = near
 near-within (Refused refusal) position e near = near
 
-near-in-error-bar : (answer : ReadAnswer) (position e : ℕ) → Near answer position (e + residualOf answer) → ReadWithinErrorBar e position answer
+near-in-error-bar : (answer : ReadAnswer) (position e : ℕ) → Near answer position (e + residualOf answer)
+    → ReadWithinErrorBar e position answer
 unfolding Near ReadWithin ReadWithinErrorBar residualOf
 near-in-error-bar (At r) position e near = near
 near-in-error-bar (Refused refusal) position e near = near

@@ -102,7 +102,8 @@ module _ (card : List ℕ) (position : ℕ) (lent : List ℕ) where
   written-means written =
       let none = none-refused written in (served none .0, served none .1, rw (eq-eqb refusal 0 none))
 
-  pub written-neighbours : writeAnswer card position lent ≡ Written → NeighboursDifferInOneBit card position (lentAfterWrite card position lent)
+  pub written-neighbours : writeAnswer card position lent ≡ Written
+      → NeighboursDifferInOneBit card position (lentAfterWrite card position lent)
   written-neighbours w =
       let means = written-means w in
       rw (means .2) (neighbours-differ-in-one-bit card position (means .0) (means .1))

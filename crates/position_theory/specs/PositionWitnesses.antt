@@ -99,7 +99,8 @@ unreadableA = 0b00000100 ∷ 0b0000 ∷ []
 -- seven and the residual, and by at most fourteen
 abbrev pub SevenArbitrary : (position : ℕ) (received : List ℕ) → Type 0
 SevenArbitrary position received =
-    (answer : ReadAnswer) → ReadWithDividedArbitrary cardB received answer → ReadWithinErrorBar 7 position answer × ReadWithin 14 position answer
+    (answer : ReadAnswer) → ReadWithDividedArbitrary cardB received answer
+    → ReadWithinErrorBar 7 position answer × ReadWithin 14 position answer
 
 -- no reading has the promise
 abbrev pub NoneReads : (Promised : ReadAnswer → Type 0) → Type 0

@@ -39,7 +39,9 @@ module _ (C : Code) (received : List ℕ) (x : ReceivedWord) (plain : PlainWord 
     where
       by-test : (t : Bool) → spareSet C received ≡ t → spareSet C received ≡ true
       by-test true e = e
-      by-test false e = absurd (ne (sum-zero _ (λ q b. plain .bits-held (wordBits C + q) ∙ spare-bits-zero C received e (wordBits C + q) (omega arith) (omega arith))))
+      by-test false e =
+          absurd (ne
+          (sum-zero _ (λ q b. plain .bits-held (wordBits C + q) ∙ spare-bits-zero C received e (wordBits C + q) (omega arith) (omega arith))))
 
   -- the test of a count of ones
   pub spare-test : (ones bits bytes : ℕ) → bits ≡ wordBits C → bytes ≡ wordLength C

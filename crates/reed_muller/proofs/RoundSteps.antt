@@ -18,7 +18,8 @@ use Rattle.bits.specs.Places.{bit, weight}
 use Rattle.bits.proofs.Sums.{sum-mono}
 use Rattle.bits.proofs.Binary.{bit-bit, bit-xor, weight-zero, weight-wider}
 use Rattle.bits.proofs.Counting.{those-pass, kept, kept-below, kept-above}
-use Rattle.model.specs.ReedMuller.{product, setsOf, setsUpTo, countOfSets, productRow, classSum, classes, votesForOne, coefficient, voteRound}
+use Rattle.model.specs.ReedMuller.{product, setsOf, setsUpTo, countOfSets, productRow, classSum, classes, votesForOne}
+use Rattle.model.specs.ReedMuller.{coefficient, voteRound}
 use Rattle.reed_muller_theory.proofs.OrderLimits.{count-grows}
 use Rattle.reed_muller_theory.proofs.Vote.{vote-bit}
 use Rattle.reed_muller_theory.proofs.ReedMullerDistance.{classes-of-largest}
@@ -44,7 +45,8 @@ pub most-for-one : (m S : ℕ) (y : ℕ → ℕ) (twice classes′ : ℕ) → tw
 unfolding coefficient
 most-for-one m S y twice classes′ is all more = rw (lt-ltb (classes m S) (2 * votesForOne m S y) (omega arith))
 
-pub not-most-for-one : (m S : ℕ) (y : ℕ → ℕ) (twice classes′ : ℕ) → twice ≡ 2 * votesForOne m S y → classes′ ≡ classes m S → twice ≤ classes′
+pub not-most-for-one : (m S : ℕ) (y : ℕ → ℕ) (twice classes′ : ℕ) → twice ≡ 2 * votesForOne m S y → classes′ ≡ classes m S
+    → twice ≤ classes′
     → coefficient m y S ≡ 0
 unfolding coefficient
 not-most-for-one m S y twice classes′ is all no-more = rw (le-ltb (classes m S) (2 * votesForOne m S y) (omega arith))
@@ -92,7 +94,8 @@ entry-not-empty s i more low high =
     (eq-zero-or-pos (getD (setsUpTo 6 s) i 0))
 
 -- so one that is a set of the m variables has 2^(m-s) classes
-module _ (m s i : ℕ) (six : m ≤ 6) (order : s ≤ m) (low : setsBefore s ≤ i) (high : i < countOfSets s 6) (own : getD (setsUpTo 6 s) i 0 < 2 ^ m) where
+module _ (m s i : ℕ) (six : m ≤ 6) (order : s ≤ m) (low : setsBefore s ≤ i) (high : i < countOfSets s 6)
+    (own : getD (setsUpTo 6 s) i 0 < 2 ^ m) where
   pub entry-size : weight m (getD (setsUpTo 6 s) i 0) ≡ s
   entry-size = sym (weight-wider m 6 (getD (setsUpTo 6 s) i 0) six own) ∙ size-of-entry s i low high
 
@@ -184,7 +187,8 @@ module _ (m s y rows : ℕ) where
           }
 
       -- a set that is
-      pub voted-for : coefficient m (bit y) S ≡ 1 → (row : ℕ) → row ≡ productRow m S → RoundAt m s y rows at (bitXor left row) (found * 2 + 1)
+      pub voted-for : coefficient m (bit y) S ≡ 1 → (row : ℕ) → row ≡ productRow m S
+          → RoundAt m s y rows at (bitXor left row) (found * 2 + 1)
       unfolding sumOver bitsThen
       voted-for one row is =
           record {

@@ -121,8 +121,12 @@ module _ (r m : ℕ) where
       let own : where-true (λ T. leb (weight m T) r) (same S) S ≡ 1 = rw (le-leb (weight m S) r size, same-yes S S refl) in
       let (z, l, some) =
       some-summand (λ z. same S (setOf r m z)) (countOfSets r m)
-      (omega (arith, own, summand-le (where-true (λ T. leb (weight m T) r) (same S)) (2 ^ m) S h, sum-over-rows (same S))) in
-      (z, l, ⊎-elim (λ (e : S ≡ setOf r m z). sym e) (λ (ne : S ≡ setOf r m z → ⊥). omega (arith, same-no S (setOf r m z) ne)) (eq-or-ne S (setOf r m z)))
+      (omega (arith, own, summand-le (where-true (λ T. leb (weight m T) r) (same S)) (2 ^ m) S h, sum-over-rows (same S))) in (
+        z,
+        l,
+        ⊎-elim (λ (e : S ≡ setOf r m z). sym e)
+            (λ (ne : S ≡ setOf r m z → ⊥). omega (arith, same-no S (setOf r m z) ne)) (eq-or-ne S (setOf r m z)),
+      )
 
   -- there is one at least, the empty one, and there are no more than numbers of m bits
   pub count-low : 1 ≤ countOfSets r m

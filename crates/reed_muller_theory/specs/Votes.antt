@@ -18,7 +18,8 @@ pub record ReadAsPromised (r m chunk : ℕ) (answer : VoteAnswer) : Type 0 where
   pub reads : (p : ℕ) → p ≤ lastCodeword (reedMuller r m) → withinRadius (reedMuller r m) (bit chunk) p ≡ true
       → answer ≡ Voted p (chunkDistance (reedMuller r m) (bit chunk) p)
   pub within : (p e : ℕ) → answer ≡ Voted p e
-      → (p ≤ lastCodeword (reedMuller r m)) × (withinRadius (reedMuller r m) (bit chunk) p ≡ true) × (e ≡ chunkDistance (reedMuller r m) (bit chunk) p)
+      → (p ≤ lastCodeword (reedMuller r m)) × (withinRadius (reedMuller r m) (bit chunk) p ≡ true)
+      × (e ≡ chunkDistance (reedMuller r m) (bit chunk) p)
 
 abbrev pub KeepsPromise : (r m chunk : ℕ) (answer : VoteAnswer) → Type 0
 KeepsPromise r m chunk answer = orderWithinLimits r m ≡ true → chunk < 2 ^ 2 ^ m → ReadAsPromised r m chunk answer

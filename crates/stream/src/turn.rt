@@ -79,7 +79,8 @@ pub fn take_in(
 // The end of the report: the bytes short of a word, and the last line.
 pub fn put_end(out: &mut [u8], progress: Progress) -> usize
     requires { ⌜ 2 * lineRoom ≤ length (now out) ⌝ }
-    ensures put { λ r. ⌜ Puts (now (out .entry)) 0 (shortLine (progress .held) ++ lastLine (progress .met) (progress .read)) (now (out .exit)) r ⌝ }
+    ensures put { λ r. ⌜ Puts (now (out .entry)) 0 (shortLine (progress .held) ++ lastLine (progress .met) (progress .read))
+        (now (out .exit)) r ⌝ }
     ensures room { λ r. ⌜ r ≤ 2 * lineRoom ⌝ }
     ensures whole { λ r. ⌜ Completes progress (take r (now (out .exit))) ⌝ }
 {

@@ -45,7 +45,8 @@ pub fn put_words(
     requires { ⌜ Sound (meaning code) ⌝ }
     requires { ⌜ (start + words * wordLength (meaning code) ≤ length (now bytes)) × (at + words * lineRoom ≤ length (now out))
         × (met + words < 2 ^ 64) ⌝ }
-    ensures { λ r. ⌜ Puts (now (out .entry)) at (wordLines (meaning code) (drop start (now (bytes .entry))) met words) (now (out .exit)) (r .next) ⌝ }
+    ensures { λ r. ⌜ Puts (now (out .entry)) at (wordLines (meaning code) (drop start (now (bytes .entry))) met words)
+        (now (out .exit)) (r .next) ⌝ }
     ensures { λ r. ⌜ r .next ≤ at + words * lineRoom ⌝ }
     ensures { λ r. ⌜ (r .read ≡ wordsRead (meaning code) (drop start (now (bytes .entry))) words) × (r .read ≤ words) ⌝ }
 {

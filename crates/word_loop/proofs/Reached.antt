@@ -29,7 +29,8 @@ reached-first C input held met read =
     record { all = []; text = []; streamed = streamed-nothing C input held met read; each-turn = omega arith }
 
 -- the bytes up to those held stand in the buffer as they stood
-pub reached-still : {C : Code} (start : ℕ) (buffer buffer′ : List ℕ) {p : Progress} {turns : ℕ} → start ≤ length buffer → start ≤ length buffer′
+pub reached-still : {C : Code} (start : ℕ) (buffer buffer′ : List ℕ) {p : Progress} {turns : ℕ} → start ≤ length buffer
+    → start ≤ length buffer′
     → take (start + p .held) buffer′ ≡ take (start + p .held) buffer
     → Reached C (drop start buffer) p turns → Reached C (drop start buffer′) p turns
 reached-still start buffer buffer′ {p} inside inside′ same reached =

@@ -144,7 +144,8 @@ turned c =
     (omega (arith, rw arrive at (taken .met)), omega (arith, rw arrive at (taken .room)))
 
 -- both buffers are as long as they were
-still-long : (c : tie.After-take-in Inv-loop μ-loop) → (length (c .take-in .last .1 .1 .0) ≡ 64512) × (length (c .take-in .last .0) ≡ 230400)
+still-long : (c : tie.After-take-in Inv-loop μ-loop)
+    → (length (c .take-in .last .1 .1 .0) ≡ 64512) × (length (c .take-in .last .0) ≡ 230400)
 still-long c =
     let come = received (counted c) in
     let inv = head come .loop .inv in

@@ -38,7 +38,8 @@ module _ (c : tie.After-no-strength) where
   laid = first .pre .0
 
   -- the strength of a chunk goes as far as the next one begins
-  goes-on : (at len next : ℕ) (chunk : LevelChunk) → LevelChunkOf word at len chunk → at + len ≡ next → chunk .strength ≡ strengthOf word next
+  goes-on : (at len next : ℕ) (chunk : LevelChunk) → LevelChunkOf word at len chunk → at + len ≡ next
+      → chunk .strength ≡ strengthOf word next
   goes-on at len next chunk received behind = received .strength-is ∙ ap (strengthOf word) behind
 
 chunk-of-levels-requires : tie.Need-chunk-of-levels-requires
@@ -85,13 +86,17 @@ module _ (c : tie.After-chunk-of-levels5) where
   abbrev part₅ : LevelChunk
   part₅ = c .chunk-of-levels5 .result
 
-  all-bits : FiveChunks (C known .n) (C known .D) (bitsIn (word known)) (part₁ .bits) (part₂ .bits) (part₃ .bits) (part₄ .bits) (part₅ .bits)
+  all-bits :
+      FiveChunks (C known .n) (C known .D) (bitsIn (word known))
+      (part₁ .bits) (part₂ .bits) (part₃ .bits) (part₄ .bits) (part₅ .bits)
   all-bits =
       five-bits _ _ (laid known) _ _ _ _ _ _ (c .before .before .before .before .chunk-of-levels .ensures .0)
       (c .before .before .before .chunk-of-levels2 .ensures .0) (c .before .before .chunk-of-levels3 .ensures .0)
       (c .before .chunk-of-levels4 .ensures .0) (c .chunk-of-levels5 .ensures .0)
 
-  all-unerased : FiveChunks (C known .n) (C known .D) (unerasedBits (word known)) (part₁ .unerased) (part₂ .unerased) (part₃ .unerased) (part₄ .unerased) (part₅ .unerased)
+  all-unerased :
+      FiveChunks (C known .n) (C known .D) (unerasedBits (word known))
+      (part₁ .unerased) (part₂ .unerased) (part₃ .unerased) (part₄ .unerased) (part₅ .unerased)
   all-unerased =
       five-unerased _ _ (laid known) _ _ _ _ _ _ (c .before .before .before .before .chunk-of-levels .ensures .0)
       (c .before .before .before .chunk-of-levels2 .ensures .0) (c .before .before .chunk-of-levels3 .ensures .0)

@@ -120,7 +120,8 @@ returns-6 c s sees R residual =
     let second = c .before .before in
     let both = second .before .before in
     rw (third both)
-    (rule₃-differs s R residual _ _ (sees .first ∙ codeword₁ (known₁ both)) _ _ (sees .second ∙ read₂ both ∙ second .second .given .1) (c .if3 .taken))
+    (rule₃-differs s R residual _ _ (sees .first ∙ codeword₁ (known₁ both)) _ _
+    (sees .second ∙ read₂ both ∙ second .second .given .1) (c .if3 .taken))
 
 returns-7 : tie.Need-returns-7
 unfolding ReadsNamed

@@ -1,7 +1,8 @@
 -- `order_within_limits` meets its contract: the table is that of the greatest orders. Assumes nothing.
 use borrow.Author.Needs.{needs}
 use native.Mathlib.Omega.{arith}
-use Rattle.reed_muller_theory.proofs.OrderLimits.{greatestOrders, greatest-at-most-three, limit-in-table, too-few-variables, too-many-variables}
+use Rattle.reed_muller_theory.proofs.OrderLimits.{greatestOrders, greatest-at-most-three, limit-in-table}
+use Rattle.reed_muller_theory.proofs.OrderLimits.{too-few-variables, too-many-variables}
 use Rattle.reed_muller.proofs.limits.order_within_limits.Statement.{statement}
 use Rattle.reed_muller.proofs.limits.order_within_limits.Tie as tie
 

@@ -73,7 +73,8 @@ loop-again c =
     let before = c .before .before .before .before in
     let round-by = c .before .vote-round .ensures .1 in
     let next : suc (before .before .loop .size - 1) ≡ before .before .loop .size = omega (arith, before .loop-test .taken) in
-    rw next (voting-goes-on _ _ _ (before .before .loop .size) _ _ (before .before .loop .inv) _ _ (round-by .0 (c .if1 .left)) (round-by .1 (c .if1 .left)))
+    rw next (voting-goes-on _ _ _ (before .before .loop .size) _ _ (before .before .loop .inv) _ _
+    (round-by .0 (c .if1 .left)) (round-by .1 (c .if1 .left)))
 
 -- ---- the last round
 

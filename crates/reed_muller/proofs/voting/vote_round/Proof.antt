@@ -38,7 +38,8 @@ end c = c .start-of2 .ensures ∙ rw (add-one (c .before .before .before .before
 loop-holds : tie.Need-loop-holds Inv-loop μ-loop
 loop-holds c =
     let first = c .before .before .before .before in
-    rw (end c) (round-starts (first .args .m) (first .args .size) (first .args .y) (first .args .rows) (first .pre .0 .3) (before-all (first .args .size)))
+    rw (end c) (round-starts (first .args .m) (first .args .size) (first .args .y) (first .args .rows)
+    (first .pre .0 .3) (before-all (first .args .size)))
 
 -- ---- the set that is looked at
 
