@@ -39,8 +39,10 @@ digits-of (suc m) x h =
     (λ (more : 10 ≤ x).
     let tenth = decimal (x / 10) in
     let (number, digits) = digits-of m (x / 10) (omega arith) in
-    rw (decimal-more x more)
-    (rw (number-more 0 tenth (digit (x % 10)), number) (omega arith), digits-more tenth (digit (x % 10)) (digit-byte (x % 10) (omega arith)) digits))
+    rw (decimal-more x more) (
+      rw (number-more 0 tenth (digit (x % 10)), number) (omega arith),
+      digits-more tenth (digit (x % 10)) (digit-byte (x % 10) (omega arith)) digits,
+    ))
     (lt-or-le x 10)
 
 pub decimal-read : (most x : ℕ) → x ≤ most → numberText most (decimal x) ≡ Number x

@@ -82,7 +82,8 @@ module _ {A : Type 0} (card : ℕ) (rows : List Row) (refused : ℕ → A) (serv
   unfolding firstRefusal
   refused-by-card ne = rw (ne-eqb card 0 ne) (refused-if-some card refused served ne)
 
-  pub past-card : card ≡ 0 → unlessRefused (firstRefusal (refusedAs card ∷ rows)) refused served ≡ unlessRefused (firstRefusal rows) refused served
+  pub past-card : card ≡ 0
+      → unlessRefused (firstRefusal (refusedAs card ∷ rows)) refused served ≡ unlessRefused (firstRefusal rows) refused served
   unfolding firstRefusal
   past-card e = rw (eq-eqb card 0 e)
 

@@ -110,7 +110,8 @@ millimetres-answered card position =
     status-and-values millimetresStatus millimetresValues (millimetresRefusal card position) _ MillimetresRefused
     (Millimetres (millimetresOf (offsetOf card) position)) (λ number. refl) (λ number. refl) refl refl
 
-pub vote-answered : (r m chunk : ℕ) → StatusAndValues voteStatus voteValues (voteRefusal r m chunk) (voteExpected r m chunk) (voteAnswer r m chunk)
+pub vote-answered : (r m chunk : ℕ)
+    → StatusAndValues voteStatus voteValues (voteRefusal r m chunk) (voteExpected r m chunk) (voteAnswer r m chunk)
 unfolding voteAnswer voteStatus voteValues voteExpected
 vote-answered r m chunk =
     status-and-values voteStatus voteValues (voteRefusal r m chunk) (voteExpected r m chunk) VoteRefused

@@ -42,8 +42,8 @@ ServedWithinDamagedAndResidual card received lent status left =
 -- Document 02, P5, where five numbers and two floats are lent: for a sound card, every position on its track and d levels of 1, -1 and 0
 -- that have, against that position's word, 2 × wrong + erased below D in every chunk: the status is 0, and the position left is no further
 -- off than 2 × wrong + erased over the whole word
-unfoldable pub ServedWithinTwiceWrongAndErased : (card : List ℕ) (levels : List Float) (lent : List ℕ) (lentStrength : List Float) (status : ℕ)
-    (left : List ℕ) → Type 0
+unfoldable pub ServedWithinTwiceWrongAndErased : (card : List ℕ) (levels : List Float) (lent : List ℕ) (lentStrength : List Float)
+    (status : ℕ) (left : List ℕ) → Type 0
 ServedWithinTwiceWrongAndErased card levels lent lentStrength status left =
     let C : Code = codeOf card in
     length lent ≡ readCount → length lentStrength ≡ strengthCount → (position : ℕ) → SoundCard card → position ≤ lastPosition C

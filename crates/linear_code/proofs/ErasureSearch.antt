@@ -58,7 +58,8 @@ module _ (C : Code) (sound : Sound C) (x h : ℕ) (fits : x < 2 ^ C .n) (mask : 
   pub too-many-erased : C .D ≤ erasedBelow unerased (C .n) → Unreadable ≡ erasureReading C unerased (bit x)
   unfolding erasureReading withinErasures
   too-many-erased all =
-      sym (reading-passed _ _ (2 ^ C .k) (λ j l. le-ltb (2 * chunkWrong C unerased (bit x) j + erasedBelow unerased (C .n)) (C .D) (omega arith)))
+      sym (reading-passed _ _ (2 ^ C .k)
+      (λ j l. le-ltb (2 * chunkWrong C unerased (bit x) j + erasedBelow unerased (C .n)) (C .D) (omega arith)))
 
   -- otherwise the search by cut rows within the limit reads the chunk
   pub search-reads : (rows : List ℕ) → ((z : ℕ) → z < C .k → getD rows z 0 ≡ bitAnd (C .row z) h) → (limit : ℕ)

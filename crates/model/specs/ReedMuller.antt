@@ -64,8 +64,8 @@ orderWithinLimits r m = leb 1 m && leb m 6 && leb r m && leb (countOfSets r m) 1
 -- ---- the votes of document 004
 
 -- Its t, v and r are r, m and the round's size s here. Three slips of its text are mended: S has the size of the round, not its t; what
--- was found is taken off, by a sum modulo 2; and in place of its premise, fewer than 2^(m-r-1) damaged bits, a result is accepted only
--- within the radius, at the end.
+-- was found is taken off, by a sum modulo 2; and its bound is that fewer than 2^(m-r-1) bits are damaged, where it prints another exponent.
+-- By document 02 the bound is no premise: a result is accepted only within the radius, at the end.
 
 -- The positions that agree in all variables outside S are a class of S. It is named by its greatest position, the one that has
 -- every bit of S: position p lies in class c when p, joined with S, is c. The sum of y over class c, modulo 2:

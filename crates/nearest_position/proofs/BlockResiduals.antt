@@ -43,7 +43,8 @@ module _ (C : Code) (sound : Sound C) (x : ReceivedWord) where
   unfolding residualUnerased passedTo ResidualsOf
   residuals-of-block i next after inside q room =
       rw after
-      (unerased-ext-left (marked (place (x .unerased))) (wordBits C) (place (x .bits)) (λ p b. word-passed C (promise C sound) i inside q p room b))
+      (unerased-ext-left (marked (place (x .unerased))) (wordBits C) (place (x .bits))
+      (λ p b. word-passed C (promise C sound) i inside q p room b))
 
 -- ---- in arrays
 

@@ -107,7 +107,8 @@ pub seventeen-past-card : (card : ℕ) (rows : List Row) → numbered rows ≡ t
     ≡ unlessContradicted differs (unlessRefused (firstRefusal (refusedAs card ∷ rows)) Refused (At r))
 seventeen-past-card card rows all differs r =
     ⊎-elim
-    (λ (sound : card ≡ 0). rw (past-card card _ Refused (At r) sound, past-card card rows Refused (At r) sound) (seventeen-last rows all differs r))
+    (λ (sound : card ≡ 0). rw (past-card card _ Refused (At r) sound, past-card card rows Refused (At r) sound)
+    (seventeen-last rows all differs r))
     (λ (refused : card ≡ 0 → ⊥).
     rw (refused-by-card card _ Refused (At r) refused, refused-by-card card rows Refused (At r) refused, unless-refused differs card))
     (eq-or-ne card 0)

@@ -1,5 +1,5 @@
--- Document 02, P6, "Separators that contradict the codeword": that a word's separator has the parity of its
--- codeword, that a word is mixed from two telegrams, and what was answered without P6. Assumes nothing.
+-- Document 02, P6, "Separators that contradict the codeword": that a word's separator has the parity of its codeword's number, that a
+-- word is mixed from two telegrams, and what was answered without P6. Assumes nothing.
 use mathlib.Core.Path.{_≡_}
 use mathlib.Core.Bool.{Bool, true, false, cond, not}
 use mathlib.Core.List.{List, _∷_}

@@ -32,7 +32,11 @@ module _ (C : Code) (received : List ℕ) (x : ReceivedWord) (plain : PlainWord 
   unfolding spareSet
   spare-none e =
       any-none _ _ (λ q b. ne-eqb (place received (wordBits C + q)) 1 (λ (one : place received (wordBits C + q) ≡ 1).
-      omega (arith, summand-le (fromPlace (wordBits C) (place (x .bits))) (8 * wordLength C - wordBits C) q b, plain .bits-held (wordBits C + q))))
+      omega (
+        arith,
+        summand-le (fromPlace (wordBits C) (place (x .bits))) (8 * wordLength C - wordBits C) q b,
+        plain .bits-held (wordBits C + q),
+      )))
 
   spare-some : (sumBelow (fromPlace (wordBits C) (place (x .bits))) (8 * wordLength C - wordBits C) ≡ 0 → ⊥) → spareSet C received ≡ true
   spare-some ne = by-test (spareSet C received) refl

@@ -54,7 +54,8 @@ module _ (y set positions sums row rest others v : ℕ) (is : rest ≡ others + 
   new = omega (arith, before .parts v, here, bit-bit set v)
 
   -- the word added to itself, shifted by 2^v
-  shifted : (d : ℕ) → d + 2 ^ v < 64 → bit (bitXor sums (sums * 2 ^ 2 ^ v % 2 ^ 64)) (d + 2 ^ v) ≡ difference (bit sums (d + 2 ^ v)) (bit sums d)
+  shifted : (d : ℕ) → d + 2 ^ v < 64
+      → bit (bitXor sums (sums * 2 ^ 2 ^ v % 2 ^ 64)) (d + 2 ^ v) ≡ difference (bit sums (d + 2 ^ v)) (bit sums d)
   shifted d l =
       bit-xor sums (sums * 2 ^ 2 ^ v % 2 ^ 64) (d + 2 ^ v)
       ∙ ap (difference (bit sums (d + 2 ^ v)))
@@ -134,11 +135,13 @@ module _ (rest : ℕ) (some : rest ≡ 0 → ⊥) where
     lowest-below = rw low-is low-below
 
     pub next-taken : (variables : List ℕ) → variables ≡ variableRows → (y set positions sums row : ℕ) → Taken y set positions sums row rest
-        → Taken y set positions (bitXor sums (sums * 2 ^ (rest - others) % 2 ^ 64)) (bitAnd row (getD variables (trailingZeros 32 rest) 0)) others
+        → Taken y set positions (bitXor sums (sums * 2 ^ (rest - others) % 2 ^ 64))
+        (bitAnd row (getD variables (trailingZeros 32 rest) 0)) others
     next-taken variables are y set positions sums row before =
         let shift : rest - others ≡ 2 ^ low .v = omega (arith, low .parts) in
         rw (shift, low-is)
-        (one-taken y set positions sums row rest others (low .v) (low .parts) (low .clear) before _ (variable-is variables are (low .v) low-below))
+        (one-taken y set positions sums row rest others (low .v) (low .parts) (low .clear) before _
+        (variable-is variables are (low .v) low-below))
 
 -- all of them
 module _ (y set positions sums row rest : ℕ) (taken : Taken y set positions sums row rest) (none : rest ≡ 0) where

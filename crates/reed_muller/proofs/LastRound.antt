@@ -28,7 +28,8 @@ all-classes m = omega (arith, rw (weight-zero m) at (count-of-classes m 0 (pow-p
 module _ (m left : ℕ) (six : m ≤ 6) (narrow : left < 2 ^ 2 ^ m) where
   votes-of-none : votesForOne m 0 (bit left) ≡ ones left
   votes-of-none =
-      sym (votes-counted m 0 (productRow m 0) six refl left left (λ c l has. sym (class-sum-alone 6 (bit left) c l ∙ mod-eq-of-lt (bit-bit left c))))
+      sym (votes-counted m 0 (productRow m 0) six refl left left
+      (λ c l has. sym (class-sum-alone 6 (bit left) c l ∙ mod-eq-of-lt (bit-bit left c))))
       ∙ ap ones (ap (bitAnd left) (product-of-none m) ∙ and-mask left (2 ^ m) ∙ mod-eq-of-lt narrow)
 
   -- with all positions flipped, the ones stand where the zeros stood

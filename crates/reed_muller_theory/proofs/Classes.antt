@@ -134,5 +134,8 @@ classes-apart n S f = rw (sum-exchange (λ c p. member S c p * f p) n n) (sum-mo
 
     once : (p : ℕ) → sumBelow (λ c. member S c p * f p) n ≤ f p
     once p =
-        rw (sum-ext {f = λ c. member S c p * f p} {g = λ c. f p * same (bitOr p S) c} n (λ c l. omega arith), sum-scaled (f p) (same (bitOr p S)) n)
+        rw (
+          sum-ext {f = λ c. member S c p * f p} {g = λ c. f p * same (bitOr p S) c} n (λ c l. omega arith),
+          sum-scaled (f p) (same (bitOr p S)) n,
+        )
         (at-most (f p) (sumBelow (same (bitOr p S)) n) (same-once (bitOr p S) n))

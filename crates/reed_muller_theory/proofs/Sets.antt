@@ -55,7 +55,8 @@ sum-over-sets m (suc r) f =
 
 module _ (r m : ℕ) where
   -- entry by entry
-  pub sum-over-rows : (f : ℕ → ℕ) → sumBelow (λ z. f (setOf r m z)) (countOfSets r m) ≡ sumBelow (where-true (λ S. leb (weight m S) r) f) (2 ^ m)
+  pub sum-over-rows : (f : ℕ → ℕ)
+      → sumBelow (λ z. f (setOf r m z)) (countOfSets r m) ≡ sumBelow (where-true (λ S. leb (weight m S) r) f) (2 ^ m)
   unfolding countOfSets
   sum-over-rows f = sym (sum-over-entries (setsUpTo m r) f) ∙ sum-over-sets m r f
 

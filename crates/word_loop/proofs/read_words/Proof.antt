@@ -125,7 +125,11 @@ take-in-requires c κs =
     let words = few count in (
       first (head come) .pre .0,
       (
-        (omega arith, omega (arith, come .receive-words .ensures .0, come .receive-words .kept .0), few-read _ (head come .loop .inv .4 .streamed)),
+        (
+          omega arith,
+          omega (arith, come .receive-words .ensures .0, come .receive-words .kept .0),
+          few-read _ (head come .loop .inv .4 .streamed),
+        ),
         (omega arith, omega arith),
       ),
     )

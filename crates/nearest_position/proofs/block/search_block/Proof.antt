@@ -1,5 +1,5 @@
--- `nearest_position::block::search_block` meets its contract: the search through the places of the two words meets the positions of the way, by the
--- laws of the block. Assumes nothing.
+-- `nearest_position::block::search_block` meets its contract: the search through the places of the two words meets the positions of the
+-- way, by the laws of the block. Assumes nothing.
 use native.Mathlib.Omega.{arith}
 use borrow.Author.Needs.{needs}
 use Rattle.model.specs.Decoded.{meaning}

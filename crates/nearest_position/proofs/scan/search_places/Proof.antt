@@ -1,5 +1,5 @@
--- `nearest_position::scan::search_places` meets its contract: the search begins at the position whose word is put together of the two words, and
--- passes the places from there. Assumes nothing.
+-- `nearest_position::scan::search_places` meets its contract: the search begins at the position whose word is put together of the two
+-- words, and passes the places from there. Assumes nothing.
 use mathlib.Core.Path.{_≡_, refl, ap, _∙_}
 use borrow.Author.Needs.{needs}
 use Rattle.nearest_position.specs.Scanned.{beginsAt}

@@ -60,7 +60,8 @@ search-block-requires : tie.Need-search-block-requires
 search-block-requires c κs =
     let first = c .before .before .before in
     let started = c .before .before .start-of-block in
-    let begins : started .result + C first .D + c .changed-weight .result ≡ positionAt (C first) (i first) (first .args .p) (C first .D + C first .n) =
+    let begins : started .result + C first .D + c .changed-weight .result
+    ≡ positionAt (C first) (i first) (first .args .p) (C first .D + C first .n) =
     rw (started .ensures, c .changed-weight .ensures .0) (sym (at-separator₂ (C first) (sound first) _ _ (after first) (inside first))) in (
       (sound first, first .pre .0 .2),
       (

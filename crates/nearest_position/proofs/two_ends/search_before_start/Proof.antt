@@ -1,5 +1,5 @@
--- `nearest_position::two_ends::search_before_start` meets its contract: at the first start there is nothing before, and at any other one separator
--- 3 of the block before, which begins D steps before it. Assumes nothing.
+-- `nearest_position::two_ends::search_before_start` meets its contract: at the first start there is nothing before. At any other one the
+-- search goes through separator 3 of the block before, which begins D steps before the start. Assumes nothing.
 use mathlib.Core.Path.{_≡_, _∙_, sym, ap}
 use Prim.Native.Nat.{ℕ, _+_, _-_, _<_}
 use native.Mathlib.Omega.{arith}

@@ -118,7 +118,8 @@ loop-again c =
           let product = w .2 .ensures .1 (first .args .m) (limits first .0) (made at .before .all-positions .ensures) in
           let row = product ∙ ap (productRow (first .args .m)) (set at .0) in
           rw (w .3, w .4) (reached-more _ _ (loop .i) _ _ (inside at) (loop .inv .2) _ (fits then) (own then) row))
-          (λ w. rw (w .1, w .2) (reached-same _ _ (loop .i) _ _ (inside at) (loop .inv .2) (ltb-false _ _ (sym (is-own (c .before)) ∙ w .0 .left))))
+          (λ w. rw (w .1, w .2) (reached-same _ _ (loop .i) _ _ (inside at) (loop .inv .2)
+          (ltb-false _ _ (sym (is-own (c .before)) ∙ w .0 .left))))
           (c .if1 .came),
     )
 

@@ -53,7 +53,8 @@ module _ (c : tie.In-loop Inv-loop μ-loop) where
   abbrev at : ℕ
   at = c .before .loop .at - 1
 
-  here : RoundAt (start .args .m) (start .args .size) (start .args .y) (start .args .rows) (at + 1) (c .before .loop .left) (c .before .loop .found)
+  here :
+      RoundAt (start .args .m) (start .args .size) (start .args .y) (start .args .rows) (at + 1) (c .before .loop .left) (c .before .loop .found)
   here = let back : at + 1 ≡ c .before .loop .at = omega (arith, c .loop-test .taken) in rw back (c .before .loop .inv)
 
   low : setsBefore (start .args .size) ≤ at
