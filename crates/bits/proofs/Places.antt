@@ -18,19 +18,19 @@ use Rattle.bits.proofs.Binary.{bit-ext-below}
 
 -- ---- lists by index
 
-length-listOf : (m : ℕ) (f : ℕ → ℕ) → length (listOf m f) ≡ m
+pub length-listOf : {A : Type 0} (m : ℕ) (f : ℕ → A) → length (listOf m f) ≡ m
 unfolding listOf
 length-listOf zero f = refl
 length-listOf (suc m) f = rw (length-append, length-listOf m f) (omega arith)
 
-pub getD-listOf : (m : ℕ) (f : ℕ → ℕ) (i : ℕ) → i < m → getD (listOf m f) i 0 ≡ f i
+pub getD-listOf : {A : Type 0} (m : ℕ) (f : ℕ → A) (past : A) (i : ℕ) → i < m → getD (listOf m f) i past ≡ f i
 unfolding listOf
-getD-listOf zero f i h = absurd (omega arith)
-getD-listOf (suc m) f i h =
+getD-listOf zero f past i h = absurd (omega arith)
+getD-listOf (suc m) f past i h =
     let before = listOf m f in
     let len = length-listOf m f in
-    ⊎-elim (λ e. rw e (getD-at before (f m) [] 0 m len))
-    (λ l. List·getD-append before (f m ∷ []) 0 i (omega arith) ∙ getD-listOf m f i l)
+    ⊎-elim (λ e. rw e (getD-at before (f m) [] past m len))
+    (λ l. List·getD-append before (f m ∷ []) past i (omega arith) ∙ getD-listOf m f past i l)
     (eq-or-lt-of-le (le-of-suc-le-suc h))
 
 -- ---- binary numbers
@@ -95,7 +95,7 @@ unfolding pack byteOf
 byte-of-places d u bits i =
     ⊎-elim
     (λ h.
-    rw (getD-listOf (bytesFor d) (byteOf (cut d u)) i h)
+    rw (getD-listOf (bytesFor d) (byteOf (cut d u)) 0 i h)
     (number-below (λ q. cut d u (8 * i + q)) (λ q. cut-bit d u bits (8 * i + q)) 8))
     (λ h. rw (past-pack d u i h) (omega arith))
     (lt-or-le i (bytesFor d))
@@ -107,7 +107,7 @@ place-pack d u bits p =
     let split : 8 * (p / 8) + p % 8 ≡ p = omega arith in
     ⊎-elim
     (λ h.
-    rw (getD-listOf (bytesFor d) (byteOf (cut d u)) (p / 8) h)
+    rw (getD-listOf (bytesFor d) (byteOf (cut d u)) 0 (p / 8) h)
     (bit-of-number (λ q. cut d u (8 * (p / 8) + q)) (λ q. cut-bit d u bits (8 * (p / 8) + q)) 8 (p % 8) (omega arith)
     ∙ ap (cut d u) split))
     (λ h. rw (past-pack d u (p / 8) h, cut-above d u p (omega arith), zero-div))

@@ -31,7 +31,7 @@ unfoldable pub byteOf : (u : ℕ → ℕ) (j : ℕ) → ℕ
 byteOf u j = sumBelow (λ q. u (8 * j + q) * 2 ^ q) 8
 
 -- f(0), …, f(m - 1)
-unfoldable pub listOf : (m : ℕ) (f : ℕ → ℕ) → List ℕ
+unfoldable pub listOf : {A : Type 0} (m : ℕ) (f : ℕ → A) → List A
 listOf zero f = []
 listOf (suc m) f = listOf m f ++ (f m ∷ [])
 

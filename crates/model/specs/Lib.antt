@@ -16,3 +16,7 @@ pub mod BlockStart
 pub mod Millimetres
 pub mod MakeCard
 pub mod VoteChunk
+pub mod Trams
+pub mod TramsCrossing
+pub mod TramsWithin
+pub mod NearestTram

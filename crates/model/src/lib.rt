@@ -114,3 +114,29 @@ pub enum VoteAnswer {
     Voted { number: u32, differing: u32 },
     Refused(u32),
 }
+
+// A tram's stretch of the track: from a low to a high position, both included.
+pub struct Stretch {
+    pub low: u32,
+    pub high: u32,
+}
+
+// The trams of a track, in the caller's order: how many there are, and their stretches. Stretches past the count are never looked at.
+pub struct Trams {
+    pub count: usize,
+    pub stretches: [Stretch; 64],
+}
+
+// The answer to a search that says yes or no of each tram, in list order: the refusal's number, or 0, and the answers. Past the count, and
+// where the search is refused, all are no.
+pub struct MarkedTrams {
+    pub refusal: u32,
+    pub yes: [bool; 64],
+}
+
+// The answer to a search for the nearest tram: its place in the list, from 0; that there is no tram; or the refusal.
+pub enum NearestAnswer {
+    Tram(u32),
+    NoTram,
+    Refused(u32),
+}

@@ -24,4 +24,5 @@ pub mod ChunkBits
 pub mod Contradictions
 pub mod WritePromises
 pub mod ReadPromises
+pub mod Margin
 pub mod PositionWitnesses

@@ -23,7 +23,7 @@ use Rattle.reed_muller.specs.Table.{setsBefore, variableRows}
 
 -- a table that lists f of 0 to m - 1
 pub entry-of-table : (table : List ℕ) (m : ℕ) (f : ℕ → ℕ) → table ≡ listOf m f → (i : ℕ) → i < m → getD table i 0 ≡ f i
-entry-of-table table m f e i h = rw e (getD-listOf m f i h)
+entry-of-table table m f e i h = rw e (getD-listOf m f 0 i h)
 
 pub variable-is : (variables : List ℕ) → variables ≡ variableRows → (v : ℕ) → v < 6 → getD variables v 0 ≡ productRow 6 (2 ^ v)
 unfolding variableRows

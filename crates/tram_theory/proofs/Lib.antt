@@ -1,0 +1,4 @@
+pub mod Stretches
+pub mod ServedTrams
+pub mod NearestTrams
+pub mod TramPromises

@@ -1,0 +1,76 @@
+-- Searches that say yes or no of each tram: the refusal stands beside the answers, and a tram is told yes just where the search is served,
+-- the tram is in the list, and the test holds of its widened stretch. Assumes nothing.
+use mathlib.Core.Path.{_≡_, refl, sym, _∙_}
+use mathlib.Core.Bool.{Bool, true, false, cond, false≢true}
+use mathlib.Core.List.{List}
+use mathlib.Core.Logic.{⊎-elim}
+use Prim.Native.Nat.{ℕ, _≤_, _<_}
+use native.Mathlib.Omega.{arith}
+use lib.Dec.{ltb}
+use lib.ListN.{getD, replicate, getD-replicate, List·getD-eq-default}
+use borrow.Author.Tests.{ltb-true, lt-ltb}
+use Rattle.bits.specs.Places.{listOf}
+use Rattle.bits.proofs.Numbers.{lt-or-le, eq-or-ne}
+use Rattle.bits.proofs.Places.{length-listOf, getD-listOf}
+use Rattle.model.specs.Refusals.{unlessRefused}
+use Rattle.model.specs.Card.{Code, cardRefusal, codeOf, SoundCard}
+use Rattle.model.specs.Trams.{mostTrams, widenedAt, tramsRefusal, answersBy, markedUnless, markedOn, markedAnswer}
+use Rattle.model.specs.declared.Stretch.{Stretch}
+use Rattle.model.specs.declared.Trams.{Trams}
+use Rattle.code_theory.proofs.RefusalRows.{served-if-none, refused-if-some, past-card}
+use Rattle.tram_theory.specs.TramPromises.{ToldYes}
+
+-- a test that is made only where another holds
+both : (asked holds : Bool) → cond asked holds false ≡ true → (asked ≡ true) × (holds ≡ true)
+both true holds e = (refl, e)
+both false holds e = absurd (false≢true e)
+
+module _ (test : Stretch → Bool) (stretch : ℕ → Stretch) (count : ℕ) where
+  -- the answer of the tram at place i
+  abbrev answerAt : ℕ → Bool
+  answerAt i = cond (ltb i count) (test (stretch i)) false
+
+  pub yes-if : (i : ℕ) → count ≤ mostTrams → i < count → test (stretch i) ≡ true → getD (answersBy test stretch count) i false ≡ true
+  unfolding answersBy
+  yes-if i few below holds = getD-listOf mostTrams answerAt false i (omega arith) ∙ rw (lt-ltb i count below) holds
+
+  pub yes-only-if : (i : ℕ) → getD (answersBy test stretch count) i false ≡ true → (i < count) × (test (stretch i) ≡ true)
+  unfolding answersBy
+  yes-only-if i told =
+      ⊎-elim
+      (λ (few : i < mostTrams).
+      let (below, holds) = both (ltb i count) _ (sym (getD-listOf mostTrams answerAt false i few) ∙ told) in (ltb-true i count below, holds))
+      (λ (past : mostTrams ≤ i).
+      absurd (false≢true (sym (List·getD-eq-default (listOf mostTrams answerAt) false (rw (length-listOf mostTrams answerAt) past)) ∙ told)))
+      (lt-or-le i mostTrams)
+
+-- the refusal and the answers of a search whose refusal has this number
+module _ (test : Stretch → Bool) (C : Code) (trams : Trams) (refusal : ℕ) where
+  pub marked-refusal : markedUnless refusal test C trams .refusal ≡ refusal
+  unfolding markedUnless
+  marked-refusal =
+      ⊎-elim (λ (e : refusal ≡ 0). rw (served-if-none refusal _ _ e) (sym e))
+      (λ (ne : refusal ≡ 0 → ⊥). rw (refused-if-some refusal _ _ ne)) (eq-or-ne refusal 0)
+
+  pub marked-answers : refusal ≡ 0 → markedUnless refusal test C trams .yes ≡ answersBy test (widenedAt C trams) (trams .count)
+  unfolding markedUnless
+  marked-answers e = rw (served-if-none refusal _ _ e)
+
+  -- where it is refused no tram is told yes
+  pub served-if-told : (i : ℕ) → ToldYes (markedUnless refusal test C trams) i → refusal ≡ 0
+  unfolding markedUnless
+  served-if-told i told =
+      ⊎-elim (λ (e : refusal ≡ 0). e)
+      (λ (ne : refusal ≡ 0 → ⊥). absurd (false≢true (sym (none-of-64 i) ∙ rw (refused-if-some refusal _ _ ne) at told)))
+      (eq-or-ne refusal 0)
+    where
+      none-of-64 : (i : ℕ) → getD (replicate mostTrams false) i false ≡ false
+      none-of-64 i =
+          ⊎-elim (getD-replicate mostTrams i false false) (λ past. List·getD-eq-default (replicate mostTrams false) false past)
+          (lt-or-le i mostTrams)
+
+-- on a sound card the search is answered as for the card's code
+pub marked-sound : (test : Stretch → Bool) (card : List ℕ) (trams : Trams) (first second : ℕ) → SoundCard card
+    → markedAnswer test card trams first second ≡ markedOn test (codeOf card) trams first second
+unfolding markedAnswer markedOn markedUnless tramsRefusal
+marked-sound test card trams first second sound = past-card (cardRefusal card) _ _ _ sound

@@ -1,0 +1,3 @@
+pub mod TramRefusals
+pub mod Passes
+pub mod SearchAnswers
