@@ -6,5 +6,6 @@ pub mod MillimetresContract
 pub mod WriteContract
 pub mod ReadContract
 pub mod LevelsContract
+pub mod TramsContract
 pub mod MadeCardContract
 pub mod VoteContract

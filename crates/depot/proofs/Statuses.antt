@@ -24,6 +24,8 @@ use Rattle.model.specs.Millimetres.{millimetresRefusal, millimetresAnswer, mill
 use Rattle.model.specs.VoteChunk.{voteRefusal, voteAnswer, voteExpected, voteStatus, voteValues}
 use Rattle.model.specs.Levels.{receivedAt, strengthOf}
 use Rattle.model.specs.ReedMuller.{votedNumber, votedDistance}
+use Rattle.model.specs.Trams.{widenedAt}
+use Rattle.model.specs.NearestTram.{nearestRefusal, nearestAnswer, nearestExpected, nearestStatus, nearestValues}
 use Rattle.model.specs.declared.CardAnswer.the-variants.{Sound, Refused as CardRefused}
 use Rattle.model.specs.declared.WriteAnswer.{WriteAnswer}
 use Rattle.model.specs.declared.WriteAnswer.the-variants.{Written, Refused as WriteRefused}
@@ -33,7 +35,10 @@ use Rattle.model.specs.declared.LevelsAnswer.the-variants.{At as LevelsAt, Refu
 use Rattle.model.specs.declared.NumberAnswer.the-variants.{Number, Refused as NumberRefused}
 use Rattle.model.specs.declared.MillimetresAnswer.the-variants.{Millimetres, Refused as MillimetresRefused}
 use Rattle.model.specs.declared.VoteAnswer.the-variants.{Voted, Refused as VoteRefused}
+use Rattle.model.specs.declared.Trams.{Trams}
+use Rattle.model.specs.declared.NearestAnswer.the-variants.{Refused as NearestRefused}
 use Rattle.code_theory.proofs.RefusalRows.{served-if-none, refused-if-some}
+use Rattle.tram_theory.proofs.NearestTrams.{no-refusal}
 
 -- what a contract says of an answer's status and values
 abbrev pub StatusAndValues : {A B : Type 0} (status : A → ℕ) (values : A → List B) (refusal : ℕ) (expected : List B) (answer : A) → Type 0
@@ -117,6 +122,14 @@ vote-answered r m chunk =
     status-and-values voteStatus voteValues (voteRefusal r m chunk) (voteExpected r m chunk) VoteRefused
     (Voted (votedNumber r m (bit chunk)) (votedDistance r m (bit chunk)))
     (λ number. refl) (λ number. refl) refl refl
+
+pub nearest-answered : (card : List ℕ) (trams : Trams) (mark : ℕ)
+    → StatusAndValues nearestStatus nearestValues (nearestRefusal card trams mark) (nearestExpected card trams mark)
+    (nearestAnswer card trams mark)
+unfolding nearestAnswer nearestStatus nearestValues nearestExpected
+nearest-answered card trams mark =
+    status-and-values nearestStatus nearestValues (nearestRefusal card trams mark) (nearestExpected card trams mark) NearestRefused _
+    (λ number. refl) (λ number. refl) (no-refusal mark (widenedAt (codeOf card) trams) (trams .count)) refl
 
 -- a write has no values, served or refused
 pub no-write-values : (answer : WriteAnswer) → writeValues answer ≡ []

@@ -7,12 +7,16 @@
 pub mod cards;
 mod codes;
 mod level_words;
+mod marks;
 mod words;
 
 pub use cards::check_card;
 pub use codes::make_card;
 pub use codes::vote_chunk;
 pub use level_words::read_levels;
+pub use marks::nearest_tram;
+pub use marks::trams_crossing;
+pub use marks::trams_within;
 pub use words::block_start;
 pub use words::millimetres;
 pub use words::read_word;

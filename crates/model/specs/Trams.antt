@@ -77,3 +77,7 @@ markedOn test C trams first second = markedUnless (firstRefusal (rowsOfTrams (la
 -- the answer
 unfoldable pub markedAnswer : (test : Stretch → Bool) (card : List ℕ) → Trams → (first second : ℕ) → MarkedTrams
 markedAnswer test card trams first second = markedUnless (tramsRefusal card trams first second) test (codeOf card) trams
+
+-- the values of an answer for so many trams, in list order: 1 for yes, 0 for no
+unfoldable pub yesValues : (count : ℕ) → MarkedTrams → List ℕ
+yesValues count answer = listOf count (λ i. cond (getD (answer .yes) i false) 1 0)

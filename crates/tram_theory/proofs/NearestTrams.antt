@@ -11,7 +11,7 @@ use lib.Dec.{ltb, eqb}
 use borrow.Author.Tests.{ltb-true, ltb-false, eqb-true, eq-eqb}
 use Rattle.bits.proofs.Numbers.{true-or-false, not-true, lt-or-le, by-test, or-false-left, or-false-right, and-true-left, and-true-right}
 use Rattle.model.specs.TramsCrossing.{crosses}
-use Rattle.model.specs.NearestTram.{apart, distanceTo, goesBefore, nearestUpTo, nearestOf}
+use Rattle.model.specs.NearestTram.{apart, distanceTo, goesBefore, nearestUpTo, nearestOf, nearestStatus}
 use Rattle.model.specs.declared.Stretch.{Stretch}
 use Rattle.model.specs.declared.NearestAnswer.the-variants.{Tram, NoTram}
 use Rattle.tram_theory.specs.Stretches.{Holds}
@@ -157,3 +157,9 @@ module _ (mark : ℕ) (stretch : ℕ → Stretch) where
   unfolding nearestOf
   none-found zero e = refl
   none-found (suc m) e = let z : _≡_ {A = ℕ} 0 1 = cc in absurd (omega arith)
+
+  -- of no trams or of some, no refusal is answered
+  pub no-refusal : (count : ℕ) → nearestStatus (nearestOf mark stretch count) ≡ 0
+  unfolding nearestOf nearestStatus
+  no-refusal zero = refl
+  no-refusal (suc m) = refl

@@ -17,7 +17,7 @@ use Rattle.model.specs.Card.{Code, cardRefusal, codeOf, SoundCard}
 use Rattle.model.specs.Trams.{mostTrams, widenedAt, tramsRefusal, answersBy, markedUnless, markedOn, markedAnswer}
 use Rattle.model.specs.declared.Stretch.{Stretch}
 use Rattle.model.specs.declared.Trams.{Trams}
-use Rattle.code_theory.proofs.RefusalRows.{served-if-none, refused-if-some, past-card}
+use Rattle.code_theory.proofs.RefusalRows.{served-if-none, refused-if-some, refused-by-card, past-card}
 use Rattle.tram_theory.specs.TramPromises.{ToldYes}
 
 -- a test that is made only where another holds
@@ -69,8 +69,17 @@ module _ (test : Stretch → Bool) (C : Code) (trams : Trams) (refusal : ℕ) wh
           ⊎-elim (getD-replicate mostTrams i false false) (λ past. List·getD-eq-default (replicate mostTrams false) false past)
           (lt-or-le i mostTrams)
 
--- on a sound card the search is answered as for the card's code
-pub marked-sound : (test : Stretch → Bool) (card : List ℕ) (trams : Trams) (first second : ℕ) → SoundCard card
-    → markedAnswer test card trams first second ≡ markedOn test (codeOf card) trams first second
-unfolding markedAnswer markedOn markedUnless tramsRefusal
-marked-sound test card trams first second sound = past-card (cardRefusal card) _ _ _ sound
+-- the answer to a card's trams: its refusal stands beside the answers; a refused card refuses; on a sound card it is that for its code
+module _ (test : Stretch → Bool) (card : List ℕ) (trams : Trams) (first second : ℕ) where
+  pub marked-status : markedAnswer test card trams first second .refusal ≡ tramsRefusal card trams first second
+  unfolding markedAnswer
+  marked-status = marked-refusal test (codeOf card) trams (tramsRefusal card trams first second)
+
+  pub marked-by-card : (cardRefusal card ≡ 0 → ⊥)
+      → markedAnswer test card trams first second ≡ record { refusal = cardRefusal card; yes = replicate mostTrams false }
+  unfolding markedAnswer markedUnless tramsRefusal
+  marked-by-card refused = refused-by-card (cardRefusal card) _ _ _ refused
+
+  pub marked-sound : SoundCard card → markedAnswer test card trams first second ≡ markedOn test (codeOf card) trams first second
+  unfolding markedAnswer markedOn markedUnless tramsRefusal
+  marked-sound sound = past-card (cardRefusal card) _ _ _ sound

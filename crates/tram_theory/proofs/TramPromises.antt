@@ -24,7 +24,7 @@ use Rattle.tram_theory.specs.TramPromises.{ToldYes, ToldExactly, NoneMis
 use Rattle.tram_theory.specs.TramPromises.{IsNearest, NearestOfAll, ZeroIfCrossing, NoneCloser, NearestPromises}
 use Rattle.tram_theory.proofs.Stretches.{on-track, widened-in-order, widened-holds-both}
 use Rattle.tram_theory.proofs.Stretches.{crosses-if, crosses-only-if, within-if, within-only-if}
-use Rattle.tram_theory.proofs.ServedTrams.{yes-if, yes-only-if, marked-refusal, marked-answers, served-if-told}
+use Rattle.tram_theory.proofs.ServedTrams.{yes-if, yes-only-if, marked-refusal, marked-answers, marked-status, served-if-told}
 use Rattle.tram_theory.proofs.NearestTrams.{crossing-at-0, at-0-crossing, no-farther, found, none-found, of-no-trams}
 
 -- ---- trams of a search that is served
@@ -78,12 +78,6 @@ module _ (Test : Stretch → Type 0) (test : Stretch → Bool)
             (number ∙ is, below, only-if (widenedAt C trams i) holds);
       }
 
--- a search's refusal is the one that stands beside its answers
-refusal-told : (test : Stretch → Bool) (card : List ℕ) (trams : Trams) (first second : ℕ)
-    → markedAnswer test card trams first second .refusal ≡ tramsRefusal card trams first second
-unfolding markedAnswer
-refusal-told test card trams first second = marked-refusal test (codeOf card) trams (tramsRefusal card trams first second)
-
 pub crossing-promises : (card : List ℕ) (trams : Trams) (mark : ℕ) → CrossingPromises card trams mark (crossingAnswer card trams mark)
 unfolding NoneMissed
 crossing-promises card trams mark =
@@ -91,7 +85,7 @@ crossing-promises card trams mark =
     record {
       exactly = exactly;
       none-missed = λ i a b none below stands from to.
-          let (sound, placed) = served card trams mark mark (sym (refusal-told (crosses mark) card trams mark mark) ∙ none) in
+          let (sound, placed) = served card trams mark mark (sym (marked-status (crosses mark) card trams mark mark) ∙ none) in
           exactly .yes i none below (holds-between card trams sound placed i below a b mark stands from to);
     }
 
@@ -107,7 +101,7 @@ within-promises card trams first second =
       truly = λ i a b told stands.
           let (none, below, (low, high)) = exactly .only i told in
           let (sound, placed) =
-          served card trams first second (sym (refusal-told (liesWithin first second) card trams first second) ∙ none) in
+          served card trams first second (sym (marked-status (liesWithin first second) card trams first second) ∙ none) in
           let ((low-a, high-a), (low-b, high-b)) = holds-both card trams sound placed i below a b stands in
           ((omega arith, omega arith), (omega arith, omega arith));
     }
