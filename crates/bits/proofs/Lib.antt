@@ -7,6 +7,7 @@ pub mod Walk
 pub mod Binary
 pub mod Searches
 pub mod Places
+pub mod FilledLists
 pub mod ByteLists
 pub mod Masks
 pub mod LowestOne

@@ -1,4 +1,6 @@
 pub mod Lent
+pub mod LentTrams
+pub mod TramsCross
 pub mod Inherited
 pub mod ReadsDecode
 pub mod NearAnswers

@@ -6,7 +6,10 @@ use mathlib.Core.Path.{_≡_}
 use mathlib.Core.Bool.{cond}
 use mathlib.Core.List.{List}
 use lib.Dec.{eqb}
-use lib.ListN.{length}
+use lib.ListN.{length, getD}
+use Rattle.bits.specs.Places.{listOf}
+use Rattle.model.specs.Trams.{mostTrams}
+use Rattle.model.specs.declared.Trams.{Trams}
 
 -- How many values a call answers where it is served: a check of a card, a read, a block's start or a distance, and a vote.
 abbrev pub cardCount : ℕ
@@ -28,6 +31,15 @@ strengthCount = 2
 -- how many bytes a card has: those that are lent for one to be made
 abbrev pub cardBytes : ℕ
 cardBytes = 512
+
+-- The trams that a caller hands over as lows and highs: as many as there are lows, and the first 64 of their stretches. (A list has 0 past
+-- its end.)
+unfoldable pub tramsLent : (lows highs : List ℕ) → Trams
+tramsLent lows highs =
+    record {
+      count = length lows;
+      stretches = listOf mostTrams (λ i. record { low = getD lows i 0; high = getD highs i 0 });
+    }
 
 -- The status of a call whose lent numbers, or bytes, are not exactly as many as its answer has values. It is above every refusal.
 abbrev pub wrongCount : ℕ

@@ -1,14 +1,17 @@
 -- For each call for C, the library's answer that a status and the numbers left stand for: the refusal by the status or, where that is 0,
 -- the answer that has these numbers. It is a function, so whatever is promised of an answer is promised of what a call leaves, and nothing
 -- of it is vacuous. Assumes nothing.
-use mathlib.Core.Bool.{cond}
+use mathlib.Core.Bool.{false, cond}
 use mathlib.Core.List.{List}
 use Prim.Native.Nat.{ℕ}
 use lib.Dec.{eqb}
 use lib.IntN.{ℤ, pos}
-use lib.ListN.{getD}
+use lib.ListN.{getD, replicate}
+use Rattle.bits.specs.Places.{listOf}
 use Rattle.model.specs.Refusals.{unlessRefused}
 use Rattle.model.specs.Reading.{notRead}
+use Rattle.model.specs.Trams.{mostTrams}
+use Rattle.model.specs.NearestTram.{noTram}
 use Rattle.model.specs.declared.CardSummary.{CardSummary}
 use Rattle.model.specs.declared.CardAnswer.{CardAnswer}
 use Rattle.model.specs.declared.CardAnswer.the-variants.{Sound, Refused as CardRefused}
@@ -23,6 +26,9 @@ use Rattle.model.specs.declared.MillimetresAnswer.{MillimetresAnswer}
 use Rattle.model.specs.declared.MillimetresAnswer.the-variants.{Millimetres, Refused as MillimetresRefused}
 use Rattle.model.specs.declared.VoteAnswer.{VoteAnswer}
 use Rattle.model.specs.declared.VoteAnswer.the-variants.{Voted, Refused as VoteRefused}
+use Rattle.model.specs.declared.MarkedTrams.{MarkedTrams}
+use Rattle.model.specs.declared.NearestAnswer.{NearestAnswer}
+use Rattle.model.specs.declared.NearestAnswer.the-variants.{Tram, NoTram, Refused as NearestRefused}
 
 -- ---- a check of a card: n, k, track, D, t, d and the last position
 
@@ -79,3 +85,19 @@ millimetresLeft status left = unlessRefused status MillimetresRefused (Millimetr
 
 unfoldable pub voteLeft : (status : ℕ) (left : List ℕ) → VoteAnswer
 voteLeft status left = unlessRefused status VoteRefused (Voted (getD left 0 0) (getD left 1 0))
+
+-- ---- a search that says yes or no of each tram: 1 for yes, and no past the numbers left
+
+unfoldable pub markedLeft : (status : ℕ) (left : List ℕ) → MarkedTrams
+markedLeft status left =
+    unlessRefused status
+    (λ number. record { refusal = number; yes = replicate mostTrams false })
+    (record { refusal = 0; yes = listOf mostTrams (λ i. eqb (getD left i 0) 1) })
+
+-- ---- a search for the nearest tram: its place, or that there is none
+
+unfoldable pub placeLeft : (left : ℕ) → NearestAnswer
+placeLeft left = cond (eqb left noTram) NoTram (Tram left)
+
+unfoldable pub nearestLeft : (status : ℕ) (left : List ℕ) → NearestAnswer
+nearestLeft status left = unlessRefused status NearestRefused (placeLeft (getD left 0 0))

@@ -1,22 +1,25 @@
 -- Decoding loses nothing: the answer that a status and the numbers left stand for has that status and, where the call was served, those
 -- numbers for its values. So what is promised of the decoded answer is promised of just what a caller in C was left. No two answers have
--- the same status and values, with two exceptions: a write that is done has the status of a refusal by 0, and a chunk that was not read has
--- a number that could be a count. Of these two, rows say which is meant. Assumes nothing.
+-- the same status and values, with three exceptions: a write that is done has the status of a refusal by 0, a chunk that was not read has
+-- a number that could be a count, and no tram one that could be a place. Of these three, rows say which is meant. Assumes nothing.
 use mathlib.Core.Path.{_≡_}
 use mathlib.Core.List.{List, [], _∷_}
-use Prim.Native.Nat.{ℕ}
-use lib.ListN.{length}
+use Prim.Native.Nat.{ℕ, _≤_, _<_}
+use lib.ListN.{length, getD}
 use Rattle.model.specs.Reading.{notRead}
 use Rattle.model.specs.CheckCard.{cardStatus, cardValues}
 use Rattle.model.specs.WriteWord.{writeStatus}
 use Rattle.model.specs.ReadWord.{readStatus, readValues}
 use Rattle.model.specs.Millimetres.{millimetresStatus, millimetresValues}
 use Rattle.model.specs.VoteChunk.{voteStatus, voteValues}
+use Rattle.model.specs.Trams.{mostTrams, yesValues}
+use Rattle.model.specs.NearestTram.{noTram, nearestStatus, nearestValues}
 use Rattle.model.specs.declared.WriteAnswer.the-variants.{Written}
 use Rattle.model.specs.declared.ChunkBits.the-variants.{Differing, NotRead}
 use Rattle.model.specs.declared.ReadAnswer.the-variants.{At}
+use Rattle.model.specs.declared.NearestAnswer.the-variants.{Tram, NoTram}
 use Rattle.dunnavish.specs.Crossing.{cardCount, readCount, numberCount, voteCount}
-use Rattle.dunnavish.specs.Decoding.{cardLeft, writeLeft, readLeft, millimetresLeft, voteLeft}
+use Rattle.dunnavish.specs.Decoding.{cardLeft, writeLeft, readLeft, millimetresLeft, voteLeft, markedLeft, nearestLeft}
 
 -- of a call that answers `count` values: every status, and where it is 0 every `count` numbers, are those of the answer decoded
 pub record Kept {A B : Type 0} (status : A → ℕ) (values : A → List B) (decoded : (s : ℕ) (left : List B) → A) (count : ℕ) : Type 0 where
@@ -29,9 +32,15 @@ pub record LosslessDecoding : Type 0 where
   pub read : Kept readStatus readValues readLeft readCount
   pub distance : Kept millimetresStatus millimetresValues millimetresLeft numberCount
   pub vote : Kept voteStatus voteValues voteLeft voteCount
+  pub nearest : Kept nearestStatus nearestValues nearestLeft numberCount
+  -- of a search that says yes or no of each tram: every status, and where it is 0 every answer of at most 64 trams
+  pub marked-status : (s : ℕ) (left : List ℕ) → markedLeft s left .refusal ≡ s
+  pub marked : (left : List ℕ) → length left ≤ mostTrams → ((i : ℕ) → getD left i 0 < 2) → yesValues (length left) (markedLeft 0 left) ≡ left
   pub write : (s : ℕ) → writeStatus (writeLeft s) ≡ s
   pub written : writeLeft 0 ≡ Written
   pub by-rule-1 : readLeft 0 (7 ∷ 3 ∷ 1 ∷ 2 ∷ notRead ∷ [])
       ≡ At (record { position = 7; residual = 3; rule = 1; chunk1 = Differing 2; chunk2 = NotRead })
   pub by-rule-2 : readLeft 0 (7 ∷ 3 ∷ 2 ∷ notRead ∷ 0 ∷ [])
       ≡ At (record { position = 7; residual = 3; rule = 2; chunk1 = NotRead; chunk2 = Differing 0 })
+  pub last-place : nearestLeft 0 (63 ∷ []) ≡ Tram 63
+  pub no-place : nearestLeft 0 (noTram ∷ []) ≡ NoTram

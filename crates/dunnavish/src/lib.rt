@@ -9,12 +9,16 @@
 mod cards;
 mod codes;
 mod level_words;
+mod marks;
 mod words;
 
 pub use cards::dunnavish_check_card;
 pub use codes::dunnavish_make_card;
 pub use codes::dunnavish_vote_chunk;
 pub use level_words::dunnavish_read_levels;
+pub use marks::dunnavish_nearest_tram;
+pub use marks::dunnavish_trams_crossing;
+pub use marks::dunnavish_trams_within;
 pub use words::dunnavish_block_start;
 pub use words::dunnavish_millimetres;
 pub use words::dunnavish_read_word;

@@ -8,10 +8,11 @@ use Prim.Native.Nat.{ℕ, zero, suc, _+_, _-_, _≤_, _<_, min}
 use native.Mathlib.Nat.{eq-or-lt-of-le, le-of-suc-le-suc}
 use native.Mathlib.Omega.{arith}
 use lib.Dec.{ltb, eqb}
+use lib.ListN.{length}
 use borrow.Author.Tests.{ltb-true, ltb-false, eqb-true, eq-eqb}
 use Rattle.bits.proofs.Numbers.{true-or-false, not-true, lt-or-le, by-test, or-false-left, or-false-right, and-true-left, and-true-right}
 use Rattle.model.specs.TramsCrossing.{crosses}
-use Rattle.model.specs.NearestTram.{apart, distanceTo, goesBefore, nearestUpTo, nearestOf, nearestStatus}
+use Rattle.model.specs.NearestTram.{apart, distanceTo, goesBefore, nearestUpTo, nearestOf, nearestStatus, nearestValues}
 use Rattle.model.specs.declared.Stretch.{Stretch}
 use Rattle.model.specs.declared.NearestAnswer.the-variants.{Tram, NoTram}
 use Rattle.tram_theory.specs.Stretches.{Holds}
@@ -158,8 +159,13 @@ module _ (mark : ℕ) (stretch : ℕ → Stretch) where
   none-found zero e = refl
   none-found (suc m) e = let z : _≡_ {A = ℕ} 0 1 = cc in absurd (omega arith)
 
-  -- of no trams or of some, no refusal is answered
+  -- of no trams or of some, no refusal is answered, and there is a value
   pub no-refusal : (count : ℕ) → nearestStatus (nearestOf mark stretch count) ≡ 0
   unfolding nearestOf nearestStatus
   no-refusal zero = refl
   no-refusal (suc m) = refl
+
+  pub one-value : (count : ℕ) → eqb (length (nearestValues (nearestOf mark stretch count))) 0 ≡ false
+  unfolding nearestOf nearestValues
+  one-value zero = refl
+  one-value (suc m) = refl

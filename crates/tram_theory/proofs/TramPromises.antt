@@ -30,7 +30,7 @@ use Rattle.tram_theory.proofs.NearestTrams.{crossing-at-0, at-0-crossin
 -- ---- trams of a search that is served
 
 module _ (card : List ℕ) (trams : Trams) where
-  served : (first second : ℕ) → tramsRefusal card trams first second ≡ 0 → SoundCard card × OnTrack (lastPosition (codeOf card)) trams
+  pub served : (first second : ℕ) → tramsRefusal card trams first second ≡ 0 → SoundCard card × OnTrack (lastPosition (codeOf card)) trams
   unfolding tramsRefusal
   served first second none =
       let (sound, rows) = none-past-card (cardRefusal card) (rowsOfTrams (lastPosition (codeOf card)) trams first second) none in

@@ -1,18 +1,12 @@
 -- One pass through the list of trams: the answers so far and one more, and the nearest so far and the next tram. Assumes nothing.
-use mathlib.Core.Path.{_≡_, refl, sym, ap, _∙_}
+use mathlib.Core.Path.{_≡_, _∙_}
 use mathlib.Core.Bool.{Bool, true, false, cond}
 use mathlib.Core.List.{List}
-use mathlib.Core.Logic.{⊎-elim}
 use Prim.Native.Nat.{ℕ, zero, suc, _+_, _-_, _≤_, _<_, min}
 use native.Mathlib.Numerals.{add-one}
 use native.Mathlib.Omega.{arith}
-use lib.Dec.{ltb}
-use lib.ListN.{getD, set, replicate, length, length-set}
-use lib.Seq.{ext-getD, getD-set-same, getD-set-other}
-use borrow.Author.Tests.{lt-ltb, le-ltb}
-use Rattle.bits.specs.Places.{listOf}
-use Rattle.bits.proofs.Numbers.{lt-or-le, eq-or-ne}
-use Rattle.bits.proofs.Places.{length-listOf, getD-listOf}
+use lib.ListN.{getD, set, replicate}
+use Rattle.bits.proofs.FilledLists.{filled-none, filled-more}
 use Rattle.model.specs.Trams.{mostTrams, stretchAt, widened, answersBy}
 use Rattle.model.specs.NearestTram.{goesBefore, nearestUpTo, nearestOf}
 use Rattle.model.specs.declared.Stretch.{Stretch}
@@ -40,38 +34,13 @@ wide-in-order margin last trams placed i below =
 -- ---- answers
 
 module _ (test : Stretch → Bool) (stretch : ℕ → Stretch) where
-  answer : (count p : ℕ) → p < mostTrams → getD (answersBy test stretch count) p false ≡ cond (ltb p count) (test (stretch p)) false
-  unfolding answersBy
-  answer count p below = getD-listOf mostTrams _ false p below
-
-  pub all-answers : (count : ℕ) → length (answersBy test stretch count) ≡ mostTrams
-  unfolding answersBy
-  all-answers count = length-listOf mostTrams _
-
   pub no-answers : replicate mostTrams false ≡ answersBy test stretch 0
-  unfolding answersBy listOf
-  no-answers = refl
+  unfolding answersBy
+  no-answers = filled-none mostTrams (λ i. test (stretch i)) false
 
   pub one-answer-more : (i : ℕ) → i < mostTrams → set (answersBy test stretch i) i (test (stretch i)) ≡ answersBy test stretch (i + 1)
-  one-answer-more i few =
-      let so-far = answersBy test stretch i in
-      ext-getD false (set so-far i (test (stretch i))) (answersBy test stretch (i + 1))
-      (length-set so-far i (test (stretch i)) ∙ all-answers i ∙ sym (all-answers (i + 1)))
-      (λ p below.
-      let p-few : p < mostTrams = omega (arith, length-set so-far i (test (stretch i)), all-answers i) in
-      ⊎-elim
-      (λ (here : p ≡ i).
-      rw (answer (i + 1) p p-few, here, lt-ltb i (i + 1) (omega arith))
-      (getD-set-same so-far i (test (stretch i)) false (omega (arith, all-answers i))))
-      (λ (elsewhere : p ≡ i → ⊥).
-      rw (answer (i + 1) p p-few, getD-set-other so-far i p (test (stretch i)) false elsewhere, answer i p p-few)
-      (same-test p i elsewhere))
-      (eq-or-ne p i))
-    where
-      same-test : (p i : ℕ) → (p ≡ i → ⊥) → cond (ltb p i) (test (stretch p)) false ≡ cond (ltb p (i + 1)) (test (stretch p)) false
-      same-test p i elsewhere =
-          ⊎-elim (λ (below : p < i). rw (lt-ltb p i below, lt-ltb p (i + 1) (omega arith)))
-          (λ (above : i ≤ p). rw (le-ltb p i above, le-ltb p (i + 1) (omega arith))) (lt-or-le p i)
+  unfolding answersBy
+  one-answer-more = filled-more mostTrams (λ i. test (stretch i)) false
 
 -- ---- the nearest
 

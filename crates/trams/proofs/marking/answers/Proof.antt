@@ -6,7 +6,7 @@ use native.Mathlib.Omega.{arith}
 use borrow.Author.Needs.{needs}
 use Rattle.model.specs.Trams.{answersBy}
 use Rattle.trams.specs.Searches.{testOf}
-use Rattle.trams.proofs.Passes.{wideAt, all-answers, no-answers, one-answer-more}
+use Rattle.trams.proofs.Passes.{wideAt, no-answers, one-answer-more}
 use Rattle.trams.proofs.marking.answers.Statement.{statement}
 use Rattle.trams.proofs.marking.answers.Tie as tie
 
@@ -24,9 +24,6 @@ widened-stretch-requires : tie.Need-widened-stretch-requires Inv-loop μ-loop
 widened-stretch-requires c κs =
     let first = c .before .before .before .before in
     (first .pre .0 .below-last (c .before .before .loop .i) (omega arith), first .pre .1)
-
-array-write-yes : tie.Need-array-write-yes Inv-loop μ-loop
-array-write-yes c = search needs
 
 loop-again : tie.Need-loop-again Inv-loop μ-loop
 loop-again c =
@@ -53,7 +50,7 @@ answers-spec =
     (λ c. search needs)
     widened-stretch-requires
     (λ c κs. search needs)
-    array-write-yes
+    (λ c. search needs)
     (λ c. search needs)
     (λ c. search needs)
     loop-again

@@ -23,9 +23,6 @@ abbrev μ-loop : tie.MeasureT-loop
 returns : tie.Need-returns Inv-loop μ-loop
 returns c = sym (of-no-trams _ _ _ (c .if1 .taken))
 
-array-copy-out-widened-stretch : tie.Need-array-copy-out-widened-stretch Inv-loop μ-loop
-array-copy-out-widened-stretch c = search needs
-
 widened-stretch-requires : tie.Need-widened-stretch-requires Inv-loop μ-loop
 widened-stretch-requires c κs =
     let first = c .before .before .before in (first .pre .0 .below-last 0 (omega arith), first .pre .1)
@@ -33,12 +30,6 @@ widened-stretch-requires c κs =
 loop-holds : tie.Need-loop-holds Inv-loop μ-loop
 unfolding nearestOf nearestUpTo
 loop-holds c = (omega arith, omega arith, c .widened-stretch .ensures, refl)
-
-mul-widened-stretch : tie.Need-mul-widened-stretch Inv-loop μ-loop
-mul-widened-stretch c = search needs
-
-array-copy-out-widened-stretch-2 : tie.Need-array-copy-out-widened-stretch-2 Inv-loop μ-loop
-array-copy-out-widened-stretch-2 c = search needs
 
 widened-stretch-requires-2 : tie.Need-widened-stretch-requires-2 Inv-loop μ-loop
 widened-stretch-requires-2 c κs =
@@ -54,12 +45,6 @@ goes-before-requires c κs =
       rw (turn .loop .inv .2) (wide-in-order _ _ _ placed (turn .loop .place) (omega arith)),
     )
 
-add-i : tie.Need-add-i Inv-loop μ-loop
-add-i c = search needs
-
-loop-less : tie.Need-loop-less Inv-loop μ-loop
-loop-less c = search needs
-
 loop-again : tie.Need-loop-again Inv-loop μ-loop
 loop-again c =
     let turn = c .before .before .before .before .before in
@@ -70,9 +55,6 @@ loop-again c =
     (λ w.
     rw (w .1, w .2) (omega arith, omega arith, turn .loop .inv .2, no-nearer _ _ (turn .loop .i) (turn .loop .place) (turn .loop .inv .3) (sym tested ∙ w .0 .left)))
     (c .if2 .came)
-
-cast-t21 : tie.Need-cast-t21 Inv-loop μ-loop
-cast-t21 c = search needs
 
 returns-2 : tie.Need-returns-2 Inv-loop μ-loop
 returns-2 c =
@@ -87,15 +69,15 @@ nearest-of-spec =
     Inv-loop
     μ-loop
     returns
-    array-copy-out-widened-stretch
+    (λ c. search needs)
     widened-stretch-requires
     loop-holds
-    mul-widened-stretch
-    array-copy-out-widened-stretch-2
+    (λ c. search needs)
+    (λ c. search needs)
     widened-stretch-requires-2
     goes-before-requires
-    add-i
-    loop-less
+    (λ c. search needs)
+    (λ c. search needs)
     loop-again
-    cast-t21
+    (λ c. search needs)
     returns-2)
