@@ -19,20 +19,25 @@ module _ (lows highs : List ℕ) where
   abbrev lentStretch : (j : ℕ) → Stretch
   lentStretch j = record { low = getD lows j 0; high = getD highs j 0 }
 
-  abbrev pub putDown : (i : ℕ) → List Stretch
+  abbrev putDown : (i : ℕ) → List Stretch
   putDown i = filled mostTrams lentStretch noStretch i
 
-  pub none-put-down : replicate mostTrams noStretch ≡ putDown 0
-  none-put-down = filled-none mostTrams lentStretch noStretch
+  -- the trams once the stretches below i are put down
+  abbrev pub tramsUpTo : (i : ℕ) → Trams
+  tramsUpTo i = record { count = length lows; stretches = putDown i }
 
-  pub one-put-down : (i : ℕ) → i < mostTrams → set (putDown i) i (lentStretch i) ≡ putDown (i + 1)
-  one-put-down = filled-more mostTrams lentStretch noStretch
+  pub none-put-down : _≡_ {A = Trams} (record { count = length lows; stretches = replicate mostTrams noStretch }) (tramsUpTo 0)
+  none-put-down = rw (filled-none mostTrams lentStretch noStretch)
+
+  pub one-put-down : (i : ℕ) → i < mostTrams
+      → _≡_ {A = Trams} (record { count = length lows; stretches = set (putDown i) i (lentStretch i) }) (tramsUpTo (i + 1))
+  one-put-down i few = rw (filled-more mostTrams lentStretch noStretch i few)
 
   -- all that there are, or 64
   pub all-put-down : length highs ≡ length lows → (held : ℕ) → ((j : ℕ) → held ≤ j → j < mostTrams → length lows ≤ j)
-      → _≡_ {A = Trams} (record { count = length lows; stretches = putDown held }) (tramsLent lows highs)
+      → tramsUpTo held ≡ tramsLent lows highs
   unfolding tramsLent
-  all-put-down alike held rest = rw (filled-all mostTrams lentStretch noStretch held past) refl
+  all-put-down alike held rest = rw (filled-all mostTrams lentStretch noStretch held past)
     where
       past : (j : ℕ) → held ≤ j → j < mostTrams → noStretch ≡ lentStretch j
       past j above below =

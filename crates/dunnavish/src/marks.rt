@@ -26,16 +26,19 @@ fn trams_lent(lows: &[u32], highs: &[u32]) -> Trams
 {
     let count = lows.len();
     let held = if count < 64 { count } else { 64 };
-    let mut stretches = [Stretch { low: 0, high: 0 }; 64];
+    let mut trams = Trams {
+        count,
+        stretches: [Stretch { low: 0, high: 0 }; 64],
+    };
     let mut i: usize = 0;
     while i < held {
-        stretches[i] = Stretch {
+        trams.stretches[i] = Stretch {
             low: lows[i],
             high: highs[i],
         };
         i += 1;
     }
-    Trams { count, stretches }
+    trams
 }
 
 // The answers of trams into as many lent bytes: 1 for yes, 0 for no.

@@ -43,14 +43,16 @@ widenedAt C trams i = widened (margin C) (lastPosition C) (stretchAt trams i)
 unfoldable pub misplacedPair : (last low high : ℕ) → Bool
 misplacedPair last low high = ltb high low || ltb last high
 
--- rows 18 and 19 of the table. A search for one mark has it as both marks of the pair
+-- the pair of marks, or some stretch, is so. A search for one mark has it as both marks of the pair
+unfoldable pub anyMisplaced : (last : ℕ) → Trams → (first second : ℕ) → Bool
+anyMisplaced last trams first second =
+    misplacedPair last first second
+    || anyBelow (λ i. misplacedPair last (stretchAt trams i .low) (stretchAt trams i .high)) (trams .count)
+
+-- rows 18 and 19 of the table
 unfoldable pub rowsOfTrams : (last : ℕ) → Trams → (first second : ℕ) → List Row
 rowsOfTrams last trams first second =
-    refuses 18 (ltb mostTrams (trams .count))
-    ∷ refuses 19
-    (misplacedPair last first second
-    || anyBelow (λ i. misplacedPair last (stretchAt trams i .low) (stretchAt trams i .high)) (trams .count))
-    ∷ []
+    refuses 18 (ltb mostTrams (trams .count)) ∷ refuses 19 (anyMisplaced last trams first second) ∷ []
 
 -- the refusal's number, or 0: the card's rows come first
 unfoldable pub tramsRefusal : (card : List ℕ) → Trams → (first second : ℕ) → ℕ

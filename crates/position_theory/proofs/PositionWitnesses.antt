@@ -57,7 +57,7 @@ pub computed : {a b : ℕ} → leb a b ≡ true → a ≤ b
 computed {a} {b} test = leb-true a b test
 
 -- no chunk has more than t damaged bits
-within : (C : Code) (position : ℕ) (received : List ℕ) → length received ≡ wordLength C → spareSet C received ≡ false
+pub within : (C : Code) (position : ℕ) (received : List ℕ) → length received ≡ wordLength C → spareSet C received ≡ false
     → anyBelow (λ c. ltb (radius C) (damagedIn C c (place (wordBytes C position)) (place received))) 5 ≡ false
     → WithinRadius C position received
 unfolding ChunksWithin

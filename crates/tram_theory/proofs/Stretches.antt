@@ -13,7 +13,7 @@ use Rattle.bits.proofs.Searches.{none-of-any}
 use Rattle.model.specs.Refusals.{firstRefusal}
 use Rattle.model.specs.Card.{codeOf}
 use Rattle.model.specs.Order.{lastPosition}
-use Rattle.model.specs.Trams.{stretchAt, margin, widened, misplacedPair, rowsOfTrams}
+use Rattle.model.specs.Trams.{stretchAt, margin, widened, misplacedPair, anyMisplaced, rowsOfTrams}
 use Rattle.model.specs.TramsCrossing.{crosses}
 use Rattle.model.specs.TramsWithin.{liesWithin}
 use Rattle.model.specs.declared.Stretch.{Stretch}
@@ -31,7 +31,7 @@ well-placed last low high e =
     (ltb-false high low (or-false-left (ltb high low) _ e), ltb-false last high (or-false-right (ltb high low) _ e))
 
 pub on-track : (last : ℕ) (trams : Trams) (first second : ℕ) → firstRefusal (rowsOfTrams last trams first second) ≡ 0 → OnTrack last trams
-unfolding rowsOfTrams numbered NoneHolds
+unfolding anyMisplaced rowsOfTrams numbered NoneHolds
 on-track last trams first second none =
     let (few, (placed, _)) = none-holds (rowsOfTrams last trams first second) refl none in
     let each : (i : ℕ) → i < trams .count → (stretchAt trams i .low ≤ stretchAt trams i .high) × (stretchAt trams i .high ≤ last) =

@@ -7,17 +7,17 @@ use native.Mathlib.Omega.{arith}
 use borrow.Author.Needs.{needs}
 use lib.ListN.{length}
 use Rattle.model.specs.Trams.{mostTrams}
-use Rattle.dunnavish.proofs.LentTrams.{putDown, none-put-down, one-put-down, all-put-down}
+use Rattle.dunnavish.proofs.LentTrams.{tramsUpTo, none-put-down, one-put-down, all-put-down}
 use Rattle.dunnavish.proofs.marks.trams_lent.Statement.{statement}
 use Rattle.dunnavish.proofs.marks.trams_lent.Tie as tie
 
 abbrev Inv-loop : tie.InvT-loop
-Inv-loop lows highs count held stretches₀ i₀ stretches i =
+Inv-loop lows highs count held trams₀ i₀ trams i =
     (i ≤ held) × (held ≤ length lows) × (held ≤ mostTrams) × ((j : ℕ) → held ≤ j → j < mostTrams → length lows ≤ j)
-    × (stretches ≡ putDown lows highs i)
+    × (trams ≡ tramsUpTo lows highs i)
 
 abbrev μ-loop : tie.MeasureT-loop
-μ-loop lows highs count held stretches₀ i₀ stretches i = held - i
+μ-loop lows highs count held trams₀ i₀ trams i = held - i
 
 loop-holds : tie.Need-loop-holds Inv-loop μ-loop
 loop-holds c =
