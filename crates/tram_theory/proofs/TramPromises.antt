@@ -85,8 +85,9 @@ crossing-promises card trams mark =
     record {
       exactly = exactly;
       none-missed = λ i a b none below stands from to.
+          let inside : i < trams .count = omega arith in
           let (sound, placed) = served card trams mark mark (sym (marked-status (crosses mark) card trams mark mark) ∙ none) in
-          exactly .yes i none below (holds-between card trams sound placed i below a b mark stands from to);
+          exactly .yes i none inside (holds-between card trams sound placed i inside a b mark stands from to);
     }
 
 pub within-promises : (card : List ℕ) (trams : Trams) (first second : ℕ)
