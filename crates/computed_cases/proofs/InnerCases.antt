@@ -13,6 +13,9 @@ use Rattle.model.specs.Order.{sumAfterRow, sumBeforeRow, gray, lastCodeword, co
 use Rattle.model.specs.Words.{millimetresOf, chunkSize, placesBefore, fiveChunks, word, blockOf, wordAt, divided}
 use Rattle.model.specs.ReedMuller.{orderWithinLimits}
 use Rattle.model.specs.MakeCard.{makeRefusal, makeAnswer}
+use Rattle.model.specs.Trams.{widened}
+use Rattle.model.specs.TramsCrossing.{crosses}
+use Rattle.model.specs.NearestTram.{distanceTo}
 use Rattle.model.specs.CardsToTry.{cardA, cardB}
 use Rattle.computed_cases.specs.InnerCases.{InnerCase, innerCases, cardOfUnequalBlocks, whereDivided, Divisions, dividedCases}
 
@@ -23,7 +26,8 @@ unfolding sumBelow
     highFirst rowOf twosComplement offsetOf sumOfRows leastWeight codeOf
     bytesOf rowBytes sealed cardOf
     sumAfterRow sumBeforeRow
-    millimetresOf orderWithinLimits makeRefusal makeAnswer
+    lastCodeword start lastPosition
+    millimetresOf orderWithinLimits makeRefusal makeAnswer widened crosses distanceTo
     cardA cardB innerCases
 inner-cases = refl
 

@@ -1,7 +1,7 @@
--- Values of document 02's P1, P2, P4 and P7 that no call answers, so that no program can try them: the bytes beside refusal 13, an offset
--- at the ends of the numbers of 32 bits (such a card is refused by 14), a distance at a position that no sound card reaches, the sums on
--- the way to a block's start; and at which positions each chunk is divided. That the definitions give them is computed, `inner-cases` and
--- `divided-cases`. Assumes nothing.
+-- Values of document 02's P1, P2, P4, P7 and P8 that no call answers, so that no program can try them: the bytes beside refusal 13, an
+-- offset at the ends of the numbers of 32 bits (such a card is refused by 14), a distance at a position that no sound card reaches, the
+-- sums on the way to a block's start, widened stretches and how far they are from a mark; and at which positions each chunk is divided.
+-- That the definitions give them is computed, `inner-cases` and `divided-cases`. Assumes nothing.
 use mathlib.Core.List.{List, [], _∷_, _++_, map}
 use Prim.Native.Nat.{ℕ, suc}
 use lib.IntN.{ℤ, pos, negℤ}
@@ -12,8 +12,11 @@ use Rattle.model.specs.Card.{Code, offsetOf, codeOf}
 use Rattle.model.specs.Order.{rowShare, sumAfterRow, sumBeforeRow, lastPosition}
 use Rattle.model.specs.Words.{millimetresOf, divided}
 use Rattle.model.specs.MakeCard.{makeAnswer}
+use Rattle.model.specs.Trams.{margin, widened}
+use Rattle.model.specs.NearestTram.{distanceTo}
 use Rattle.model.specs.CardsToTry.{cardWith, cardA, cardB}
 use Rattle.model.specs.declared.MadeCard.{MadeCard}
+use Rattle.model.specs.declared.Stretch.{Stretch}
 
 -- four rows, of weights 4, 3, 2 and 1, and D 1
 abbrev fourRowCard : List ℕ
@@ -34,6 +37,16 @@ rowShares card i = map pos (listOf (codeOf card .k) (rowShare (codeOf card) i))
 -- the sum for the start of a block, before row 0 and after each row
 abbrev rowSums : (card : List ℕ) (block : ℕ) → List ℤ
 rowSums card i = map pos (sumBeforeRow (codeOf card) i 0 ∷ listOf (codeOf card .k) (sumAfterRow (codeOf card) i))
+
+-- a tram's stretch once it is widened on this card's track, and its distance from a mark
+abbrev wide : (card : List ℕ) (low high : ℕ) → Stretch
+wide card low high = let C : Code = codeOf card in widened (margin C) (lastPosition C) (record { low = low; high = high })
+
+abbrev wideEnds : (card : List ℕ) (low high : ℕ) → List ℤ
+wideEnds card low high = map pos (wide card low high .low ∷ wide card low high .high ∷ [])
+
+abbrev distanceFrom : (mark : ℕ) (card : List ℕ) (low high : ℕ) → List ℤ
+distanceFrom mark card low high = map pos (distanceTo mark (wide card low high) ∷ [])
 
 -- values of the definitions, and what the document says
 pub record InnerCase : Type 0 where
@@ -69,6 +82,17 @@ innerCases =
     ∷ innerCase (rowShares fourRowCard 8) (32 ∷ 12 ∷ 4 ∷ 2 ∷ [])
     ∷ innerCase (rowShares fourRowCard 15) (64 ∷ 24 ∷ 8 ∷ 2 ∷ [])
     ∷ innerCase (rowSums fourRowCard 15) (45 ∷ 109 ∷ 133 ∷ 141 ∷ 143 ∷ [])
+    -- P8: card B's t is 1, so 10 more at both ends, cut to the last position, 15, to 0, and to both; card A's t is 0
+    ∷ innerCase (wideEnds cardB 12 13) (2 ∷ 15 ∷ [])
+    ∷ innerCase (wideEnds cardB 3 4) (0 ∷ 14 ∷ [])
+    ∷ innerCase (wideEnds cardB 5 10) (0 ∷ 15 ∷ [])
+    ∷ innerCase (wideEnds cardA 4 6) (4 ∷ 6 ∷ [])
+    -- below, at, in, at and above: to the nearer end
+    ∷ innerCase (distanceFrom 1 cardA 4 6) (3 ∷ [])
+    ∷ innerCase (distanceFrom 4 cardA 4 6) (0 ∷ [])
+    ∷ innerCase (distanceFrom 5 cardA 4 6) (0 ∷ [])
+    ∷ innerCase (distanceFrom 6 cardA 4 6) (0 ∷ [])
+    ∷ innerCase (distanceFrom 8 cardA 4 6) (2 ∷ [])
     ∷ []
 
 -- the positions, up to the last, at which a chunk, 0 to 4, of the position's word is divided
