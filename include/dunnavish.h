@@ -1,19 +1,20 @@
 /*
  * Dunnavish: position words of trams on stabling tracks, for programs in C.
  *
- * Six calls on a track's card: check it, write the word of a position, read a received word, read one that came as levels, give the
- * start of a block, and give the distance of a position in millimetres. Two calls on a Reed-Muller code, which are given no card: make
- * its card, and read a chunk of it by majority votes. docs/FORMAT.md says what the bytes of a card and of a word are, how a word
- * is read, which card is made, and what each refusal means. The archive is target/staticlib/libdunnavish.a, for x86-64 Linux; `rt
- * staticlib dunnavish` builds it. From the repository's root, link it as   cc -Iinclude program.c -Ltarget/staticlib -ldunnavish
+ * Nine calls on a track's card: check it, write the word of a position, read a received word, read one that came as levels, give the
+ * start of a block, give the distance of a position in millimetres, and, of the trams on the track, tell which cross a mark, which
+ * stand within two marks, and which is the nearest to a mark. Two calls on a Reed-Muller code, which are given no card: make its card,
+ * and read a chunk of it by majority votes. docs/FORMAT.md says what the bytes of a card and of a word are, how a word is read, which
+ * card is made, what stands at a mark, and what each refusal means. The archive is target/staticlib/libdunnavish.a, for x86-64 Linux;
+ * `rt staticlib dunnavish` builds it. From the repository's root, link it as   cc -Iinclude program.c -Ltarget/staticlib -ldunnavish
  * (it needs memcpy and memset, and nothing else). The header is C99 or later, or C++.
  *
  * A call answers with its status: 0 (DUNNAVISH_OK), or the number of the one reason why it could not be served, below. Whenever
  * the status is not 0, nothing that was lent has changed. Every call ends, whatever the bytes, numbers and floats are.
  *
  * Arguments
- *   Every array is a pointer and the count of its elements (bytes of a card or a word; numbers, not bytes, of `values`; floats,
- *   not bytes, of `levels` and `strength`).
+ *   Every array is a pointer and the count of its elements (bytes of a card or a word; numbers, not bytes, of `values`, `lows` and
+ *   `highs`; floats, not bytes, of `levels` and `strength`).
  *   A card that a call is given is the card's 512 bytes, checked anew by each call. A card of any other length is answered
  *   DUNNAVISH_CARD_LENGTH. The two calls that are given none check none.
  *   A word is its d bits in dunnavish_word_bytes(d) bytes: bit p of the word is bit p % 8, lowest first, of byte p / 8. The spare
@@ -21,13 +22,16 @@
  *   `values` is where the call puts its answer. Its count must be exactly the call's (DUNNAVISH_CARD_VALUES and so on), or the
  *   call is answered DUNNAVISH_VALUE_COUNT before anything else is looked at. In the same way the count of `strength` must be
  *   exactly DUNNAVISH_STRENGTH_VALUES, and the bytes of a card that is to be made exactly DUNNAVISH_CARD_BYTES.
+ *   The trams of a track are `lows` and `highs`: tram i, counted from 0, stands from lows[i] to highs[i], both included. `yes` has an
+ *   entry for each tram. Where the counts of these arrays are not equal, the call is answered DUNNAVISH_VALUE_COUNT in the same way.
  *   An array whose count is 0 may be NULL, which is what an empty vector hands over. A call never looks behind a pointer that comes
- *   with a count of 0, and answers as for any other array of a wrong count.
+ *   with a count of 0, and answers as for any other array of a wrong count, or, given `lows`, `highs` and `yes`, as for no trams.
  *
  * What a call cannot check, and asks of its caller
  *   That at each pointer stand as many elements as its count says, aligned as uint32_t, int32_t and float are; that they can be read,
- *   and those that the call writes (`values`, `strength`, the word of dunnavish_write_word, the card of dunnavish_make_card) written;
- *   that nobody else changes them during the call; and that an array that the call writes overlaps no other one of the same call.
+ *   and those that the call writes (`values`, `strength`, `yes`, the word of dunnavish_write_word, the card of dunnavish_make_card)
+ *   written; that nobody else changes them during the call; and that an array that the call writes overlaps no other one of the same
+ *   call.
  *   dunnavish_read_levels also asks for the processor's default floating-point settings, those that a program starts with: sums rounded
  *   to the nearest, ties to even, subnormal numbers kept, no exception trapped. A program that is linked with -ffast-math or -Ofast
  *   starts with others: subnormal numbers count as zeros, so that a word of levels of 1e-40, say, is all erased and answered
@@ -43,9 +47,9 @@
  *   may set the thread's floating-point exception flags, a level that is not a number the flag for an invalid operation.)
  *
  * Stack
- *   A call takes less than 2,048 bytes of stack, the same for every card, word and chunk; tests/c/stack_use.c measures it. (If
- *   memcpy and memset are bound lazily, the first calls add what the dynamic linker takes.) There is no recursion, no heap and no
- *   system call.
+ *   A call takes less than 2,048 bytes of stack, the same for every card, word, chunk and list of trams; tests/c/stack_use.c
+ *   measures it. (If memcpy and memset are bound lazily, the first calls add what the dynamic linker takes.) There is no recursion, no
+ *   heap and no system call.
  */
 #ifndef DUNNAVISH_H
 #define DUNNAVISH_H
@@ -59,13 +63,16 @@ extern "C" {
 
 /* The version of this header and its archive. */
 #define DUNNAVISH_VERSION_MAJOR 0
-#define DUNNAVISH_VERSION_MINOR 5
+#define DUNNAVISH_VERSION_MINOR 6
 #define DUNNAVISH_VERSION_PATCH 0
-#define DUNNAVISH_VERSION "0.5.0"
+#define DUNNAVISH_VERSION "0.6.0"
 
 /* The bytes of a card, and of the widest word. */
 #define DUNNAVISH_CARD_BYTES 512
 #define DUNNAVISH_WIDEST_WORD_BYTES 40
+
+/* The most trams that a track holds. */
+#define DUNNAVISH_MOST_TRAMS 64
 
 /* The bytes of a word of so many bits. */
 static inline size_t dunnavish_word_bytes(uint32_t bits)
@@ -98,7 +105,11 @@ enum dunnavish_status {
     DUNNAVISH_LEVEL_LIMITS = 16,    /* levels: not a number, infinite, or above 1,000,000 in magnitude; in the place of 8 */
     DUNNAVISH_PARITY_DIFFERS = 17,  /* received word: separator 1, under rule 2 separator 3, differs from the parity of the number of
                                        the codeword that was read; tested straight after 12 */
-    DUNNAVISH_VALUE_COUNT = 100     /* `values`, `strength` or the card to be made has not the call's count; tested first */
+    DUNNAVISH_TRAM_COUNT = 18,      /* trams: more than 64 */
+    DUNNAVISH_STRETCH_LIMITS = 19,  /* trams and marks, as given: low above high in a stretch or a pair of marks, or a high or a mark
+                                       above the last position */
+    DUNNAVISH_VALUE_COUNT = 100     /* `values`, `strength` or the card to be made has not the call's count, or those of `lows`, `highs`
+                                       and `yes` are not equal; tested first */
 };
 
 /* What a status says, in a few words: a constant string, never NULL, for any other number too. */
@@ -123,7 +134,9 @@ static inline const char *dunnavish_status_text(uint32_t status)
     case DUNNAVISH_LEVEL_COUNT: return "the levels are not exactly as many as the bits of this card's words";
     case DUNNAVISH_LEVEL_LIMITS: return "a level is not a number, infinite, or above 1,000,000 in magnitude";
     case DUNNAVISH_PARITY_DIFFERS: return "a separator of the received word contradicts the parity of its codeword's number";
-    case DUNNAVISH_VALUE_COUNT: return "the count of values, of a strength, or of a made card's bytes, is not the call's";
+    case DUNNAVISH_TRAM_COUNT: return "there are more than 64 trams";
+    case DUNNAVISH_STRETCH_LIMITS: return "a stretch or pair of marks has low above high, or a high or mark is above the last position";
+    case DUNNAVISH_VALUE_COUNT: return "the count of values, of a strength, of a made card's bytes, or of trams, is not the call's";
     default: return "a status that this version does not have";
     }
 }
@@ -209,7 +222,10 @@ enum dunnavish_strength_value {
 uint32_t dunnavish_read_levels(const uint8_t *card, size_t card_bytes, const float *levels, size_t levels_count, uint32_t *values,
                                size_t values_count, float *strength, size_t strength_count);
 
-/* The count of `values` of the two calls below, which put their answer into values[0]: a position, or a signed distance. */
+/*
+ * The count of `values` of dunnavish_block_start, dunnavish_millimetres and dunnavish_nearest_tram, which put their answer into
+ * values[0]: a position, a signed distance, or a place in the list.
+ */
 #define DUNNAVISH_NUMBER_VALUES 1
 
 /* The position at which block `block` starts; blocks are 0 to 2^k - 1. Answers 0 to 5, 7, 14, or 100. */
@@ -220,6 +236,44 @@ uint32_t dunnavish_block_start(const uint8_t *card, size_t card_bytes, uint32_t 
  * for each step. It is negative where the position lies before the face. Answers 0 to 5, 7, 14, or 100.
  */
 uint32_t dunnavish_millimetres(const uint8_t *card, size_t card_bytes, uint32_t position, int32_t *values, size_t values_count);
+
+/*
+ * What stands at a mark. The three calls below are given the trams of a track, at most DUNNAVISH_MOST_TRAMS of them, each a stretch
+ * from a low to a high position. Before any search a stretch is widened by 10 * t at both ends and cut to 0 and the last position;
+ * DUNNAVISH_STRETCH_LIMITS looks at stretches and marks as they are given, and at the marks of no trams too.
+ *
+ * 10 * t is twice the most bits that five chunks within the radius can have damaged. So a stretch whose ends dunnavish_read_word read
+ * from words of the true positions a and b, each damaged in at most t bits of every chunk, holds a and b once it is widened. What is
+ * said of a and b below is said of such a tram, in a call that is answered 0.
+ */
+
+/*
+ * Which trams cross a mark: low at most the mark, and high at least the mark, of the widened stretch. Answers 0 to 5, 14, 18, 19, or
+ * 100. On 0 each entry of `yes` is 1 for a tram that does and 0 for one that does not, in the order of the list. If a is at most the
+ * mark and b at least the mark, the entry is 1: no such tram is missed.
+ */
+uint32_t dunnavish_trams_crossing(const uint8_t *card, size_t card_bytes, const uint32_t *lows, size_t lows_count,
+                                  const uint32_t *highs, size_t highs_count, uint32_t mark, uint8_t *yes, size_t yes_count);
+
+/*
+ * Which trams stand wholly within two marks: low at least the first, and high at most the second, of the widened stretch. Answers 0 to
+ * 5, 14, 18, 19, or 100. On 0 `yes` is left as by dunnavish_trams_crossing. If the entry of a tram is 1, a and b lie within the marks.
+ */
+uint32_t dunnavish_trams_within(const uint8_t *card, size_t card_bytes, const uint32_t *lows, size_t lows_count,
+                                const uint32_t *highs, size_t highs_count, uint32_t first, uint32_t second, uint8_t *yes,
+                                size_t yes_count);
+
+/* The place of the nearest tram where there are no trams. It is never a place in a list: a place is at most 63. */
+#define DUNNAVISH_NO_TRAM 4294967295u
+
+/*
+ * Which tram is the nearest to a mark. Its distance is from the mark to the nearer end of its widened stretch, and 0 where it crosses
+ * the mark. Of trams at the same distance it is the one with the smaller widened low, and then the earlier in the list. Answers 0 to
+ * 5, 14, 18, 19, or 100. On 0 values[0] is the tram's place in the list, from 0, or DUNNAVISH_NO_TRAM. No part of a tram between a and
+ * b is nearer to the mark than the widened stretch of the tram that is answered.
+ */
+uint32_t dunnavish_nearest_tram(const uint8_t *card, size_t card_bytes, const uint32_t *lows, size_t lows_count,
+                                const uint32_t *highs, size_t highs_count, uint32_t mark, uint32_t *values, size_t values_count);
 
 /*
  * Make the card of a Reed-Muller code for a track, into `card`, which has exactly DUNNAVISH_CARD_BYTES bytes. Answers 0, 13, or

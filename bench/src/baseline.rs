@@ -1,6 +1,6 @@
-//! Document 01's rules, P2's offset, P3's counts of the code chunks, P5's levels and P6's parity, in straightforward Rust, written
-//! apart from the library, with words as five 64-bit numbers and counts by `count_ones`: the baseline of the benchmark, and what the
-//! tests of the Rust crate hold the library against. `Kept` holds every codeword and start of a card that was decoded once.
+//! Document 01's rules, P2's offset, P3's counts of the code chunks, P5's levels, P6's parity and P8's trams, in straightforward Rust,
+//! written apart from the library, with words as five 64-bit numbers and counts by `count_ones`: the baseline of the benchmark, and
+//! what the tests of the Rust crate hold the library against. `Kept` holds every codeword and start of a card that was decoded once.
 
 /// A word: place p is bit p % 64 of number p / 64.
 pub type Word = [u64; 5];
@@ -33,6 +33,13 @@ pub struct Read {
 pub struct Strength {
     pub sum: f32,
     pub greatest: f32,
+}
+
+/// A tram's stretch of the track, or a pair of marks: from a low to a high position.
+#[derive(Clone, Copy)]
+pub struct Stretch {
+    pub low: u32,
+    pub high: u32,
 }
 
 /// The codeword that a chunk reads as: its number, and in how many bits the two differ.
@@ -270,6 +277,46 @@ pub fn millimetres(order: &impl Order, position: u32) -> Result<i32, u32> {
         return Err(7);
     }
     Ok(order.code().offset + 50 * position as i32)
+}
+
+/// The trams' stretches, each widened by 10t at both ends and cut to 0 and the last position. Before that there must be at most 64,
+/// and they and the marks must go from low to high on the track.
+fn widened<'a>(order: &impl Order, trams: &'a [Stretch], marks: Stretch) -> Result<impl Iterator<Item = Stretch> + 'a, u32> {
+    if trams.len() > 64 {
+        return Err(18);
+    }
+    let (last, reach) = (order.last() as u32, 10 * order.code().radius as u32);
+    let off_the_track = |stretch: &Stretch| stretch.low > stretch.high || stretch.high > last;
+    if trams.iter().any(off_the_track) || off_the_track(&marks) {
+        return Err(19);
+    }
+    Ok(trams.iter().map(move |tram| Stretch { low: tram.low.saturating_sub(reach), high: last.min(tram.high + reach) }))
+}
+
+/// Which trams cross a mark.
+pub fn trams_crossing(order: &impl Order, trams: &[Stretch], mark: u32) -> Result<Vec<bool>, u32> {
+    let trams = widened(order, trams, Stretch { low: mark, high: mark })?;
+    Ok(trams.map(|tram| tram.low <= mark && mark <= tram.high).collect())
+}
+
+/// Which trams are wholly within two marks.
+pub fn trams_within(order: &impl Order, trams: &[Stretch], first: u32, second: u32) -> Result<Vec<bool>, u32> {
+    let trams = widened(order, trams, Stretch { low: first, high: second })?;
+    Ok(trams.map(|tram| first <= tram.low && tram.high <= second).collect())
+}
+
+/// The place of the tram nearest to a mark: of the least distance, then of the smallest low, then the earliest.
+pub fn nearest_tram(order: &impl Order, trams: &[Stretch], mark: u32) -> Result<Option<usize>, u32> {
+    let trams = widened(order, trams, Stretch { low: mark, high: mark })?;
+    let mut best: Option<(u32, u32, usize)> = None;
+    for (place, tram) in trams.enumerate() {
+        // at most one of the two is above zero
+        let distance = tram.low.saturating_sub(mark) + mark.saturating_sub(tram.high);
+        if best.map_or(true, |(least, low, _)| distance < least || distance == least && tram.low < low) {
+            best = Some((distance, tram.low, place));
+        }
+    }
+    Ok(best.map(|(_, _, place)| place))
 }
 
 /// A position and its residual.

@@ -1,5 +1,5 @@
-//! The calls on a card that are measured, by the library and by the baselines, on the same words and positions.
-use crate::baseline::{self, decode, Kept, Order, Strength};
+//! The calls on a card that are measured, by the library and by the baselines, on the same words, positions and trams.
+use crate::baseline::{self, decode, Kept, Order, Strength, Stretch};
 use crate::inputs;
 use crate::nested::{EachCall, KeptNested};
 use std::hint::black_box;
@@ -16,6 +16,14 @@ pub const CALLS: [(&str, &[&str]); 7] = [
     ("write", &["library", "kept", "each-call"]),
     ("start", &["library", "kept", "each-call"]),
     ("millimetres", &["library", "kept", "each-call"]),
+];
+
+/// Those on a list of 64 trams, with the positions for marks. They are measured on two cards alone: it is by the card's check that their
+/// cost depends on the code.
+pub const TRAM_CALLS: [(&str, &[&str]); 3] = [
+    ("crossing", &["library", "kept", "each-call"]),
+    ("within", &["library", "kept", "each-call"]),
+    ("nearest", &["library", "kept", "each-call"]),
 ];
 
 /// Calls of several kinds, each of which can be made in several ways.
@@ -42,13 +50,16 @@ pub trait Calls {
     }
 }
 
-/// A card, positions and words, the words as levels, and the card as the baselines keep it.
+/// A card, positions and words, the words as levels, trams, and the card as the baselines keep it.
 pub struct Work {
     card: Vec<u8>,
     positions: Vec<u32>,
     words: Vec<Vec<u8>>,
     levels: Vec<Vec<f32>>,
     levels_erased: Vec<Vec<f32>>,
+    trams: Vec<dunnavish::Stretch>,
+    /// The same in the baselines' form.
+    plain_trams: Vec<Stretch>,
     kept: Kept,
     nested: KeptNested,
 }
@@ -62,7 +73,9 @@ impl Work {
         let levels = words.iter().map(|word| inputs::levels(&code, word)).collect();
         let erased = |(&position, word): (&u32, &Vec<u8>)| inputs::levels_erased(&kept, position, word);
         let levels_erased = positions.iter().zip(&words).map(erased).collect();
-        Work { card, positions, words, levels, levels_erased, kept, nested }
+        let plain_trams = inputs::trams(&kept);
+        let trams = plain_trams.iter().map(|&Stretch { low, high }| dunnavish::Stretch { low, high }).collect();
+        Work { card, positions, words, levels, levels_erased, trams, plain_trams, kept, nested }
     }
 
     fn check_card(&self, way: &str) -> u64 {
@@ -127,6 +140,34 @@ impl Work {
         distance.map_or_else(refused, |distance| u64::from(distance as u32))
     }
 
+    fn trams_crossing(&self, way: &str, mark: u32) -> u64 {
+        let (card, trams) = black_box((&self.card[..], &self.plain_trams[..]));
+        yes_or_no(match way {
+            "library" => dunnavish::trams_crossing(card, black_box(&self.trams), mark).map_err(number),
+            "kept" => baseline::trams_crossing(&self.kept, trams, mark),
+            _ => decode(card).and_then(|code| baseline::trams_crossing(&EachCall(code), trams, mark)),
+        })
+    }
+
+    fn trams_within(&self, way: &str, [first, second]: [u32; 2]) -> u64 {
+        let (card, trams) = black_box((&self.card[..], &self.plain_trams[..]));
+        yes_or_no(match way {
+            "library" => dunnavish::trams_within(card, black_box(&self.trams), first, second).map_err(number),
+            "kept" => baseline::trams_within(&self.kept, trams, first, second),
+            _ => decode(card).and_then(|code| baseline::trams_within(&EachCall(code), trams, first, second)),
+        })
+    }
+
+    fn nearest_tram(&self, way: &str, mark: u32) -> u64 {
+        let (card, trams) = black_box((&self.card[..], &self.plain_trams[..]));
+        let place = match way {
+            "library" => dunnavish::nearest_tram(card, black_box(&self.trams), mark).map_err(number),
+            "kept" => baseline::nearest_tram(&self.kept, trams, mark),
+            _ => decode(card).and_then(|code| baseline::nearest_tram(&EachCall(code), trams, mark)),
+        };
+        place.map_or_else(refused, |place| place.map_or(64, |place| place as u64))
+    }
+
     /// Fails unless a way answers as the baseline that keeps its card does.
     pub fn check(&self, call: &str, way: &str) {
         let count = self.count();
@@ -141,7 +182,7 @@ impl Calls for Work {
 
     fn all(&self, call: &str, way: &str, count: usize) -> u64 {
         let positions = self.positions[..count].iter().map(|&position| black_box(position));
-        let last_block = self.kept.code().last_block() as u32;
+        let (last_block, last) = (self.kept.code().last_block() as u32, self.kept.last() as u32);
         let mut word = vec![0; self.words[0].len()];
         let read_levels =
             |words: &[Vec<f32>]| mixed(words[..count].iter().map(|levels| self.read_levels(way, black_box(levels))));
@@ -156,6 +197,13 @@ impl Calls for Work {
             })),
             "start" => mixed(positions.map(|position| self.block_start(way, position & last_block))),
             "millimetres" => mixed(positions.map(|position| self.millimetres(way, position))),
+            "crossing" => mixed(positions.map(|position| self.trams_crossing(way, position))),
+            // a position, and the one that is as far from the other end of the track
+            "within" => mixed(positions.map(|position| {
+                let other = last - position;
+                self.trams_within(way, [position.min(other), position.max(other)])
+            })),
+            "nearest" => mixed(positions.map(|position| self.nearest_tram(way, position))),
             _ => panic!("no call {call}"),
         })
     }
@@ -181,6 +229,11 @@ fn number(refusal: dunnavish::Refusal) -> u32 {
 /// A refusal as a number that is no answer's.
 fn refused(refusal: u32) -> u64 {
     u64::MAX - u64::from(refusal)
+}
+
+/// What is answered of 64 trams in one number.
+fn yes_or_no(answer: Result<Vec<bool>, u32>) -> u64 {
+    answer.map_or_else(refused, |yes| yes.into_iter().fold(0, |bits, yes| bits << 1 | u64::from(yes)))
 }
 
 /// The library's reading in the baseline's form.

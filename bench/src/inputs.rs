@@ -1,7 +1,7 @@
-//! What is measured on: five cards with a negative offset, positions of their tracks, and words with damage within the radius, in
-//! bits and in levels; three Reed-Muller codes, and chunks of them without a codeword within the radius. They are the same in every
+//! What is measured on: five cards with a negative offset, positions of their tracks, words with damage within the radius, in bits and
+//! in levels, and trams; three Reed-Muller codes, and chunks of them without a codeword within the radius. They are the same in every
 //! run.
-use crate::baseline::{self, decode, Code, Kept, Order as _};
+use crate::baseline::{self, decode, Code, Kept, Order as _, Stretch};
 use crate::cards::offset_card;
 use crate::codes::{golay, reed_muller};
 
@@ -46,6 +46,22 @@ pub fn card(name: &str) -> Vec<u8> {
 /// Whether a card has so many codewords (k is 12) that fewer of its words are measured.
 pub fn is_large(name: &str) -> bool {
     matches!(name, "random64" | "golay24")
+}
+
+/// Whether the calls on trams are measured on a card: one of small t and a short track, and one of great t and a long one.
+pub fn has_trams(name: &str) -> bool {
+    matches!(name, "B" | "rm64")
+}
+
+/// 64 trams on a track, of up to a sixteenth of it each.
+pub fn trams(kept: &Kept) -> Vec<Stretch> {
+    let mut random = Random(2463534242);
+    let tram = |_| {
+        let low = random.below(kept.last() + 1);
+        let high = kept.last().min(low + random.below(kept.last() / 16 + 1));
+        Stretch { low: low as u32, high: high as u32 }
+    };
+    (0..64).map(tram).collect()
 }
 
 /// Positions of a track, and their words with up to t bits damaged in each chunk.

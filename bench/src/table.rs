@@ -1,7 +1,7 @@
 //! The tables: what each way takes for a call, or for a word of tramread's, and the library's cost divided by it. The ways of a
 //! call are first seen to answer alike.
-use crate::calls::{Calls, Work, CALLS};
-use crate::inputs::{card_and_words, is_large, CARDS, CODES};
+use crate::calls::{Calls, Work, CALLS, TRAM_CALLS};
+use crate::inputs::{card_and_words, has_trams, is_large, CARDS, CODES};
 use crate::made::Made;
 use std::env;
 use std::fs::{self, File};
@@ -75,7 +75,8 @@ fn cost(work: &impl Calls, name: &str, call: &str, way: &str, counted: usize, me
 fn calls(card: &str, me: &str) {
     let (timed, counted) = if is_large(card) { (200, 50) } else { (20_000, 500) };
     let work = Work::new(card, timed);
-    for (call, ways) in CALLS {
+    let tram_calls = TRAM_CALLS.into_iter().filter(|_| has_trams(card));
+    for (call, ways) in CALLS.into_iter().chain(tram_calls) {
         let measured = ways.iter().map(|&way| {
             work.check(call, way);
             (way, cost(&work, card, call, way, counted, me))

@@ -1,16 +1,17 @@
 //! Position words of trams on stabling tracks.
 //!
 //! A tram reports where it stands by a coded word; a track's *card*, 512 bytes, says which code, and how far position 0 is from
-//! the buffer face. Six calls here take a card: they check it, write the word of a position, read a received word, read one that
-//! came as levels, and give the start of a block and the distance of a position in millimetres. Two take the order and the number
-//! of variables of a Reed-Muller code instead: they make its card, and read a chunk of it by majority votes. All are thin and safe
-//! wrappers of a library that is proved: each call ends, answers every input, and keeps no state, so any number of threads may
-//! use it. No call allocates or panics.
+//! the buffer face. Nine calls here take a card: they check it, write the word of a position, read a received word, read one that
+//! came as levels, give the start of a block and the distance of a position in millimetres, and tell which trams of the track
+//! cross a mark, which stand within two marks, and which is the nearest to a mark. Two take the order and the number of variables
+//! of a Reed-Muller code instead: they make its card, and read a chunk of it by majority votes. All are thin and safe wrappers of a
+//! library that is proved: each call ends, answers every input, and keeps no state, so any number of threads may use it. No call
+//! panics, and none allocates but [`trams_crossing`] and [`trams_within`], which do for their answer.
 //!
-//! `docs/FORMAT.md` of the repository says what a card and a word are, byte by byte, how a word is read, which card is made, and
-//! what each refusal means. The archive that is linked, `libdunnavish.a`, is the one that `rt staticlib dunnavish` writes to
-//! `target/staticlib` there; the environment variable `DUNNAVISH_LIB_DIR` names another folder, and a relative one is taken from
-//! where cargo is started.
+//! `docs/FORMAT.md` of the repository says what a card and a word are, byte by byte, how a word is read, which card is made, what
+//! stands at a mark, and what each refusal means. The archive that is linked, `libdunnavish.a`, is the one that `rt staticlib
+//! dunnavish` writes to `target/staticlib` there; the environment variable `DUNNAVISH_LIB_DIR` names another folder, and a relative
+//! one is taken from where cargo is started.
 //!
 //! ```
 //! // Card B, the example of docs/FORMAT.md: n 3, k 1, track 14, row 0 = 7, check 145.
@@ -61,6 +62,13 @@
 //! card[510..].copy_from_slice(&14_841u16.to_be_bytes());
 //! assert_eq!(dunnavish::millimetres(&card, 7)?, -650);
 //!
+//! // Two trams on the track. With t 1 a stretch is widened by 10 at both ends: here to 0 to 12 and to 3 to 15.
+//! let trams = [dunnavish::Stretch { low: 0, high: 2 }, dunnavish::Stretch { low: 13, high: 15 }];
+//! assert_eq!(dunnavish::trams_crossing(&card, &trams, 2)?, [true, false]);
+//! assert_eq!(dunnavish::trams_within(&card, &trams, 1, 15)?, [false, true]);
+//! assert_eq!(dunnavish::nearest_tram(&card, &trams, 13)?, Some(1));
+//! assert_eq!(dunnavish::nearest_tram(&card, &[], 13)?, None);
+//!
 //! // The card of a Reed-Muller code: order 1 in 3 variables, rows FF, AA, CC and F0, for track 14.
 //! let made = dunnavish::make_card(14, 1, 3)?;
 //! assert_eq!(dunnavish::check_card(&made)?.distance, 4);
@@ -80,6 +88,9 @@ pub const CARD_BYTES: usize = 512;
 
 /// The bytes of the widest word.
 pub const WIDEST_WORD_BYTES: usize = 40;
+
+/// The most trams that a track holds.
+pub const MOST_TRAMS: usize = 64;
 
 /// Defines [`Refusal`] by one table: a name, the number in docs/FORMAT.md, and the reason, which is its documentation and text.
 macro_rules! refusals {
@@ -102,17 +113,25 @@ macro_rules! refusals {
             /// the library read the word by this rule, and counted bits of other code chunks than the rule names: the two are of
             /// different versions
             OtherChunks(Rule),
+            /// the library answered neither yes nor no of a tram, but this number: the two are of different versions
+            NeitherYesNorNo(u8),
+            /// the library answered that the nearest tram has this place, and no tram of the list has it: the two are of different
+            /// versions
+            NoSuchTram(u32),
+            /// the library served a list of more than [`MOST_TRAMS`] trams: the two are of different versions
+            MoreTrams,
         }
 
         impl Refusal {
             /// Every refusal that has a number, in the order of their numbers.
             pub const ALL: &'static [Refusal] = &[$(Refusal::$name,)+];
 
-            /// Its number in `docs/FORMAT.md`, 1 to 17; none where the library and this crate are of different versions.
+            /// Its number in `docs/FORMAT.md`, 1 to 19; none where the library and this crate are of different versions.
             pub fn number(self) -> Option<u32> {
                 match self {
                     $(Refusal::$name => Some($number),)+
                     Refusal::UnknownStatus(_) | Refusal::UnknownRule(_) | Refusal::OtherChunks(_) => None,
+                    Refusal::NeitherYesNorNo(_) | Refusal::NoSuchTram(_) | Refusal::MoreTrams => None,
                 }
             }
 
@@ -134,6 +153,13 @@ macro_rules! refusals {
                     Refusal::OtherChunks(rule) => {
                         write!(f, "the library counted bits of other code chunks than rule {} names", rule.number())
                     }
+                    Refusal::NeitherYesNorNo(answer) => {
+                        write!(f, "the library answered {answer} of a tram, which is neither yes nor no")
+                    }
+                    Refusal::NoSuchTram(place) => {
+                        write!(f, "the library answered that the nearest tram has place {place}, where the list has none")
+                    }
+                    Refusal::MoreTrams => write!(f, "the library served a list of more than {MOST_TRAMS} trams"),
                 }
             }
         }
@@ -158,6 +184,8 @@ refusals! {
     LevelCount = 15: "the levels are not exactly as many as the bits of this card's words",
     LevelLimits = 16: "a level is not a number, infinite, or above 1,000,000 in magnitude",
     ParityDiffers = 17: "a separator of the received word contradicts the parity of its codeword's number",
+    TramCount = 18: "there are more than 64 trams",
+    StretchLimits = 19: "a stretch or pair of marks has low above high, or a high or mark is above the last position",
 }
 
 impl std::error::Error for Refusal {}
@@ -251,6 +279,15 @@ pub struct Vote {
     pub bits: u32,
 }
 
+/// Where a tram stands on its track: from a low to a high position, both included.
+#[derive(Clone, Copy, Debug, PartialEq, Eq, Hash)]
+pub struct Stretch {
+    /// The low position.
+    pub low: u32,
+    /// The high position, at least the low one and at most the card's last.
+    pub high: u32,
+}
+
 mod exported {
     // As include/dunnavish.h declares them: a slice crosses as a pointer and a count.
     extern "C" {
@@ -276,13 +313,47 @@ mod exported {
         ) -> u32;
         pub fn dunnavish_block_start(card: *const u8, card_bytes: usize, block: u32, values: *mut u32, count: usize) -> u32;
         pub fn dunnavish_millimetres(card: *const u8, card_bytes: usize, position: u32, values: *mut i32, count: usize) -> u32;
+        pub fn dunnavish_trams_crossing(
+            card: *const u8,
+            card_bytes: usize,
+            lows: *const u32,
+            lows_count: usize,
+            highs: *const u32,
+            highs_count: usize,
+            mark: u32,
+            yes: *mut u8,
+            yes_count: usize,
+        ) -> u32;
+        pub fn dunnavish_trams_within(
+            card: *const u8,
+            card_bytes: usize,
+            lows: *const u32,
+            lows_count: usize,
+            highs: *const u32,
+            highs_count: usize,
+            first: u32,
+            second: u32,
+            yes: *mut u8,
+            yes_count: usize,
+        ) -> u32;
+        pub fn dunnavish_nearest_tram(
+            card: *const u8,
+            card_bytes: usize,
+            lows: *const u32,
+            lows_count: usize,
+            highs: *const u32,
+            highs_count: usize,
+            mark: u32,
+            values: *mut u32,
+            count: usize,
+        ) -> u32;
         pub fn dunnavish_make_card(track: u16, r: u32, m: u32, card: *mut u8, card_bytes: usize) -> u32;
         pub fn dunnavish_vote_chunk(r: u32, m: u32, chunk: u64, values: *mut u32, count: usize) -> u32;
     }
 }
 
 /// The status of a call as a result. A status without a name here is an error too. (100 is one: it says that too few or too many
-/// numbers, floats, or bytes for a card were lent, and the calls below lend exactly enough.)
+/// numbers, floats, answers, or bytes for a card were lent, and the calls below lend exactly enough.)
 fn served(status: u32) -> Result<(), Refusal> {
     match status {
         0 => Ok(()),
@@ -302,6 +373,50 @@ fn reading([position, residual, rule, chunk1, chunk2]: [u32; 5]) -> Result<Readi
             Ok(Reading { position, residual, rule, chunk1_bits, chunk2_bits })
         }
         _ => Err(Refusal::OtherChunks(rule)),
+    }
+}
+
+/// So many trams are handed over at most, one more than there may be.
+const HANDED_OVER: usize = MOST_TRAMS + 1;
+
+/// Hands the trams of a list over to a call, as lows and highs, and gives its status as a result. Of a longer list the first 65 trams
+/// are handed over: that they are too many is answered before any of them is looked at. Where it is not, that is an error.
+fn hand_over(trams: &[Stretch], call: impl FnOnce(&[u32], &[u32]) -> u32) -> Result<(), Refusal> {
+    let (mut lows, mut highs) = ([0; HANDED_OVER], [0; HANDED_OVER]);
+    for ((tram, low), high) in trams.iter().zip(&mut lows).zip(&mut highs) {
+        (*low, *high) = (tram.low, tram.high);
+    }
+    let count = trams.len().min(HANDED_OVER);
+    match served(call(&lows[..count], &highs[..count])) {
+        Ok(()) if count > MOST_TRAMS => Err(Refusal::MoreTrams),
+        status => status,
+    }
+}
+
+/// What a call answers that says 1, for yes, or 0, for no, of each tram. Any other answer is an error.
+fn yes_or_no(trams: &[Stretch], call: impl FnOnce(&[u32], &[u32], &mut [u8]) -> u32) -> Result<Vec<bool>, Refusal> {
+    let mut answers = [0; HANDED_OVER];
+    let yes = &mut answers[..trams.len().min(HANDED_OVER)];
+    hand_over(trams, |lows, highs| call(lows, highs, yes))?;
+    match yes.iter().find(|&&answer| answer > 1) {
+        Some(&answer) => Err(Refusal::NeitherYesNorNo(answer)),
+        None => Ok(yes.iter().map(|&answer| answer == 1).collect()),
+    }
+}
+
+/// What the library gives as the place of the nearest tram where there are no trams: DUNNAVISH_NO_TRAM of the header.
+const NO_TRAM: u32 = u32::MAX;
+
+/// What a call answers that gives a tram's place in the list. A place where the list has no tram is an error, and so is none where
+/// there are trams.
+fn place_of(trams: &[Stretch], call: impl FnOnce(&[u32], &[u32], &mut [u32]) -> u32) -> Result<Option<usize>, Refusal> {
+    let mut values = [0u32; 1];
+    hand_over(trams, |lows, highs| call(lows, highs, &mut values))?;
+    let [place] = values;
+    match usize::try_from(place) {
+        Ok(place) if place < trams.len() => Ok(Some(place)),
+        _ if place == NO_TRAM && trams.is_empty() => Ok(None),
+        _ => Err(Refusal::NoSuchTram(place)),
     }
 }
 
@@ -413,6 +528,81 @@ pub fn millimetres(card: &[u8], position: u32) -> Result<i32, Refusal> {
     Ok(values[0])
 }
 
+/// Which trams cross a mark, yes or no for each in the order of the list: low at most the mark, and high at least the mark.
+///
+/// Before the search each stretch is widened by 10 × [`CardSummary::radius`] at both ends and cut to 0 and the last position. That is
+/// twice the most bits that five chunks within the radius can have damaged. So a stretch whose ends [`read_word`] read from words of
+/// the true positions a and b, each damaged in at most as many bits of every chunk as the radius is, holds a and b once it is widened.
+/// If a is at most the mark and b at least the mark, the answer for this tram is yes: none is missed.
+///
+/// Refused, in this order: the card; [`Refusal::TramCount`], more than [`MOST_TRAMS`] trams; [`Refusal::StretchLimits`], of the
+/// stretches and the mark as they are given, and of the mark where there are no trams too.
+pub fn trams_crossing(card: &[u8], trams: &[Stretch], mark: u32) -> Result<Vec<bool>, Refusal> {
+    yes_or_no(trams, |lows, highs, yes| unsafe {
+        exported::dunnavish_trams_crossing(
+            card.as_ptr(),
+            card.len(),
+            lows.as_ptr(),
+            lows.len(),
+            highs.as_ptr(),
+            highs.len(),
+            mark,
+            yes.as_mut_ptr(),
+            yes.len(),
+        )
+    })
+}
+
+/// Which trams stand wholly within two marks, yes or no for each in the order of the list: low at least the first, and high at most
+/// the second.
+///
+/// Stretches are widened and cut as by [`trams_crossing`]. If the answer for a tram is yes, a and b, as said there, lie within the
+/// marks.
+///
+/// Refused, in this order: the card; [`Refusal::TramCount`]; [`Refusal::StretchLimits`], of the stretches and the marks as they are
+/// given, and of the marks where there are no trams too.
+pub fn trams_within(card: &[u8], trams: &[Stretch], first: u32, second: u32) -> Result<Vec<bool>, Refusal> {
+    yes_or_no(trams, |lows, highs, yes| unsafe {
+        exported::dunnavish_trams_within(
+            card.as_ptr(),
+            card.len(),
+            lows.as_ptr(),
+            lows.len(),
+            highs.as_ptr(),
+            highs.len(),
+            first,
+            second,
+            yes.as_mut_ptr(),
+            yes.len(),
+        )
+    })
+}
+
+/// The place in the list, from 0, of the tram that is nearest to a mark; none where there are no trams.
+///
+/// Stretches are widened and cut as by [`trams_crossing`]. A tram's distance is from the mark to the nearer end of its widened
+/// stretch, and 0 where it crosses the mark. Of trams at the same distance it is the one with the smaller widened low, and then the
+/// earlier in the list. No part of a tram between a and b, as said there, is nearer to the mark than the widened stretch of the tram
+/// that is answered.
+///
+/// Refused, in this order: the card; [`Refusal::TramCount`]; [`Refusal::StretchLimits`], of the stretches and the mark as they are
+/// given, and of the mark where there are no trams too.
+pub fn nearest_tram(card: &[u8], trams: &[Stretch], mark: u32) -> Result<Option<usize>, Refusal> {
+    place_of(trams, |lows, highs, values| unsafe {
+        exported::dunnavish_nearest_tram(
+            card.as_ptr(),
+            card.len(),
+            lows.as_ptr(),
+            lows.len(),
+            highs.as_ptr(),
+            highs.len(),
+            mark,
+            values.as_mut_ptr(),
+            values.len(),
+        )
+    })
+}
+
 /// Makes the card of a Reed-Muller code, of order `r` in `m` variables, for a track. It is sound, with n = 2^m, D = 2^(m-r), and
 /// a row for each set of at most `r` variables: the smaller sets first, and sets of one size by their numbers. Its offset is 0.
 ///
@@ -437,7 +627,7 @@ pub fn vote_chunk(r: u32, m: u32, chunk: u64) -> Result<Vote, Refusal> {
 
 #[cfg(test)]
 mod tests {
-    use super::{reading, served, Reading, Refusal, Rule, NOT_READ};
+    use super::{hand_over, place_of, reading, served, yes_or_no, Reading, Refusal, Rule, Stretch, NOT_READ};
 
     #[test]
     fn an_unknown_status_is_an_error() {
@@ -445,7 +635,7 @@ mod tests {
         for refusal in Refusal::ALL {
             assert_eq!(served(refusal.number().unwrap()), Err(*refusal));
         }
-        for status in [18, 99, 100, 101, u32::MAX] {
+        for status in [20, 99, 100, 101, u32::MAX] {
             assert_eq!(served(status), Err(Refusal::UnknownStatus(status)));
             assert_eq!(Refusal::UnknownStatus(status).number(), None);
         }
@@ -481,5 +671,74 @@ mod tests {
         }
         let text = "the library counted bits of other code chunks than rule 2 names";
         assert_eq!(Refusal::OtherChunks(Rule::FirstDiffers).to_string(), text);
+    }
+
+    /// So many trams, tram i from i to 2 × i.
+    fn trams(count: u32) -> Vec<Stretch> {
+        (0..count).map(|i| Stretch { low: i, high: 2 * i }).collect()
+    }
+
+    #[test]
+    fn a_list_is_handed_over_up_to_65_trams() {
+        for (length, count) in [(0, 0), (1, 1), (2, 2), (64, 64), (65, 65), (66, 65), (100_000, 65)] {
+            let trams = trams(length);
+            for (status, expected) in [(18, Refusal::TramCount), (100, Refusal::UnknownStatus(100))] {
+                let answered = hand_over(&trams, |lows, highs| {
+                    assert_eq!(lows, (0..count).collect::<Vec<u32>>());
+                    assert_eq!(highs, (0..count).map(|i| 2 * i).collect::<Vec<u32>>());
+                    status
+                });
+                assert_eq!(answered, Err(expected));
+            }
+            assert_eq!(hand_over(&trams, |_, _| 0), if length > 64 { Err(Refusal::MoreTrams) } else { Ok(()) });
+        }
+        assert_eq!(Refusal::MoreTrams.number(), None);
+        assert_eq!(Refusal::MoreTrams.to_string(), "the library served a list of more than 64 trams");
+    }
+
+    #[test]
+    fn an_answer_that_is_neither_yes_nor_no_is_an_error() {
+        let answered = |answers: &[u8], status| {
+            yes_or_no(&trams(answers.len() as u32), |_, _, yes| {
+                yes.copy_from_slice(answers);
+                status
+            })
+        };
+        assert_eq!(answered(&[], 0), Ok(vec![]));
+        assert_eq!(answered(&[1, 0, 0, 1], 0), Ok(vec![true, false, false, true]));
+        assert_eq!(answered(&[1; 64], 0), Ok(vec![true; 64]));
+        assert_eq!(answered(&[1; 65], 0), Err(Refusal::MoreTrams));
+        for answer in 2..=255 {
+            for answers in [[answer, 0], [1, answer]] {
+                assert_eq!(answered(&answers, 0), Err(Refusal::NeitherYesNorNo(answer)));
+                assert_eq!(answered(&answers, 19), Err(Refusal::StretchLimits));
+            }
+            assert_eq!(Refusal::NeitherYesNorNo(answer).number(), None);
+        }
+        let text = "the library answered 255 of a tram, which is neither yes nor no";
+        assert_eq!(Refusal::NeitherYesNorNo(255).to_string(), text);
+    }
+
+    #[test]
+    fn a_place_where_the_list_has_no_tram_is_an_error() {
+        let answered = |count, place, status| {
+            place_of(&trams(count), |_, _, values| {
+                values.copy_from_slice(&[place]);
+                status
+            })
+        };
+        // none for 4,294,967,295 of no trams, and of no other list
+        assert_eq!(answered(0, 4_294_967_295, 0), Ok(None));
+        for (count, place) in [(1, 0), (2, 0), (2, 1), (64, 0), (64, 63)] {
+            assert_eq!(answered(count, place, 0), Ok(Some(place as usize)));
+            assert_eq!(answered(count, place, 19), Err(Refusal::StretchLimits));
+        }
+        for (count, place) in [(0, 0), (0, 4_294_967_294), (1, 1), (1, 4_294_967_295), (2, 2), (64, 64), (64, 4_294_967_295)] {
+            assert_eq!(answered(count, place, 0), Err(Refusal::NoSuchTram(place)));
+            assert_eq!(Refusal::NoSuchTram(place).number(), None);
+        }
+        assert_eq!(answered(65, 0, 0), Err(Refusal::MoreTrams));
+        let text = "the library answered that the nearest tram has place 64, where the list has none";
+        assert_eq!(Refusal::NoSuchTram(64).to_string(), text);
     }
 }

@@ -1,5 +1,5 @@
-//! The library against the straightforward implementation of document 01, P2, P3, P5 and P6 that the benchmark compares it with,
-//! written apart from it, on cards of every shape, with offsets, and words of every kind, in bits and in levels.
+//! The library against the straightforward implementation of document 01, P2, P3, P5, P6 and P8 that the benchmark compares it with,
+//! written apart from it, on cards of every shape, with offsets, words of every kind, in bits and in levels, and lists of trams.
 #[path = "../../bench/src/baseline.rs"]
 mod baseline;
 mod cards;
@@ -10,7 +10,7 @@ use baseline::{decode, Code, Kept, Order as _};
 use cards::{card_of, offset_card, seal};
 use codes::{golay, reed_muller};
 use dunnavish::{block_start, check_card, make_card, millimetres, read_levels, read_word, vote_chunk, write_word};
-use dunnavish::{Reading, Refusal};
+use dunnavish::{nearest_tram, trams_crossing, trams_within, Reading, Refusal, Stretch};
 use random::Random;
 
 fn number<T>(answer: Result<T, Refusal>) -> Result<T, u32> {
@@ -73,6 +73,22 @@ fn both_read_levels(card: &[u8], kept: &Kept, levels: &[f32]) {
     assert_eq!(answer.map(in_bits), expected.map(in_bits), "n {n} k {k} levels {levels:?}");
 }
 
+/// What crosses each of two marks and is nearest to it, and what is within them, in either order.
+fn both_search(card: &[u8], kept: &Kept, trams: &[Stretch], marks: [u32; 2]) {
+    let as_ours = |tram: &Stretch| baseline::Stretch { low: tram.low, high: tram.high };
+    let ours: Vec<baseline::Stretch> = trams.iter().map(as_ours).collect();
+    let Code { n, k, .. } = kept.code();
+    let asked = || format!("n {n} k {k} marks {marks:?} trams {trams:?}");
+    for mark in marks {
+        assert_eq!(number(trams_crossing(card, trams, mark)), baseline::trams_crossing(kept, &ours, mark), "{}", asked());
+        assert_eq!(number(nearest_tram(card, trams, mark)), baseline::nearest_tram(kept, &ours, mark), "{}", asked());
+    }
+    for [first, second] in [marks, [marks[1], marks[0]]] {
+        let expected = baseline::trams_within(kept, &ours, first, second);
+        assert_eq!(number(trams_within(card, trams, first, second)), expected, "{}", asked());
+    }
+}
+
 /// The word of a position on the track.
 fn word_of(kept: &Kept, position: usize) -> Vec<u8> {
     let mut word = vec![0; kept.code().bytes()];
@@ -120,6 +136,7 @@ fn both_answer(card: &[u8], random: &mut Random, rounds: usize) {
             _ => random.below(kept.last() + 1),
         };
         at_position(card, &kept, random, position);
+        at_marks(card, &kept, random, position);
     }
 }
 
@@ -133,6 +150,11 @@ fn every_call_refuses(card: &[u8]) {
     assert_eq!(read_levels(card, &[f32::NAN; 15]).err(), refusal);
     assert_eq!(block_start(card, 0).err(), refusal);
     assert_eq!(millimetres(card, 0).err(), refusal);
+    // more than 64 trams, each with low above high, and marks past the last position
+    let trams = [Stretch { low: 1, high: 0 }; 65];
+    assert_eq!(trams_crossing(card, &trams, u32::MAX).err(), refusal);
+    assert_eq!(trams_within(card, &trams, u32::MAX, 0).err(), refusal);
+    assert_eq!(nearest_tram(card, &trams, u32::MAX).err(), refusal);
 }
 
 /// Blocks and positions at the ends of what there is and past them, and words of other lengths.
@@ -153,6 +175,42 @@ fn at_the_ends(card: &[u8], kept: &Kept) {
     for count in [0, 1, kept.code().bits() - 1, kept.code().bits() + 1, 320, 321] {
         both_read_levels(card, kept, &vec![1.0; count]);
         both_read_levels(card, kept, &vec![f32::NAN; count]);
+    }
+    let last = last as u32;
+    for (low, high) in [(0, 0), (0, last), (last, last), (last, 0), (0, last + 1), (last + 1, last + 1), (0, u32::MAX)] {
+        for count in [0, 1, 64, 65, 66, 200] {
+            both_search(card, kept, &vec![Stretch { low, high }; count], [0, last]);
+            both_search(card, kept, &vec![Stretch { low, high }; count], [last + 1, u32::MAX]);
+        }
+    }
+}
+
+/// Trams and marks about a position, a few steps from it or from where stretches that end there are widened to, so that many are at
+/// the same distance and many marks at an end; then a mark about the last position; then a stretch that isn't from low to high on the
+/// track.
+fn at_marks(card: &[u8], kept: &Kept, random: &mut Random, position: usize) {
+    let (last, reach) = (kept.last(), 10 * kept.code().radius);
+    let near = |random: &mut Random| {
+        let from = position + [0, reach, 2 * reach, random.below(last + 1)][random.below(4)] + random.below(5);
+        (from.saturating_sub([2, 2 + reach, 2 + 2 * reach][random.below(3)])).min(last) as u32
+    };
+    let count = [0, 1, 2, 3, 8, 63, 64, 65, 1 + random.below(64)][random.below(9)];
+    let mut trams = Vec::new();
+    for _ in 0..count {
+        let (one, other) = (near(random), near(random));
+        trams.push(Stretch { low: one.min(other), high: one.max(other) });
+    }
+    let marks = [near(random), near(random)];
+    both_search(card, kept, &trams, marks);
+    both_search(card, kept, &trams, [near(random), last as u32 + random.below(3) as u32]);
+    if count > 0 {
+        let tram = &mut trams[random.below(count)];
+        *tram = match random.below(3) {
+            0 => Stretch { low: tram.high + 1, high: tram.high },
+            1 => Stretch { low: tram.low, high: last as u32 + 1 },
+            _ => Stretch { low: random.next() as u32, high: random.next() as u32 },
+        };
+        both_search(card, kept, &trams, marks);
     }
 }
 

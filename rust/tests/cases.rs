@@ -9,7 +9,7 @@ mod words;
 use asked::Asked;
 use divided::divided;
 use dunnavish::{block_start, check_card, make_card, millimetres, read_levels, read_word, vote_chunk, write_word};
-use dunnavish::{CardSummary, Reading, Refusal, CARD_BYTES};
+use dunnavish::{nearest_tram, trams_crossing, trams_within, CardSummary, Reading, Refusal, Stretch, CARD_BYTES};
 use std::collections::{HashMap, HashSet};
 use words::{chunks, word_at};
 
@@ -54,9 +54,20 @@ fn reading_of(reading: Reading) -> String {
     format!("at {position} residual {residual} rule {} bits {bits}", rule.number())
 }
 
-/// Each of the six calls on a card, with position and block 0, a lent and a received word of two bytes, and 15 levels: what all of
-/// them answer, or all their answers.
+/// Of each tram yes or no.
+fn yes_or_no(yes: Vec<bool>) -> String {
+    joined_or("nothing", yes.into_iter().map(|yes| if yes { "yes" } else { "no" }))
+}
+
+/// The place of a tram, if there is one.
+fn place(nearest: Option<usize>) -> String {
+    nearest.map_or("none".to_string(), |place| place.to_string())
+}
+
+/// Each of the nine calls on a card, with position, block and marks 0, a lent and a received word of two bytes, 15 levels, and a tram
+/// at 0: what all of them answer, or all their answers.
 fn every(card: &[u8]) -> String {
+    let tram = [Stretch { low: 0, high: 0 }];
     let mut answers = vec![
         written(check_card(card), summary_of),
         write(card, 0, vec![0xaa; 2]).replace(" left AA AA", ""),
@@ -64,6 +75,9 @@ fn every(card: &[u8]) -> String {
         written(read_levels(card, &[1.0; 15]), |(reading, _)| reading_of(reading)),
         written(block_start(card, 0), |start| start.to_string()),
         written(millimetres(card, 0), |distance| distance.to_string()),
+        written(trams_crossing(card, &tram, 0), yes_or_no),
+        written(trams_within(card, &tram, 0, 0), yes_or_no),
+        written(nearest_tram(card, &tram, 0), place),
     ];
     answers.dedup();
     answers.join(", ")
@@ -127,6 +141,18 @@ fn of_words(call: &str, card: &[u8], asked: &mut Asked) -> Result<String, String
     })
 }
 
+/// The library's answer to what is asked of the trams on a card's track.
+fn of_trams(call: &str, card: &[u8], asked: &mut Asked) -> Result<String, String> {
+    let first = asked.number()?;
+    let second = if call == "within" { asked.number()? } else { first };
+    let trams = asked.after("of")?.trams()?;
+    Ok(match call {
+        "crossing" => written(trams_crossing(card, &trams, first), yes_or_no),
+        "within" => written(trams_within(card, &trams, first, second), yes_or_no),
+        _ => written(nearest_tram(card, &trams, first), place),
+    })
+}
+
 /// The library's answer to what is asked of a card.
 fn of_card(call: &str, card: &[u8], asked: &mut Asked) -> Result<String, String> {
     Ok(match call {
@@ -141,6 +167,7 @@ fn of_card(call: &str, card: &[u8], asked: &mut Asked) -> Result<String, String>
             format!("{} strength {} {}", reading_of(reading), strength.sum, strength.greatest)
         }),
         "unlike" => unlike(card, asked.number()?, &asked.bytes()?),
+        "crossing" | "within" | "nearest" => of_trams(call, card, asked)?,
         _ => of_words(call, card, asked)?,
     })
 }
@@ -230,6 +257,8 @@ fn a_faulty_line_fails() {
         ("start B 1 = 9 + 5", "the answer is 15"),
         ("levels B 0*15 = at 0 residual 0 rule 3 bits 0 0 strength 15 1.0000001", "strength 15 1"),
         ("every B = refused 3", "the answer is n 3 k 1"),
+        ("crossing B 3 of 0-2 14-15 = yes yes", "the answer is yes no"),
+        ("nearest B 3 of 0-2 = none", "the answer is 0"),
         ("start B 1", "there is no answer"),
         ("begin B 1 = 15", "nothing is called begin"),
         ("start C 1 = 15", "no card is called C"),
@@ -239,6 +268,9 @@ fn a_faulty_line_fails() {
         ("read B 5G 00 = refused 6", "5G is no byte"),
         ("read B 05F 00 = refused 6", "05F is no byte"),
         ("levels B 0002 = refused 15", "0002 is no level"),
+        ("crossing B 3 0-2 = yes", "0-2 stands where of should"),
+        ("within B 3 of 0-2 = no", "of is no number"),
+        ("nearest B 3 of 2 = 0", "2 is no stretch"),
         ("check (n 3 m 1) = refused 3", "m is no part of a card"),
         ("check (n 3 k 1 = refused 3", "the line ends early"),
         ("card B = n 3", "another card is called B"),

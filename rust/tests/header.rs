@@ -1,6 +1,6 @@
-//! The C header says the same as this crate: the version, the refusals' numbers and texts, the sizes, what stands for no count. And
-//! the refusals' numbers are the documents'.
-use dunnavish::{Refusal, CARD_BYTES, WIDEST_WORD_BYTES};
+//! The C header says the same as this crate: the version, the refusals' numbers and texts, the sizes, what stands for no count and for
+//! no tram. And the refusals' numbers are the documents'.
+use dunnavish::{Refusal, CARD_BYTES, MOST_TRAMS, WIDEST_WORD_BYTES};
 
 const HEADER: &str = include_str!("../../include/dunnavish.h");
 
@@ -32,6 +32,7 @@ fn one_table_of_refusals() {
 fn the_same_sizes() {
     assert!(declares(&format!("#define DUNNAVISH_CARD_BYTES {CARD_BYTES}")));
     assert!(declares(&format!("#define DUNNAVISH_WIDEST_WORD_BYTES {WIDEST_WORD_BYTES}")));
+    assert!(declares(&format!("#define DUNNAVISH_MOST_TRAMS {MOST_TRAMS}")));
 }
 
 #[test]
@@ -41,13 +42,19 @@ fn a_chunk_that_is_not_read() {
 }
 
 #[test]
+fn no_tram() {
+    // the greatest number, which the crate's own tests show to be no place, and none only of no trams
+    assert!(declares(&format!("#define DUNNAVISH_NO_TRAM {}u", u32::MAX)));
+}
+
+#[test]
 fn refusals_have_the_documents_numbers() {
-    assert_eq!(Refusal::ALL.len(), 17);
+    assert_eq!(Refusal::ALL.len(), 19);
     for (number, refusal) in (1..).zip(Refusal::ALL) {
         assert_eq!(refusal.number(), Some(number));
         assert_eq!(Refusal::from_number(number), Some(*refusal));
     }
     assert_eq!(Refusal::from_number(0), None);
-    assert_eq!(Refusal::from_number(18), None);
+    assert_eq!(Refusal::from_number(20), None);
     assert_eq!(Refusal::from_number(100), None);
 }

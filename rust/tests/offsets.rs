@@ -3,7 +3,7 @@ mod cards;
 
 use cards::{card_of, offset_card, seal};
 use dunnavish::{block_start, check_card, make_card, millimetres, read_levels, read_word, write_word};
-use dunnavish::{CardSummary, Reading, Refusal, Rule};
+use dunnavish::{nearest_tram, trams_crossing, trams_within, CardSummary, Reading, Refusal, Rule, Stretch};
 
 /// Offsets within their range: its ends, 0, and the numbers beside these.
 const WITHIN: [i32; 7] = [-20_000, -19_999, -1, 0, 1, 19_999, 20_000];
@@ -41,6 +41,13 @@ fn every_call_refuses(card: &[u8], refusal: Refusal) {
     }
     for levels in [&[][..], &[1.0; 15], &[f32::NAN; 15]] {
         assert_eq!(read_levels(card, levels), Err(refusal));
+    }
+    for trams in [&[][..], &[Stretch { low: 0, high: 15 }], &[Stretch { low: 1, high: 0 }; 65]] {
+        for mark in [0, 16, u32::MAX] {
+            assert_eq!(trams_crossing(card, trams, mark), Err(refusal));
+            assert_eq!(trams_within(card, trams, mark, 15), Err(refusal));
+            assert_eq!(nearest_tram(card, trams, mark), Err(refusal));
+        }
     }
 }
 

@@ -1,14 +1,14 @@
 /*
  * What the header itself defines: the version, the text of a status, the bytes of a word, the indices of values and of a strength,
- * what stands for a chunk that is not read, and that an array of no elements may be NULL. Compiled as C99, as C11 and as C++; calls on a
- * card, one of them on levels, and the two that are given none show that it links in each.
+ * what stands for a chunk that is not read and for no tram, and that an array of no elements may be NULL. Compiled as C99, as C11 and as
+ * C++; calls on a card, of which one is on levels and three on trams, and the two that are given none show that it links in each.
  */
 #include <stdio.h>
 #include <string.h>
 
 #include "dunnavish.h"
 
-#define KNOWN 19
+#define KNOWN 21
 
 static int failed = 0;
 
@@ -23,7 +23,7 @@ static void expect(int holds, const char *what, unsigned long number)
 /* Every status has a text of its own, and every other number the same one, which is none of them. */
 static void status_texts(void)
 {
-    static const uint32_t known[KNOWN] = {0, 1, 2, 3, 4, 5, 6, 7, 8, 9, 10, 11, 12, 13, 14, 15, 16, 17, 100};
+    static const uint32_t known[KNOWN] = {0, 1, 2, 3, 4, 5, 6, 7, 8, 9, 10, 11, 12, 13, 14, 15, 16, 17, 18, 19, 100};
     const char *unknown = dunnavish_status_text(UINT32_MAX);
     uint32_t status;
     int i, j;
@@ -35,7 +35,7 @@ static void status_texts(void)
         for (j = 0; j < i; j++)
             expect(strcmp(text, dunnavish_status_text(known[j])) != 0, "the text of another for status", known[i]);
     }
-    for (status = 18; status < 100000; status++)
+    for (status = 20; status < 100000; status++)
         if (status != 100)
             expect(strcmp(dunnavish_status_text(status), unknown) == 0, "a text for the unknown status", status);
 }
@@ -208,6 +208,68 @@ static void levels_statuses(const uint8_t card[DUNNAVISH_CARD_BYTES])
     levels_refused(card, 0, -1, 14, 5, 0, DUNNAVISH_VALUE_COUNT);
 }
 
+/* What stands for no tram is this number, and no place in a list. */
+#if DUNNAVISH_NO_TRAM != 4294967295u || DUNNAVISH_MOST_TRAMS != 64
+#error "DUNNAVISH_NO_TRAM or DUNNAVISH_MOST_TRAMS is another number"
+#endif
+
+/* Two trams on card B, at 0 to 2 and 13 to 15, widened by 10 at both ends and cut: 0 to 12 and 3 to 15. Expects what is told of them. */
+static void trams_told(const uint8_t card[DUNNAVISH_CARD_BYTES], uint32_t mark, uint32_t second, const uint8_t crossing[2],
+                       const uint8_t within[2], uint32_t nearest)
+{
+    static const uint32_t lows[2] = {0, 13}, highs[2] = {2, 15};
+    const size_t bytes = DUNNAVISH_CARD_BYTES;
+    uint8_t yes[2] = {7, 7};
+    uint32_t values[DUNNAVISH_NUMBER_VALUES] = {7};
+
+    expect(dunnavish_trams_crossing(card, bytes, lows, 2, highs, 2, mark, yes, 2) == DUNNAVISH_OK, "no trams told to cross", mark);
+    expect(memcmp(yes, crossing, 2) == 0, "not the trams that cross", mark);
+    expect(dunnavish_trams_within(card, bytes, lows, 2, highs, 2, mark, second, yes, 2) == DUNNAVISH_OK, "no trams told within", mark);
+    expect(memcmp(yes, within, 2) == 0, "not the trams within two marks, the first", mark);
+    expect(dunnavish_nearest_tram(card, bytes, lows, 2, highs, 2, mark, values, DUNNAVISH_NUMBER_VALUES) == DUNNAVISH_OK,
+           "no tram nearest to", mark);
+    expect(values[0] == nearest, "not the tram nearest to", mark);
+}
+
+/* Expects that the three calls refuse `count` trams, all from one low to one high, and change nothing. */
+static void trams_refused(const uint8_t card[DUNNAVISH_CARD_BYTES], uint32_t low, uint32_t high, size_t count, uint32_t mark,
+                          uint32_t expected)
+{
+    const size_t bytes = DUNNAVISH_CARD_BYTES;
+    uint32_t lows[DUNNAVISH_MOST_TRAMS + 1], highs[DUNNAVISH_MOST_TRAMS + 1], values[DUNNAVISH_NUMBER_VALUES] = {7};
+    uint8_t yes[DUNNAVISH_MOST_TRAMS + 1];
+    size_t i;
+
+    for (i = 0; i <= DUNNAVISH_MOST_TRAMS; i++) {
+        lows[i] = low;
+        highs[i] = high;
+        yes[i] = 7;
+    }
+    expect(dunnavish_trams_crossing(card, bytes, lows, count, highs, count, mark, yes, count) == expected, "crossing not", expected);
+    expect(dunnavish_trams_within(card, bytes, lows, count, highs, count, mark, mark, yes, count) == expected, "within not", expected);
+    expect(dunnavish_nearest_tram(card, bytes, lows, count, highs, count, mark, values, 1) == expected, "nearest not", expected);
+    for (i = 0; i <= DUNNAVISH_MOST_TRAMS; i++)
+        expect(yes[i] == 7, "an answer changed by refusal", expected);
+    expect(values[0] == 7, "a place changed by refusal", expected);
+}
+
+static void trams(const uint8_t card[DUNNAVISH_CARD_BYTES])
+{
+    static const uint8_t none[2] = {0, 0}, first[2] = {1, 0}, second[2] = {0, 1}, both[2] = {1, 1};
+
+    trams_told(card, 0, 12, first, first, 0);
+    trams_told(card, 0, 15, first, both, 0);
+    trams_told(card, 3, 15, both, second, 0);
+    trams_told(card, 12, 12, both, none, 0);
+    trams_told(card, 13, 15, second, none, 1);
+    trams_refused(card, 0, 15, DUNNAVISH_MOST_TRAMS + 1, 0, DUNNAVISH_TRAM_COUNT);
+    trams_refused(card, 6, 5, DUNNAVISH_MOST_TRAMS + 1, 0, DUNNAVISH_TRAM_COUNT);
+    trams_refused(card, 6, 5, DUNNAVISH_MOST_TRAMS, 0, DUNNAVISH_STRETCH_LIMITS);
+    trams_refused(card, 0, 16, 1, 0, DUNNAVISH_STRETCH_LIMITS);
+    trams_refused(card, 0, 15, 1, 16, DUNNAVISH_STRETCH_LIMITS);
+    trams_refused(card, 0, 15, 0, 16, DUNNAVISH_STRETCH_LIMITS);
+}
+
 /* The code of order 0 in 2 variables has one row, 15: n 4, k 1, D 4, t 1. 7 is one bit from c(1), and 3 two bits from each. */
 static void made_card(void)
 {
@@ -254,11 +316,15 @@ static void offsets(void)
     expect(mm[0] == -1, "a number changed by refusal", 14);
 }
 
-/* An array of no elements may be NULL, in the place of each array of each call: it is refused as one of a wrong count. */
+/*
+ * An array of no elements may be NULL, in the place of each array of each call: it is refused as one of a wrong count, but no trams are
+ * served.
+ */
 static void nothing_at_null(const uint8_t card[DUNNAVISH_CARD_BYTES])
 {
     static const float levels[15] = {1, 1, 1, 1, 1, 1, 1, 1, 1, 1, 1, 1, 1, 1, 1};
     static const uint8_t word[2] = {0, 0};
+    static const uint32_t low[1] = {0}, high[1] = {15};
     uint8_t lent[2];
     uint32_t numbers[DUNNAVISH_CARD_VALUES];
     int32_t distance[DUNNAVISH_NUMBER_VALUES];
@@ -284,6 +350,35 @@ static void nothing_at_null(const uint8_t card[DUNNAVISH_CARD_BYTES])
     expect(dunnavish_block_start(card, bytes, 0, NULL, 0) == DUNNAVISH_VALUE_COUNT, "start into none, not", DUNNAVISH_VALUE_COUNT);
     expect(dunnavish_millimetres(NULL, 0, 0, distance, 1) == DUNNAVISH_CARD_LENGTH, "distance by no card, not", DUNNAVISH_CARD_LENGTH);
     expect(dunnavish_millimetres(card, bytes, 0, NULL, 0) == DUNNAVISH_VALUE_COUNT, "distance into none, not", DUNNAVISH_VALUE_COUNT);
+    expect(dunnavish_trams_crossing(card, bytes, NULL, 0, NULL, 0, 15, NULL, 0) == DUNNAVISH_OK, "no trams crossing, not", DUNNAVISH_OK);
+    expect(dunnavish_trams_crossing(NULL, 0, NULL, 0, NULL, 0, 15, NULL, 0) == DUNNAVISH_CARD_LENGTH, "crossing by no card, not",
+           DUNNAVISH_CARD_LENGTH);
+    expect(dunnavish_trams_crossing(card, bytes, NULL, 0, high, 1, 15, lent, 1) == DUNNAVISH_VALUE_COUNT, "crossing by no lows, not",
+           DUNNAVISH_VALUE_COUNT);
+    expect(dunnavish_trams_crossing(card, bytes, low, 1, NULL, 0, 15, lent, 1) == DUNNAVISH_VALUE_COUNT, "crossing by no highs, not",
+           DUNNAVISH_VALUE_COUNT);
+    expect(dunnavish_trams_crossing(card, bytes, low, 1, high, 1, 15, NULL, 0) == DUNNAVISH_VALUE_COUNT, "crossing into none, not",
+           DUNNAVISH_VALUE_COUNT);
+    expect(dunnavish_trams_within(card, bytes, NULL, 0, NULL, 0, 0, 15, NULL, 0) == DUNNAVISH_OK, "no trams within, not", DUNNAVISH_OK);
+    expect(dunnavish_trams_within(NULL, 0, NULL, 0, NULL, 0, 0, 15, NULL, 0) == DUNNAVISH_CARD_LENGTH, "within by no card, not",
+           DUNNAVISH_CARD_LENGTH);
+    expect(dunnavish_trams_within(card, bytes, NULL, 0, high, 1, 0, 15, lent, 1) == DUNNAVISH_VALUE_COUNT, "within by no lows, not",
+           DUNNAVISH_VALUE_COUNT);
+    expect(dunnavish_trams_within(card, bytes, low, 1, NULL, 0, 0, 15, lent, 1) == DUNNAVISH_VALUE_COUNT, "within by no highs, not",
+           DUNNAVISH_VALUE_COUNT);
+    expect(dunnavish_trams_within(card, bytes, low, 1, high, 1, 0, 15, NULL, 0) == DUNNAVISH_VALUE_COUNT, "within into none, not",
+           DUNNAVISH_VALUE_COUNT);
+    numbers[0] = 0;
+    expect(dunnavish_nearest_tram(card, bytes, NULL, 0, NULL, 0, 15, numbers, 1) == DUNNAVISH_OK, "no tram nearest, not", DUNNAVISH_OK);
+    expect(numbers[0] == DUNNAVISH_NO_TRAM, "of no trams the nearest is", numbers[0]);
+    expect(dunnavish_nearest_tram(NULL, 0, NULL, 0, NULL, 0, 15, numbers, 1) == DUNNAVISH_CARD_LENGTH, "nearest by no card, not",
+           DUNNAVISH_CARD_LENGTH);
+    expect(dunnavish_nearest_tram(card, bytes, NULL, 0, high, 1, 15, numbers, 1) == DUNNAVISH_VALUE_COUNT, "nearest by no lows, not",
+           DUNNAVISH_VALUE_COUNT);
+    expect(dunnavish_nearest_tram(card, bytes, low, 1, NULL, 0, 15, numbers, 1) == DUNNAVISH_VALUE_COUNT, "nearest by no highs, not",
+           DUNNAVISH_VALUE_COUNT);
+    expect(dunnavish_nearest_tram(card, bytes, low, 1, high, 1, 15, NULL, 0) == DUNNAVISH_VALUE_COUNT, "nearest into none, not",
+           DUNNAVISH_VALUE_COUNT);
     expect(dunnavish_make_card(14, 0, 2, NULL, 0) == DUNNAVISH_VALUE_COUNT, "card into none, not", DUNNAVISH_VALUE_COUNT);
     expect(dunnavish_vote_chunk(0, 2, 0x7, NULL, 0) == DUNNAVISH_VALUE_COUNT, "vote into none, not", DUNNAVISH_VALUE_COUNT);
 }
@@ -305,6 +400,7 @@ int main(int argc, char **argv)
     divided_arbitrarily(card_b);
     levels_read(card_b);
     levels_statuses(card_b);
+    trams(card_b);
     made_card();
     offsets();
     nothing_at_null(card_b);

@@ -15,8 +15,8 @@
 #define MARKED_BYTE 0xA5
 #define COUNT_OF(list) (sizeof(list) / sizeof *(list))
 
-enum { CHECK, READ, START, VOTE, CALLS };
-static const size_t counts[CALLS] = {DUNNAVISH_CARD_VALUES, DUNNAVISH_READ_VALUES, DUNNAVISH_NUMBER_VALUES,
+enum { CHECK, READ, START, NEAREST, VOTE, CALLS };
+static const size_t counts[CALLS] = {DUNNAVISH_CARD_VALUES, DUNNAVISH_READ_VALUES, DUNNAVISH_NUMBER_VALUES, DUNNAVISH_NUMBER_VALUES,
                                      DUNNAVISH_VOTE_VALUES};
 
 /* Card B: n 3, k 1, track 14, row 7; its check is 145 where the offset is 0. */
@@ -24,9 +24,13 @@ static uint8_t card[DUNNAVISH_CARD_BYTES];
 static uint32_t values[LENT];
 static int failed = 0;
 
+/* Two trams on it, widened by 10 at both ends and cut: 0 to 12 and 3 to 15. */
+static const uint32_t lows[2] = {0, 13}, highs[2] = {2, 15};
+
 /*
  * A call: on card B with an offset, `card_bytes` of it lent, or of a vote on a chunk of the code of order r in m variables.
- * Place p of the word that is read, which has two bytes, or of the chunk, is the bit worth 2^p of `bits`.
+ * Place p of the word that is read, which has two bytes, or of the chunk, is the bit worth 2^p of `bits`; the mark to which a tram is
+ * the nearest is `bits` itself.
  */
 struct trial {
     int which;
@@ -78,6 +82,12 @@ static const struct trial trials[] = {
     {READ, 512, 0, 0, 0, 0x0E00, 11, {0}},
     {READ, 512, 0, 0, 0, 0x01C0, 9, {0}},
     {READ, 512, 0, 0, 0, 0x8000, 8, {0}},
+    /* both trams cross 12, and the first has the smaller low */
+    {NEAREST, 512, 0, 0, 0, 12, 0, {0}},
+    {NEAREST, 512, -20000, 0, 0, 13, 0, {1}},
+    {NEAREST, 512, 0, 0, 0, 16, 19, {0}},
+    {NEAREST, 511, 0, 0, 0, 16, 1, {0}},
+    {NEAREST, 512, 20001, 0, 0, 16, 14, {0}},
     {VOTE, 0, 0, 1, 3, 0xAA, 0, {3, 0}},
     {VOTE, 0, 0, 1, 3, 0xAB, 0, {3, 1}},
     {VOTE, 0, 0, 1, 3, 0x03, 10, {0}},
@@ -131,6 +141,8 @@ static uint32_t call(const struct trial *trial, size_t count)
         return dunnavish_read_word(card, trial->card_bytes, word, sizeof word, values, count);
     case START:
         return dunnavish_block_start(card, trial->card_bytes, 1, values, count);
+    case NEAREST:
+        return dunnavish_nearest_tram(card, trial->card_bytes, lows, 2, highs, 2, (uint32_t)trial->bits, values, count);
     default:
         return dunnavish_vote_chunk(trial->r, trial->m, trial->bits, values, count);
     }

@@ -2,8 +2,8 @@
  * Measures the stack that a call takes, and fails if it is not below what include/dunnavish.h promises. Each call runs on a
  * thread whose stack is painted first; a thread that calls nothing is subtracted. Cards of every length n, and of the fewest and
  * the most rows, with offsets, and positions over the whole track, their words as they are and with damaged code chunks, in bits
- * and in levels; every Reed-Muller code that has a card. Linked with -Wl,-z,now, so that memcpy and memset are bound before the
- * calls.
+ * and in levels; no trams, and 64; every Reed-Muller code that has a card. Linked with -Wl,-z,now, so that memcpy and memset are bound
+ * before the calls.
  */
 #include <pthread.h>
 #include <stdio.h>
@@ -17,9 +17,9 @@
 #define PAINT 0xA5
 
 /* The calls on a card, and from MAKE on those that are given none. */
-enum { NOTHING, CHECK, WRITE, READ, LEVELS, START, MILLIMETRES, MAKE, VOTE, CALLS };
-static const char *const names[CALLS] = {"nothing",     "check_card",  "write_word",  "read_word", "read_levels",
-                                         "block_start", "millimetres", "make_card", "vote_chunk"};
+enum { NOTHING, CHECK, WRITE, READ, LEVELS, START, MILLIMETRES, CROSSING, WITHIN, NEAREST, MAKE, VOTE, CALLS };
+static const char *const names[CALLS] = {"nothing",     "check_card",     "write_word",   "read_word",    "read_levels", "block_start",
+                                         "millimetres", "trams_crossing", "trams_within", "nearest_tram", "make_card",   "vote_chunk"};
 
 /* The greatest order of a Reed-Muller code with at most 12 rows, by the number of variables, 1 to 6. */
 static const uint32_t greatest_order[7] = {0, 1, 2, 3, 2, 1, 1};
@@ -30,6 +30,9 @@ static size_t word_bytes, word_bits;
 static float levels[8 * DUNNAVISH_WIDEST_WORD_BYTES], strength[DUNNAVISH_STRENGTH_VALUES];
 static uint32_t values[DUNNAVISH_CARD_VALUES];
 static int32_t distance[DUNNAVISH_NUMBER_VALUES];
+static uint32_t lows[DUNNAVISH_MOST_TRAMS], highs[DUNNAVISH_MOST_TRAMS];
+static uint8_t yes[DUNNAVISH_MOST_TRAMS];
+static size_t trams;
 static uint32_t position, r, m, status;
 static uint64_t chunk;
 static unsigned char *stack;
@@ -65,6 +68,15 @@ static void *called(void *which)
         break;
     case MILLIMETRES:
         status = dunnavish_millimetres(card, sizeof card, position, distance, DUNNAVISH_NUMBER_VALUES);
+        break;
+    case CROSSING:
+        status = dunnavish_trams_crossing(card, sizeof card, lows, trams, highs, trams, position, yes, trams);
+        break;
+    case WITHIN:
+        status = dunnavish_trams_within(card, sizeof card, lows, trams, highs, trams, 0, position, yes, trams);
+        break;
+    case NEAREST:
+        status = dunnavish_nearest_tram(card, sizeof card, lows, trams, highs, trams, position, values, DUNNAVISH_NUMBER_VALUES);
         break;
     case MAKE:
         status = dunnavish_make_card(14, r, m, card, sizeof card);
@@ -161,7 +173,19 @@ static void make_levels(int erased)
         levels[p] = levels[p + width + n] = 0.0f;
 }
 
-/* One call on the card that was made, at a position that the round chooses. Words are damaged in every second round. */
+/* Trams on a track: none, or as many as it holds. */
+static void make_trams(int some, uint32_t last)
+{
+    uint32_t i;
+
+    trams = some ? DUNNAVISH_MOST_TRAMS : 0;
+    for (i = 0; i < trams; i++) {
+        lows[i] = (uint32_t)(next_random() % (last + 1));
+        highs[i] = lows[i] + (uint32_t)(next_random() % (last - lows[i] + 1));
+    }
+}
+
+/* One call on the card that was made, at a position that the round chooses. In every second round words are damaged and trams there. */
 static void call_on_card(int which, int round)
 {
     uint32_t last;
@@ -178,6 +202,7 @@ static void call_on_card(int which, int round)
         damage_chunks();
     if (which == LEVELS)
         make_levels(round % 2 == 1);
+    make_trams(round % 2 == 1, last);
     measure(which);
 }
 

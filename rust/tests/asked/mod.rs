@@ -1,7 +1,7 @@
 //! What a line of cases.txt asks, word by word.
 use crate::cards::{card_of, seal};
 use crate::words::packed;
-use dunnavish::make_card;
+use dunnavish::{make_card, Stretch};
 use std::collections::HashMap;
 use std::iter::{once, repeat};
 use std::str::FromStr;
@@ -21,6 +21,11 @@ pub fn repeated(text: &str) -> Result<Vec<String>, String> {
 fn byte_of(word: &str) -> Option<u8> {
     let two_digits = word.len() == 2 && word.chars().all(|digit| digit.is_ascii_hexdigit());
     u8::from_str_radix(word, 16).ok().filter(|_| two_digits)
+}
+
+fn stretch_of(word: &str) -> Option<Stretch> {
+    let (low, high) = word.split_once('-')?;
+    Some(Stretch { low: low.parse().ok()?, high: high.parse().ok()? })
 }
 
 /// The words that are still to be read.
@@ -115,6 +120,11 @@ impl Asked {
             true => word.parse().ok().map(|level| vec![level]),
             false => word.chars().map(level).collect(),
         })
+    }
+
+    /// Trams: stretches, low and high.
+    pub fn trams(&mut self) -> Result<Vec<Stretch>, String> {
+        self.all("stretch", |word| stretch_of(word).map(|stretch| vec![stretch]))
     }
 
     /// One of the five chunks, which are numbered from 0: separators 1 to 3, and chunks 1 and 2, the code chunks.
