@@ -98,3 +98,42 @@ pub fn vote(tally: &mut Tally, answer: Result<Vote, Refusal>, second: Result<Vot
         tally.greatest("most bits damaged in a chunk that is read", vote.bits.into());
     }
 }
+
+/// Yes or no for each tram of a list, or the nearest one's place in it.
+pub type EachTram = Result<Vec<bool>, Refusal>;
+pub type Nearest = Result<Option<usize>, Refusal>;
+
+/// Which trams both tell to cross a mark.
+pub fn crossing(tally: &mut Tally, answer: &EachTram, second: &EachTram) {
+    told(tally, "searches for crossing trams", answer, second);
+    tally.add_all("trams told to cross a mark", trams_told(second, true));
+    tally.add_all("trams told not to cross a mark", trams_told(second, false));
+}
+
+/// Which trams both tell to be wholly within two marks.
+pub fn within(tally: &mut Tally, answer: &EachTram, second: &EachTram) {
+    told(tally, "searches within two marks", answer, second);
+    tally.add_all("trams told to be within two marks", trams_told(second, true));
+    tally.add_all("trams told not to be within two marks", trams_told(second, false));
+}
+
+/// Which tram both tell to be the nearest to a mark.
+pub fn nearest(tally: &mut Tally, answer: Nearest, second: Nearest) {
+    told(tally, "searches for the nearest tram", &answer, &second);
+    tally.add("searches for the nearest of no trams", second == Ok(None));
+}
+
+/// What both tell of a list of trams.
+fn told<T: PartialEq>(tally: &mut Tally, searches: &str, answer: &Result<T, Refusal>, second: &Result<T, Refusal>) {
+    answered(tally, searches, &format!("{searches} answered"), second.as_ref().map_err(|&refusal| refusal), answer != second);
+}
+
+/// How many trams have this answer.
+fn trams_told(answer: &EachTram, told: bool) -> u64 {
+    answer.iter().flatten().filter(|&&one| one == told).count() as u64
+}
+
+/// What both read of a damaged word of an end of a tram.
+pub fn end(tally: &mut Tally, answer: Result<Reading, Refusal>, second: Result<Reading, Refusal>) {
+    answered(tally, "ends of trams", "ends of trams read", second, answer != second);
+}

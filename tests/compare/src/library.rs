@@ -1,5 +1,5 @@
 //! The library's public calls, with answers in the second reader's form.
-use second_reader::{Facts, Reading, Refusal, Strength, Vote};
+use second_reader::{Facts, Reading, Refusal, Strength, Stretch, Vote};
 
 /// What the Rust crate has no number for (an unknown status or rule, or counts of other chunks than the rule names) is a refusal
 /// that the second reader never answers.
@@ -58,4 +58,20 @@ pub fn make_card(track: u16, r: u32, m: u32) -> Result<[u8; 512], Refusal> {
 pub fn vote_chunk(r: u32, m: u32, chunk: u64) -> Result<Vote, Refusal> {
     let vote = dunnavish::vote_chunk(r, m, chunk).map_err(number)?;
     Ok(Vote { number: vote.number, bits: vote.bits })
+}
+
+pub fn trams_crossing(card: &[u8], trams: &[Stretch], mark: u32) -> Result<Vec<bool>, Refusal> {
+    dunnavish::trams_crossing(card, &lent(trams), mark).map_err(number)
+}
+
+pub fn trams_within(card: &[u8], trams: &[Stretch], first: u32, second: u32) -> Result<Vec<bool>, Refusal> {
+    dunnavish::trams_within(card, &lent(trams), first, second).map_err(number)
+}
+
+pub fn nearest_tram(card: &[u8], trams: &[Stretch], mark: u32) -> Result<Option<usize>, Refusal> {
+    dunnavish::nearest_tram(card, &lent(trams), mark).map_err(number)
+}
+
+fn lent(trams: &[Stretch]) -> Vec<dunnavish::Stretch> {
+    trams.iter().map(|&Stretch { low, high }| dunnavish::Stretch { low, high }).collect()
 }

@@ -1,11 +1,11 @@
 //! Compares the library's public calls with the second reader, on cards of every shape, with faults and with offsets, on words
-//! damaged in many ways, in bits and in levels, and on the Reed-Muller codes and their chunks, and prints counts. A call is
-//! compared in `calls.rs`, a count is a line of `tally.rs`, and what is tried stands in `trials`.
+//! damaged in many ways, in bits and in levels, on the Reed-Muller codes and their chunks, and on lists of trams at marks, and
+//! prints counts. A call is compared in `calls.rs`, a count is a line of `tally.rs`, and what is tried stands in `trials`.
 //!
-//! How the file `expected` was made: every count but the last eighteen follows from how the cards, words and chunks are made and
-//! from what the second reader answers, and none of them from the library. The last eighteen are of the library, and are 0 where it
-//! is right. So the file has the former as the program printed them with a library that refused every call, and 0 for each of the
-//! latter.
+//! How the file `expected` was made: every count but the last twenty-five follows from how the cards, words, chunks and lists are
+//! made and from what the second reader answers, and none of them from the library. The last twenty-five are of the library, and
+//! are 0 where it is right. So the file has the former as the program printed them with a library that refused every call, and 0
+//! for each of the latter.
 mod calls;
 mod codes;
 mod counts;
@@ -15,7 +15,10 @@ mod library;
 mod parity;
 mod positions;
 mod small_cards;
+mod stood;
 mod tally;
+mod ties;
+mod trams;
 mod trials;
 
 use second_reader::track::Track;
@@ -42,6 +45,16 @@ const WITH_OFFSETS: [usize; 5] = [CARD_B, WIDEST, CARD_A, 90, 199];
 const WITH_LIMITS: [usize; 5] = [0, 1, CARD_A, CARD_B, WIDEST];
 const WITH_MANY: [usize; 3] = [CARD_A, CARD_B, 4];
 
+/// The shapes on whose tracks lists of trams of each kind are tried, and trams that stood somewhere: those of n 1 and of card A,
+/// with t 0; the repetition codes of n 3, which is card B, of 5 and 63, on which 10t is 5 less than the last position, and of 64;
+/// the Reed-Muller code of order 1 with n 64; the Hamming code of length 7; the BCH code of length 15 with D 7; the largest; and
+/// the one of two rows with D 3. On no track is 10t above the last position: it is at most 5D - 5, and block 0 alone has at least
+/// 5D steps.
+const WITH_TRAMS: [usize; 11] = [0, CARD_A, CARD_B, 4, 62, WIDEST, 93, 97, 100, LARGEST, 268];
+
+/// The shapes of the smallest tracks, on which every list of up to two trams is tried.
+const WITH_EVERY_LIST: [usize; 3] = [0, CARD_B, CARD_A];
+
 /// Every word of levels 1, -1 and 0 is tried up to this number of bits, and of card A, with its twelve.
 const EVERY_WORD: usize = 10;
 
@@ -64,6 +77,7 @@ fn main() {
     with_levels(&mut tally, &shapes);
     with_divided_chunks(&mut tally, &shapes);
     codes::all(&mut tally);
+    with_trams(&mut tally, &shapes);
     tally.print();
 }
 
@@ -115,6 +129,22 @@ fn with_divided_chunks(tally: &mut Tally, shapes: &[Shape]) {
     }
 }
 
+/// Trams at marks on cards of some shapes: lists of each kind, trams where they stood, and every list of the smallest cards.
+fn with_trams(tally: &mut Tally, shapes: &[Shape]) {
+    let laid = |i: usize| cards::sealed(cards::of_shape(&shapes[i], i as u16));
+    for i in WITH_TRAMS {
+        let card = laid(i);
+        let track = Track::of_card(&card).expect("the rows are independent");
+        trams::of_each_kind(tally, &card, &track, i as u64);
+        stood::lists(tally, &card, &track, i as u64);
+    }
+    for i in WITH_EVERY_LIST {
+        let card = laid(i);
+        let track = Track::of_card(&card).expect("the rows are independent");
+        trams::every_list(tally, &card, &track);
+    }
+}
+
 /// A card of any bytes. What is tried of it is chosen by `id`.
 fn card(tally: &mut Tally, card: &[u8], id: u64) {
     let track = Track::of_card(card);
@@ -124,11 +154,13 @@ fn card(tally: &mut Tally, card: &[u8], id: u64) {
             positions::blocks(tally, card, &track);
             positions::from_end_to_end(tally, card, &track, id);
             ends(tally, card, &track);
+            trams::some(tally, card, &track, id);
         }
         Err(_) => {
             of_length(tally, card, 0, 2);
             calls::numbers(tally, card, 0);
             levels::on_refused(tally, card);
+            trams::on_refused(tally, card);
         }
     }
 }

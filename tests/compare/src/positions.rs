@@ -49,7 +49,7 @@ pub fn from_end_to_end(tally: &mut Tally, card: &[u8], track: &Track, id: u64) {
 
 /// Brings the walk behind another up to a word's bits before it: as far back as the allowed positions of a word that is damaged
 /// within the radius in every chunk that is not divided can reach.
-fn follow(behind: &mut Walk, position: u32) {
+pub fn follow(behind: &mut Walk, position: u32) {
     let bits = behind.word.len() as u32;
     behind.go_to(behind.position.max(position.saturating_sub(bits)));
 }

@@ -1,7 +1,7 @@
 //! The counts that the program prints.
 
 /// The printed lines in their order: a name each, under which something is counted.
-const LINES: [&str; 110] = [
+const LINES: [&str; 152] = [
     // What the second reader answered, call by call.
     "cards sound",
     "cards refused 1",
@@ -67,6 +67,24 @@ const LINES: [&str; 110] = [
     "chunks refused 8",
     "chunks refused 10",
     "chunks refused 13",
+    "searches for crossing trams answered",
+    "searches for crossing trams on refused cards",
+    "searches for crossing trams refused 18",
+    "searches for crossing trams refused 19",
+    "trams told to cross a mark",
+    "trams told not to cross a mark",
+    "searches within two marks answered",
+    "searches within two marks on refused cards",
+    "searches within two marks refused 18",
+    "searches within two marks refused 19",
+    "trams told to be within two marks",
+    "trams told not to be within two marks",
+    "searches for the nearest tram answered",
+    "searches for the nearest tram on refused cards",
+    "searches for the nearest tram refused 18",
+    "searches for the nearest tram refused 19",
+    "searches for the nearest of no trams",
+    "ends of trams read",
     // What was tried, and how far off the second reader was.
     "neighbours compared",
     "words damaged within the radius",
@@ -99,6 +117,25 @@ const LINES: [&str; 110] = [
     "words whose separator has not the parity of p",
     "most bits damaged in a chunk that is read",
     "chunks also read in a word",
+    // Two trams or more that are as near to a mark as the nearest is.
+    "ties of crossing trams",
+    "ties on both sides of the mark",
+    "ties below the mark with other low ends",
+    "ties above the mark, where low ends are the same",
+    "ties that the low end settles",
+    "ties that the place in the list settles",
+    "ties that the low ends as given would settle otherwise",
+    // Trams whose ends are read from words that are damaged within the radius: where they stood, and the stretches as read.
+    "trams read in order",
+    "trams read out of order",
+    "trams read shorter than they stood",
+    "most steps by which one of them is read short at an end",
+    "trams that stood at a mark",
+    "trams of these whose stretch as read is not at the mark",
+    "trams that did not stand within two marks",
+    "trams of these whose stretch as read is within the marks",
+    "nearest trams held to where trams stood",
+    "marks of these that are nearer to where a tram stood than to any stretch as read",
     "answers compared",
     // What the library got wrong: 0 each where it is right.
     "mismatches of cards",
@@ -108,6 +145,10 @@ const LINES: [&str; 110] = [
     "mismatches of words of levels",
     "mismatches of made cards",
     "mismatches of chunks",
+    "mismatches of searches for crossing trams",
+    "mismatches of searches within two marks",
+    "mismatches of searches for the nearest tram",
+    "mismatches of ends of trams",
     "neighbours not one bit apart",
     "errors above twice the bits damaged or refused",
     "words within these limits refused",
@@ -119,6 +160,9 @@ const LINES: [&str; 110] = [
     "words of levels 1 and -1 unlike the plain word",
     "words read or refused against the parity of p",
     "votes unlike a chunk's reading in a word",
+    "trams that stood at a mark not told to cross it",
+    "trams that did not stand within two marks told to be there",
+    "nearest trams further off than where a tram stood, or none",
 ];
 
 /// A count for each line.
@@ -131,7 +175,12 @@ impl Tally {
 
     /// One more, if there is one.
     pub fn add(&mut self, line: &str, one_more: bool) {
-        *self.count(line) += u64::from(one_more);
+        self.add_all(line, one_more.into());
+    }
+
+    /// So many more.
+    pub fn add_all(&mut self, line: &str, more: u64) {
+        *self.count(line) += more;
     }
 
     /// The greatest value so far.
