@@ -23,6 +23,8 @@ use Rattle.model.specs.WriteWord.{writeRefusal, writeAnswer, lentAfterWrite}
 use Rattle.model.specs.ReadWord.{readRefusal, readAnswer}
 use Rattle.model.specs.ReadLevels.{levelsRefusal, levelsAnswer}
 use Rattle.model.specs.BlockStart.{startRefusal, startAnswer}
+use Rattle.model.specs.Trams.{tramsRefusal, markedAnswer}
+use Rattle.model.specs.NearestTram.{nearestAnswer}
 use Rattle.model.specs.Millimetres.{millimetresRefusal, millimetresAnswer}
 use Rattle.model.specs.declared.NumberAnswer.the-variants.{Number, Refused as NumberRefused}
 use Rattle.model.specs.declared.MillimetresAnswer.the-variants.{Millimetres, Refused as MillimetresRefused}
@@ -119,7 +121,7 @@ module _ (b b′ : List ℕ) (same : SameButOffset b b′) where
 
   pub alike-but-distances : AnsweredAlike b b′
   unfolding cardAnswer summaryOf trackOf writeRefusal writeAnswer lentAfterWrite readRefusal readAnswer
-      levelsRefusal levelsAnswer startRefusal startAnswer
+      levelsRefusal levelsAnswer startRefusal startAnswer tramsRefusal markedAnswer nearestAnswer
   alike-but-distances =
       record {
         refused = same-refusal;
@@ -130,4 +132,7 @@ module _ (b b′ : List ℕ) (same : SameButOffset b b′) where
         read = λ received. rw (same-refusal, same-code);
         read-levels = λ levels. rw (same-refusal, same-code);
         started = λ block. rw (same-refusal, same-code);
+        crossing = λ trams mark. rw (same-refusal, same-code);
+        within = λ trams first second. rw (same-refusal, same-code);
+        nearest = λ trams mark. rw (same-refusal, same-code);
       }

@@ -19,6 +19,10 @@ use Rattle.model.specs.WriteWord.{writeAnswer, lentAfterWrite}
 use Rattle.model.specs.ReadWord.{readAnswer}
 use Rattle.model.specs.ReadLevels.{levelsAnswer}
 use Rattle.model.specs.BlockStart.{startAnswer}
+use Rattle.model.specs.TramsCrossing.{crossingAnswer}
+use Rattle.model.specs.TramsWithin.{withinAnswer}
+use Rattle.model.specs.NearestTram.{nearestAnswer}
+use Rattle.model.specs.declared.Trams.{Trams}
 use Rattle.model.specs.declared.CardAnswer.{CardAnswer}
 use Rattle.model.specs.declared.CardAnswer.the-variants.{Sound, Refused as CardRefused}
 use Rattle.model.specs.declared.NumberAnswer.{NumberAnswer}
@@ -99,10 +103,13 @@ pub record AnsweredAlike (b b′ : List ℕ) : Type 0 where
   pub refused : cardRefusal b ≡ cardRefusal b′
   -- the code: its least distance, the word of each position, the start of each block and what each word reads as go by it
   pub code : codeOf b ≡ codeOf b′
-  -- and each call's answer, for every position, lent word, received word, list of levels and block
+  -- and each call's answer, for every position, lent word, received word, list of levels, block, list of trams and mark
   pub checked : cardAnswer b ≡ cardAnswer b′
   pub written : (position : ℕ) (lent : List ℕ) → writeAnswer b position lent ≡ writeAnswer b′ position lent
   pub left : (position : ℕ) (lent : List ℕ) → lentAfterWrite b position lent ≡ lentAfterWrite b′ position lent
   pub read : (received : List ℕ) → readAnswer b received ≡ readAnswer b′ received
   pub read-levels : (levels : List Float) → levelsAnswer b levels ≡ levelsAnswer b′ levels
   pub started : (block : ℕ) → startAnswer b block ≡ startAnswer b′ block
+  pub crossing : (trams : Trams) (mark : ℕ) → crossingAnswer b trams mark ≡ crossingAnswer b′ trams mark
+  pub within : (trams : Trams) (first second : ℕ) → withinAnswer b trams first second ≡ withinAnswer b′ trams first second
+  pub nearest : (trams : Trams) (mark : ℕ) → nearestAnswer b trams mark ≡ nearestAnswer b′ trams mark

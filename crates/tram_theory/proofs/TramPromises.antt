@@ -19,7 +19,7 @@ use Rattle.model.specs.declared.Trams.{Trams}
 use Rattle.model.specs.declared.NearestAnswer.{NearestAnswer}
 use Rattle.model.specs.declared.NearestAnswer.the-variants.{Tram, NoTram, Refused}
 use Rattle.code_theory.proofs.RefusalRows.{none-past-card, past-card, served-if-none, refused-if-some}
-use Rattle.tram_theory.specs.Stretches.{Holds, LiesBetween, OnTrack, StandsFrom, WidenedHoldsBoth}
+use Rattle.tram_theory.specs.Stretches.{Holds, LiesBetween, Between, OnTrack, StandsFrom, WidenedHoldsBoth}
 use Rattle.tram_theory.specs.TramPromises.{ToldYes, ToldExactly, NoneMissed, TrulyWithin, CrossingPromises, WithinPromises}
 use Rattle.tram_theory.specs.TramPromises.{IsNearest, NearestOfAll, ZeroIfCrossing, NoneCloser, NearestPromises}
 use Rattle.tram_theory.proofs.Stretches.{on-track, widened-in-order, widened-holds-both}
@@ -49,10 +49,12 @@ module _ (card : List ℕ) (trams : Trams) where
     unfolding WidenedHoldsBoth widenedAt
     holds-both a b stands = widened-holds-both card (stretchAt trams i) a b sound (placed .in-order i below) stands
 
-    holds-between : (a b position : ℕ) → StandsFrom card (stretchAt trams i) a b → a ≤ position → position ≤ b
+    holds-between : (a b position : ℕ) → StandsFrom card (stretchAt trams i) a b → Between a b position
         → Holds (widenedAt (codeOf card) trams i) position
-    holds-between a b position stands from to =
-        let ((low, _), (_, high)) = holds-both a b stands in (omega arith, omega arith)
+    holds-between a b position stands =
+        let ((low-a, high-a), (low-b, high-b)) = holds-both a b stands in
+        ⊎-elim (λ (from-a : (a ≤ position) × (position ≤ b)). (omega arith, omega arith))
+        (λ (from-b : (b ≤ position) × (position ≤ a)). (omega arith, omega arith))
 
 -- ---- yes or no for each tram
 
@@ -84,10 +86,10 @@ crossing-promises card trams mark =
     let exactly = told-exactly (λ s. Holds s mark) (crosses mark) (crosses-if mark) (crosses-only-if mark) card trams mark mark in
     record {
       exactly = exactly;
-      none-missed = λ i a b none below stands from to.
+      none-missed = λ i a b none below stands between.
           let inside : i < trams .count = omega arith in
           let (sound, placed) = served card trams mark mark (sym (marked-status (crosses mark) card trams mark mark) ∙ none) in
-          exactly .yes i none inside (holds-between card trams sound placed i inside a b mark stands from to);
+          exactly .yes i none inside (holds-between card trams sound placed i inside a b mark stands between);
     }
 
 pub within-promises : (card : List ℕ) (trams : Trams) (first second : ℕ)
@@ -161,10 +163,10 @@ module _ (card : List ℕ) (trams : Trams) (mark : ℕ) where
 
   none-closer : NoneCloser card trams mark (nearestAnswer card trams mark)
   unfolding NoneCloser
-  none-closer place i a b position e below stands from to =
+  none-closer place i a b position e below stands between =
       let (none, is) = tram-answered place e in
       let (sound, placed) = served card trams mark mark none in
-      let near = no-farther mark (stretch i) position (holds-between card trams sound placed i below a b position stands from to) in
+      let near = no-farther mark (stretch i) position (holds-between card trams sound placed i below a b position stands between) in
       omega (arith, found mark stretch (trams .count) place is .1 i below .no-farther-off)
 
   pub nearest-promises : NearestPromises card trams mark (nearestAnswer card trams mark)

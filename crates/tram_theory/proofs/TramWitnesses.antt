@@ -1,8 +1,8 @@
 -- Each row by its promise: the premise is computed of the trams and the damaged word, and what the promise then says is the row. Assumes
 -- nothing.
 use mathlib.Core.Path.{_≡_, refl}
-use mathlib.Core.List.{List}
-use mathlib.Core.Logic.{⊎-elim}
+use mathlib.Core.List.{List, [], _∷_}
+use mathlib.Core.Logic.{inl, inr, ⊎-elim}
 use Prim.Native.Nat.{ℕ}
 use native.Mathlib.Omega.{arith}
 use Rattle.bits.specs.Sums.{sumBelow, distance, joinAt}
@@ -31,11 +31,11 @@ use Rattle.position_theory.specs.Margin.{ReadFrom}
 use Rattle.position_theory.specs.PositionWitnesses.{lastDamaged}
 use Rattle.position_theory.proofs.PositionWitnesses.{computed, within}
 use Rattle.position_theory.proofs.SoundCards.{read-sound}
-use Rattle.tram_theory.specs.Stretches.{StandsFrom, WidenedHoldsBoth}
+use Rattle.tram_theory.specs.Stretches.{Between, StandsFrom, WidenedHoldsBoth}
 use Rattle.tram_theory.specs.TramPromises.{NoneMissed, TrulyWithin, IsNearest, ZeroIfCrossing, NoneCloser}
-use Rattle.tram_theory.specs.TramWitnesses.{readShort, TramsWitnessed}
+use Rattle.tram_theory.specs.TramWitnesses.{readShort, exchanged, TramsWitnessed}
 
--- the tram at 15 whose ends were read as 13
+-- 15 read as 13, and 14 as itself
 read-short : ReadFrom cardB 15 13
 unfolding sumBelow distance joinAt walk weight place cut byteOf listOf pack
     anyBelow first leastAt greatest
@@ -55,8 +55,33 @@ read-short =
       position = refl;
     }
 
+read-whole : ReadFrom cardB 14 14
+unfolding sumBelow distance joinAt walk weight place cut byteOf listOf pack
+    anyBelow first leastAt greatest
+    highFirst rowOf sumOfRows leastWeight codeOf firstRefusal unlessRefused bytesOf rowBytes sealed cardOf cardB
+    gray lastCodeword codeword changedRow changedWeight start lastPosition
+    chunkSize placesBefore fiveChunks word blockOf wordAt wordBytes
+    majority chunkDistance withinRadius readFirst chunkReading unreadable numberRead seen
+    ruleOf numberBy separatorOf parityDiffers twoEnds rows9To12 rowsSeen ruleNamed rowsOf allowed residual nearestIn bitsNeeded nearestReading
+    spareSet rowsOfWord readWord damagedIn
+read-whole =
+    record {
+      on-track = computed refl;
+      received = 0b11111111 ∷ 0b0111111 ∷ [];
+      within = within _ 14 (0b11111111 ∷ 0b0111111 ∷ []) refl refl refl;
+      reading = record { position = 14; residual = 0; rule = 3; chunk1 = Differing 0; chunk2 = Differing 0 };
+      read = read-sound cardB (0b11111111 ∷ 0b0111111 ∷ []) card-B-sound;
+      position = refl;
+    }
+
 stands-at-15 : StandsFrom cardB readShort 15 15
 stands-at-15 = record { low-end = read-short; high-end = read-short }
+
+at-15 : Between 15 15 15
+at-15 = inl (computed refl, computed refl)
+
+stands-exchanged : StandsFrom cardB exchanged 15 14
+stands-exchanged = record { low-end = read-short; high-end = read-whole }
 
 -- of two trams the nearest is the one, where it is not the other
 module _ (card : List ℕ) (trams : Trams) (mark : ℕ) (two : trams .count ≡ 2) where
@@ -85,8 +110,9 @@ trams-witnessed =
       cut-at-0 = λ answer none promise. promise .yes 0 none (computed refl) (computed refl, computed refl);
       past-count = λ answer promise told. let (_, below, _) = promise .only 1 told in omega arith;
       refused = λ answer by promise told. let (none, _, _) = promise .only 0 told in omega arith;
-      none-missed = λ answer none promise. promise 0 15 15 none (computed refl) stands-at-15 (computed refl) (computed refl);
-      last-of-64 = λ answer none promise. promise 63 15 15 none (computed refl) stands-at-15 (computed refl) (computed refl);
+      none-missed = λ answer none promise. promise 0 15 15 none (computed refl) stands-at-15 at-15;
+      last-of-64 = λ answer none promise. promise 63 15 15 none (computed refl) stands-at-15 at-15;
+      ends-exchanged = λ answer none promise. promise 0 15 14 none (computed refl) stands-exchanged (inr (computed refl, computed refl));
       just-within = λ answer none promise. promise .yes 0 none (computed refl) (computed refl, computed refl);
       not-from-4 = λ answer promise told. let (_, _, (low, _)) = promise .only 0 told in omega arith;
       not-to-14 = λ answer promise told. let (_, _, (_, high)) = promise .only 0 told in omega arith;
@@ -106,5 +132,5 @@ trams-witnessed =
       no-trams = λ answer served promise. promise .of-none served refl;
       some-tram = λ promise. let z : _≡_ {A = ℕ} 1 0 = promise .none refl in omega arith;
       at-distance-0 = λ promise. promise 0 refl (computed refl) .1 refl;
-      not-passed-over = λ promise. let far = promise 1 0 15 15 15 refl (computed refl) stands-at-15 (computed refl) (computed refl) in omega arith;
+      not-passed-over = λ promise. let far = promise 1 0 15 15 15 refl (computed refl) stands-at-15 at-15 in omega arith;
     }

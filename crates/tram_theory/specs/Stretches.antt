@@ -1,6 +1,7 @@
 -- Stretches of a track: what lies in them, the stretches of trams that are not refused, and the true positions that the ends of a stretch
 -- were read from. Assumes nothing.
 use mathlib.Core.List.{List}
+use mathlib.Core.Logic.{_⊎_}
 use Prim.Native.Nat.{ℕ, _≤_, _<_}
 use Rattle.model.specs.Card.{codeOf, SoundCard}
 use Rattle.model.specs.Order.{lastPosition}
@@ -15,6 +16,10 @@ Holds s position = (s .low ≤ position) × (position ≤ s .high)
 
 abbrev pub LiesBetween : (first second : ℕ) → Stretch → Type 0
 LiesBetween first second s = (first ≤ s .low) × (s .high ≤ second)
+
+-- a position lies between two others, whichever of these is the smaller
+abbrev pub Between : (a b position : ℕ) → Type 0
+Between a b position = ((a ≤ position) × (position ≤ b)) ⊎ ((b ≤ position) × (position ≤ a))
 
 -- trams that neither 18 nor 19 refuses: at most 64, each with its low end at most its high end, and that at most the last position
 pub record OnTrack (last : ℕ) (trams : Trams) : Type 0 where

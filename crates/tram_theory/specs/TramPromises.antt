@@ -13,7 +13,7 @@ use Rattle.model.specs.declared.Trams.{Trams}
 use Rattle.model.specs.declared.MarkedTrams.{MarkedTrams}
 use Rattle.model.specs.declared.NearestAnswer.{NearestAnswer}
 use Rattle.model.specs.declared.NearestAnswer.the-variants.{Tram, NoTram}
-use Rattle.tram_theory.specs.Stretches.{Holds, LiesBetween, StandsFrom}
+use Rattle.tram_theory.specs.Stretches.{Holds, LiesBetween, Between, StandsFrom}
 
 -- ---- yes or no for each tram
 
@@ -27,10 +27,10 @@ pub record ToldExactly (Test : Stretch → Type 0) (card : List ℕ) (trams : Tr
   pub yes : (i : ℕ) → answer .refusal ≡ 0 → i < trams .count → Test (widenedAt (codeOf card) trams i) → ToldYes answer i
   pub only : (i : ℕ) → ToldYes answer i → (answer .refusal ≡ 0) × (i < trams .count) × Test (widenedAt (codeOf card) trams i)
 
--- a tram that truly stands at the mark, from a at most the mark to b at least the mark, is never missed
+-- a tram that truly stands at the mark, since the mark lies between its true positions a and b, is never missed
 unfoldable pub NoneMissed : (card : List ℕ) → Trams → (mark : ℕ) → MarkedTrams → Type 0
 NoneMissed card trams mark answer =
-    (i a b : ℕ) → answer .refusal ≡ 0 → i < trams .count → StandsFrom card (stretchAt trams i) a b → a ≤ mark → mark ≤ b → ToldYes answer i
+    (i a b : ℕ) → answer .refusal ≡ 0 → i < trams .count → StandsFrom card (stretchAt trams i) a b → Between a b mark → ToldYes answer i
 
 -- a tram that is told to be within two marks truly is: both its true positions lie between them
 unfoldable pub TrulyWithin : (card : List ℕ) → Trams → (first second : ℕ) → MarkedTrams → Type 0
@@ -76,11 +76,11 @@ ZeroIfCrossing card trams mark answer =
     → (Holds (widenedAt (codeOf card) trams i) mark → distanceTo mark (widenedAt (codeOf card) trams i) ≡ 0)
     × (distanceTo mark (widenedAt (codeOf card) trams i) ≡ 0 → Holds (widenedAt (codeOf card) trams i) mark)
 
--- no part of any tram, at a position between its true ends a and b, is nearer to the mark than the distance of the tram answered
+-- no part of any tram, at a position between its true positions a and b, is nearer to the mark than the distance of the tram answered
 unfoldable pub NoneCloser : (card : List ℕ) → Trams → (mark : ℕ) → NearestAnswer → Type 0
 NoneCloser card trams mark answer =
     (place i a b position : ℕ) → answer ≡ Tram place → i < trams .count → StandsFrom card (stretchAt trams i) a b
-    → a ≤ position → position ≤ b → distanceTo mark (widenedAt (codeOf card) trams place) ≤ apart mark position
+    → Between a b position → distanceTo mark (widenedAt (codeOf card) trams place) ≤ apart mark position
 
 pub record NearestPromises (card : List ℕ) (trams : Trams) (mark : ℕ) (answer : NearestAnswer) : Type 0 where
   pub of-all : NearestOfAll card trams mark answer

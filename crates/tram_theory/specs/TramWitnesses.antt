@@ -28,6 +28,10 @@ these stretches = record { count = length stretches; stretches = stretches }
 abbrev pub readShort : Stretch
 readShort = from-to 13 13
 
+-- one that stands at 14 and 15, and whose ends were read as 14 and 13: out of order, so that they are given exchanged
+abbrev pub exchanged : Stretch
+exchanged = from-to 13 14
+
 -- ---- rows that recur
 
 -- the tram at place i is told yes by every search that is served and has the promise; or by none that has it
@@ -57,6 +61,7 @@ pub record TramsWitnessed : Type 0 where
   -- the tram at 15 is told to cross 15, the last of 64 too, although its stretch as read does not hold it
   pub none-missed : Told 0 (NoneMissed cardB (these (readShort ∷ [])) 15)
   pub last-of-64 : Told 63 (NoneMissed cardB (these (replicate 64 readShort)) 15)
+  pub ends-exchanged : Told 0 (NoneMissed cardB (these (exchanged ∷ [])) 15)
   -- within two marks: just the widened stretch, cut at the last position, and one short at either end
   pub just-within : Told 0 (ToldExactly (LiesBetween 3 15) cardB (these (readShort ∷ [])))
   pub not-from-4 : NeverTold 0 (ToldExactly (LiesBetween 4 15) cardB (these (readShort ∷ [])))
