@@ -136,7 +136,7 @@ static inline const char *dunnavish_status_text(uint32_t status)
     case DUNNAVISH_PARITY_DIFFERS: return "a separator of the received word contradicts the parity of its codeword's number";
     case DUNNAVISH_TRAM_COUNT: return "there are more than 64 trams";
     case DUNNAVISH_STRETCH_LIMITS: return "a stretch or pair of marks has low above high, or a high or mark is above the last position";
-    case DUNNAVISH_VALUE_COUNT: return "the count of values, of a strength, of a made card's bytes, or of trams, is not the call's";
+    case DUNNAVISH_VALUE_COUNT: return "the count of values, of a strength, of a made card's bytes, or of lows, highs and yes, is not the call's";
     default: return "a status that this version does not have";
     }
 }
@@ -244,20 +244,23 @@ uint32_t dunnavish_millimetres(const uint8_t *card, size_t card_bytes, uint32_t 
  *
  * 10 * t is twice the most bits that five chunks within the radius can have damaged. So a stretch whose ends dunnavish_read_word read
  * from words of the true positions a and b, each damaged in at most t bits of every chunk, holds a and b once it is widened. What is
- * said of a and b below is said of such a tram, in a call that is answered 0.
+ * said of a and b below is said of such a tram, in a call that is answered 0. (Positions read from levels, or from words with more
+ * damage, may be off by more than 10 * t.) Damage may read the low end of a short tram above its high end, which is
+ * DUNNAVISH_STRETCH_LIMITS; given with its ends exchanged, the tram is covered as well.
  */
 
 /*
  * Which trams cross a mark: low at most the mark, and high at least the mark, of the widened stretch. Answers 0 to 5, 14, 18, 19, or
- * 100. On 0 each entry of `yes` is 1 for a tram that does and 0 for one that does not, in the order of the list. If a is at most the
- * mark and b at least the mark, the entry is 1: no such tram is missed.
+ * 100. On 0 each entry of `yes` is 1 for a tram that does and 0 for one that does not, in the order of the list. If the mark lies between
+ * a and b, the entry is 1: no such tram is missed. (A tram whose entry is 1 need not stand at the mark.)
  */
 uint32_t dunnavish_trams_crossing(const uint8_t *card, size_t card_bytes, const uint32_t *lows, size_t lows_count,
                                   const uint32_t *highs, size_t highs_count, uint32_t mark, uint8_t *yes, size_t yes_count);
 
 /*
  * Which trams stand wholly within two marks: low at least the first, and high at most the second, of the widened stretch. Answers 0 to
- * 5, 14, 18, 19, or 100. On 0 `yes` is left as by dunnavish_trams_crossing. If the entry of a tram is 1, a and b lie within the marks.
+ * 5, 14, 18, 19, or 100. On 0 `yes` is left as by dunnavish_trams_crossing. If the entry of a tram is 1, a and b lie within the marks. (A
+ * tram whose entry is 0 may stand within them.)
  */
 uint32_t dunnavish_trams_within(const uint8_t *card, size_t card_bytes, const uint32_t *lows, size_t lows_count,
                                 const uint32_t *highs, size_t highs_count, uint32_t first, uint32_t second, uint8_t *yes,
@@ -270,7 +273,7 @@ uint32_t dunnavish_trams_within(const uint8_t *card, size_t card_bytes, const ui
  * Which tram is the nearest to a mark. Its distance is from the mark to the nearer end of its widened stretch, and 0 where it crosses
  * the mark. Of trams at the same distance it is the one with the smaller widened low, and then the earlier in the list. Answers 0 to
  * 5, 14, 18, 19, or 100. On 0 values[0] is the tram's place in the list, from 0, or DUNNAVISH_NO_TRAM. No part of a tram between a and
- * b is nearer to the mark than the widened stretch of the tram that is answered.
+ * b is nearer to the mark than the widened stretch of the tram that is answered. (Another tram may stand nearer than that one does.)
  */
 uint32_t dunnavish_nearest_tram(const uint8_t *card, size_t card_bytes, const uint32_t *lows, size_t lows_count,
                                 const uint32_t *highs, size_t highs_count, uint32_t mark, uint32_t *values, size_t values_count);

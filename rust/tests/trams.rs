@@ -24,8 +24,8 @@ fn distance(mark: u32, low: u32, high: u32) -> u32 {
     low.saturating_sub(mark).max(mark.saturating_sub(high))
 }
 
-/// Asserts what is promised of these trams and marks: none that stands at the first mark is missed; one that is told to be within the
-/// marks is; none is nearer to the first mark than the widened stretch of the nearest. How many stood at the mark, and were told to be
+/// Asserts what is promised of these trams and marks: none that stands at the first mark is missed; one that is reported as within the
+/// marks is; none is nearer to the first mark than the widened stretch of the nearest. How many stood at the mark, and were reported as
 /// within.
 fn as_promised(card: &[u8], summary: &CardSummary, trams: &[Tram], [first, second]: [u32; 2]) -> [usize; 2] {
     let list: Vec<Stretch> = trams.iter().map(|tram| tram.read).collect();
@@ -38,7 +38,7 @@ fn as_promised(card: &[u8], summary: &CardSummary, trams: &[Tram], [first, secon
     for ((tram, crosses), is_within) in trams.iter().zip(crossing).zip(within) {
         let Tram { a, b, read } = *tram;
         let at_mark = a <= first && first <= b;
-        assert!(crosses || !at_mark, "{a} to {b}, read as {read:?}, is not told to cross {first}");
+        assert!(crosses || !at_mark, "{a} to {b}, read as {read:?}, is not reported as crossing {first}");
         assert!(!is_within || first <= a && b <= second, "{a} to {b}, read as {read:?}, is not within {first} and {second}");
         assert!(distance(first, a, b) >= least, "{a} to {b}, read as {read:?}, is nearer to {first} than {nearest:?}");
         counts[0] += usize::from(at_mark);

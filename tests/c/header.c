@@ -222,9 +222,9 @@ static void trams_told(const uint8_t card[DUNNAVISH_CARD_BYTES], uint32_t mark, 
     uint8_t yes[2] = {7, 7};
     uint32_t values[DUNNAVISH_NUMBER_VALUES] = {7};
 
-    expect(dunnavish_trams_crossing(card, bytes, lows, 2, highs, 2, mark, yes, 2) == DUNNAVISH_OK, "no trams told to cross", mark);
+    expect(dunnavish_trams_crossing(card, bytes, lows, 2, highs, 2, mark, yes, 2) == DUNNAVISH_OK, "no trams reported as crossing", mark);
     expect(memcmp(yes, crossing, 2) == 0, "not the trams that cross", mark);
-    expect(dunnavish_trams_within(card, bytes, lows, 2, highs, 2, mark, second, yes, 2) == DUNNAVISH_OK, "no trams told within", mark);
+    expect(dunnavish_trams_within(card, bytes, lows, 2, highs, 2, mark, second, yes, 2) == DUNNAVISH_OK, "no trams reported as within", mark);
     expect(memcmp(yes, within, 2) == 0, "not the trams within two marks, the first", mark);
     expect(dunnavish_nearest_tram(card, bytes, lows, 2, highs, 2, mark, values, DUNNAVISH_NUMBER_VALUES) == DUNNAVISH_OK,
            "no tram nearest to", mark);

@@ -23,7 +23,7 @@ use Rattle.model.specs.WriteWord.{writeRefusal, writeAnswer, lentAfterWrite}
 use Rattle.model.specs.ReadWord.{readRefusal, readAnswer}
 use Rattle.model.specs.ReadLevels.{levelsRefusal, levelsAnswer}
 use Rattle.model.specs.BlockStart.{startRefusal, startAnswer}
-use Rattle.model.specs.Trams.{tramsRefusal, markedAnswer}
+use Rattle.model.specs.Trams.{tramsRefusal, eachTramAnswer}
 use Rattle.model.specs.NearestTram.{nearestAnswer}
 use Rattle.model.specs.Millimetres.{millimetresRefusal, millimetresAnswer}
 use Rattle.model.specs.declared.NumberAnswer.the-variants.{Number, Refused as NumberRefused}
@@ -121,7 +121,7 @@ module _ (b b′ : List ℕ) (same : SameButOffset b b′) where
 
   pub alike-but-distances : AnsweredAlike b b′
   unfolding cardAnswer summaryOf trackOf writeRefusal writeAnswer lentAfterWrite readRefusal readAnswer
-      levelsRefusal levelsAnswer startRefusal startAnswer tramsRefusal markedAnswer nearestAnswer
+      levelsRefusal levelsAnswer startRefusal startAnswer tramsRefusal eachTramAnswer nearestAnswer
   alike-but-distances =
       record {
         refused = same-refusal;

@@ -7,42 +7,42 @@ use Prim.Native.Nat.{ℕ}
 use lib.ListN.{replicate}
 use Rattle.model.specs.Refusals.{ifServed}
 use Rattle.model.specs.Decoded.{meaning}
-use Rattle.model.specs.Trams.{mostTrams, tramsRefusal, markedOn, markedAnswer}
+use Rattle.model.specs.Trams.{mostTrams, tramsRefusal, eachTramOn, eachTramAnswer}
 use Rattle.model.specs.NearestTram.{nearestOn, nearestRefusal, nearestAnswer, nearestExpected, nearestStatus, nearestValues}
 use Rattle.model.specs.declared.Decoded.{Decoded}
 use Rattle.model.specs.declared.Stretch.{Stretch}
 use Rattle.model.specs.declared.Trams.{Trams}
-use Rattle.model.specs.declared.MarkedTrams.{MarkedTrams}
+use Rattle.model.specs.declared.TramsAnswer.{TramsAnswer}
 use Rattle.model.specs.declared.NearestAnswer.{NearestAnswer}
 use Rattle.model.specs.declared.NearestAnswer.the-variants.{Refused}
 use Rattle.code_theory.proofs.RefusalRows.{refused-by-card}
 use Rattle.tram_theory.specs.TramPromises.{NearestPromises}
-use Rattle.tram_theory.proofs.ServedTrams.{marked-status, marked-by-card, marked-sound}
+use Rattle.tram_theory.proofs.ServedTrams.{each-status, each-by-card, each-sound}
 use Rattle.tram_theory.proofs.TramPromises.{nearest-promises, nearest-sound}
 use Rattle.card_reader.specs.DecodedFrom.{DecodedFrom}
 use Rattle.depot.proofs.Contracts.{Meets, met}
 use Rattle.depot.proofs.Statuses.{nearest-answered}
 
-module _ (test : Stretch → Bool) (card : List ℕ) (trams : Trams) (first second : ℕ) (Promise : MarkedTrams → Type 0)
-    (promised : Promise (markedAnswer test card trams first second)) (decoded : Decoded) (from : DecodedFrom card decoded) where
+module _ (test : Stretch → Bool) (card : List ℕ) (trams : Trams) (first second : ℕ) (Promise : TramsAnswer → Type 0)
+    (promised : Promise (eachTramAnswer test card trams first second)) (decoded : Decoded) (from : DecodedFrom card decoded) where
   -- the clauses of the contract beside the equation
-  abbrev MarkedClauses : MarkedTrams → Type 0
-  MarkedClauses answer = (answer .refusal ≡ tramsRefusal card trams first second) × Promise answer
+  abbrev EachClauses : TramsAnswer → Type 0
+  EachClauses answer = (answer .refusal ≡ tramsRefusal card trams first second) × Promise answer
 
-  abbrev MarkedMeets : MarkedTrams → Type 0
-  MarkedMeets = Meets MarkedClauses (markedAnswer test card trams first second)
+  abbrev EachMeets : TramsAnswer → Type 0
+  EachMeets = Meets EachClauses (eachTramAnswer test card trams first second)
 
-  pub marked-card-refused : (decoded .refusal ≡ 0 → ⊥)
-      → MarkedMeets (record { refusal = decoded .refusal; yes = replicate mostTrams false })
-  marked-card-refused refused =
-      met MarkedClauses (marked-status test card trams first second, promised)
-      (rw (from .refusal) (sym (marked-by-card test card trams first second (rw (from .refusal) at refused))))
+  pub each-card-refused : (decoded .refusal ≡ 0 → ⊥)
+      → EachMeets (record { refusal = decoded .refusal; yes = replicate mostTrams false })
+  each-card-refused refused =
+      met EachClauses (each-status test card trams first second, promised)
+      (rw (from .refusal) (sym (each-by-card test card trams first second (rw (from .refusal) at refused))))
 
-  pub trams-marked : decoded .refusal ≡ 0 → (answer : MarkedTrams)
-      → answer ≡ markedOn test (meaning (decoded .code)) trams first second → MarkedMeets answer
-  trams-marked sound answer e =
-      met MarkedClauses (marked-status test card trams first second, promised)
-      (rw (marked-sound test card trams first second (sym (from .refusal) ∙ sound), ← (from .code sound)) e)
+  pub each-answered : decoded .refusal ≡ 0 → (answer : TramsAnswer)
+      → answer ≡ eachTramOn test (meaning (decoded .code)) trams first second → EachMeets answer
+  each-answered sound answer e =
+      met EachClauses (each-status test card trams first second, promised)
+      (rw (each-sound test card trams first second (sym (from .refusal) ∙ sound), ← (from .code sound)) e)
 
 module _ (card : List ℕ) (trams : Trams) (mark : ℕ) where
   abbrev NearestClauses : NearestAnswer → Type 0

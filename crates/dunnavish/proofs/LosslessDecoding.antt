@@ -31,7 +31,7 @@ use Rattle.model.specs.declared.VoteAnswer.the-variants.{Refused as VoteRefused
 use Rattle.model.specs.declared.NearestAnswer.the-variants.{Refused as NearestRefused}
 use Rattle.code_theory.proofs.RefusalRows.{served-if-none, refused-if-some}
 use Rattle.depot.proofs.Statuses.{status-and-values}
-use Rattle.dunnavish.specs.Decoding.{cardLeft, writeLeft, bitsLeft, readLeft, millimetresLeft, voteLeft, markedLeft}
+use Rattle.dunnavish.specs.Decoding.{cardLeft, writeLeft, bitsLeft, readLeft, millimetresLeft, voteLeft, eachTramLeft}
 use Rattle.dunnavish.specs.Decoding.{placeLeft, nearestLeft}
 use Rattle.dunnavish.specs.LosslessDecoding.{Kept, LosslessDecoding}
 
@@ -84,17 +84,17 @@ flag-kept : (flag : ℕ) → flag < 2 → cond (eqb flag 1) 1 0 ≡ flag
 flag-kept flag bit =
     ⊎-elim (λ (is : flag ≡ 0). rw is) (λ (is : flag ≡ 1). rw is) (zero-or-one flag bit)
 
-flags-kept : (left : List ℕ) → length left ≤ mostTrams → ((i : ℕ) → getD left i 0 < 2) → yesValues (length left) (markedLeft 0 left) ≡ left
-unfolding yesValues markedLeft unlessRefused
+flags-kept : (left : List ℕ) → length left ≤ mostTrams → ((i : ℕ) → getD left i 0 < 2) → yesValues (length left) (eachTramLeft 0 left) ≡ left
+unfolding yesValues eachTramLeft unlessRefused
 flags-kept left few flags =
     let told : ℕ → Bool = λ i. eqb (getD left i 0) 1 in
     sym
     (is-list-of 0 (length left) (λ i. cond (getD (listOf mostTrams told) i false) 1 0) left refl
     (λ i below. rw (getD-listOf mostTrams told false i (omega arith)) (sym (flag-kept (getD left i 0) (flags i)))))
 
-marked-status-kept : (s : ℕ) (left : List ℕ) → markedLeft s left .refusal ≡ s
-unfolding markedLeft
-marked-status-kept s left =
+each-status-kept : (s : ℕ) (left : List ℕ) → eachTramLeft s left .refusal ≡ s
+unfolding eachTramLeft
+each-status-kept s left =
     ⊎-elim (λ (is : s ≡ 0). rw (served-if-none s _ _ is) (sym is)) (λ (some : s ≡ 0 → ⊥). rw (refused-if-some s _ _ some)) (eq-or-ne s 0)
 
 pub lossless-decoding : LosslessDecoding
@@ -109,7 +109,7 @@ lossless-decoding =
       vote = kept VoteRefused _ _ (λ n. refl) (λ n. refl) (λ left. refl) (all-entries 0 2);
       nearest = kept NearestRefused (λ left. placeLeft (getD left 0 0)) _ (λ n. refl) (λ n. refl) (λ left. place-status (getD left 0 0))
           (λ left is. place-kept (getD left 0 0) ∙ all-entries 0 1 left is);
-      marked-status = marked-status-kept;
+      each-status = each-status-kept;
       marked = flags-kept;
       write = λ s. status-and-values writeStatus writeValues s [] WriteRefused Written (λ n. refl) (λ n. refl) refl refl .0;
       written = refl;

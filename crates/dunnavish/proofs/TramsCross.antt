@@ -15,11 +15,11 @@ use Rattle.bits.proofs.Places.{length-listOf, getD-listOf}
 use Rattle.bits.proofs.FilledLists.{is-list-of}
 use Rattle.model.specs.Refusals.{unlessRefused}
 use Rattle.model.specs.Card.{codeOf}
-use Rattle.model.specs.Trams.{mostTrams, widenedAt, tramsRefusal, answersBy, markedUnless, markedAnswer, yesValues}
+use Rattle.model.specs.Trams.{mostTrams, widenedAt, tramsRefusal, answersBy, eachTramUnless, eachTramAnswer, yesValues}
 use Rattle.model.specs.NearestTram.{nearestRefusal, nearestAnswer, nearestExpected, nearestStatus, nearestValues, noTram}
 use Rattle.model.specs.declared.Stretch.{Stretch}
 use Rattle.model.specs.declared.Trams.{Trams}
-use Rattle.model.specs.declared.MarkedTrams.{MarkedTrams}
+use Rattle.model.specs.declared.TramsAnswer.{TramsAnswer}
 use Rattle.model.specs.declared.NearestAnswer.{NearestAnswer}
 use Rattle.model.specs.declared.NearestAnswer.the-variants.{Tram, Refused}
 use Rattle.code_theory.proofs.RefusalRows.{served-if-none, refused-if-some}
@@ -27,7 +27,7 @@ use Rattle.tram_theory.specs.TramPromises.{NearestPromises}
 use Rattle.tram_theory.proofs.NearestTrams.{one-value}
 use Rattle.tram_theory.proofs.TramPromises.{served}
 use Rattle.dunnavish.specs.Crossing.{numberCount, wrongCount, tramsLent, statusFor, leftBy, UnchangedUnlessZero}
-use Rattle.dunnavish.specs.Decoding.{markedLeft, placeLeft, nearestLeft}
+use Rattle.dunnavish.specs.Decoding.{eachTramLeft, placeLeft, nearestLeft}
 use Rattle.dunnavish.proofs.Inherited.{Contract}
 use Rattle.dunnavish.proofs.Lent.{wrong-count-crosses, refusal-crosses, values-cross, status-lent, unchanged-by}
 
@@ -61,49 +61,49 @@ answers-decode test stretch count =
 
 -- ---- yes or no for each tram
 
-module _ (test : Stretch → Bool) (card lows highs lent : List ℕ) (first second : ℕ) (Promise : MarkedTrams → Type 0) where
+module _ (test : Stretch → Bool) (card lows highs lent : List ℕ) (first second : ℕ) (Promise : TramsAnswer → Type 0) where
   abbrev trams : Trams
   trams = tramsLent lows highs
 
-  abbrev defined : MarkedTrams
-  defined = markedAnswer test card trams first second
+  abbrev defined : TramsAnswer
+  defined = eachTramAnswer test card trams first second
 
   -- the contract of a call
-  abbrev MarkedContract : (status : ℕ) (left : List ℕ) → Type 0
-  MarkedContract status left =
+  abbrev EachContract : (status : ℕ) (left : List ℕ) → Type 0
+  EachContract status left =
       (status ≡ statusFor (length lows) highs (statusFor (length lows) lent (defined .refusal)))
       × ((left ≡ leftBy status (yesValues (length lows) defined) lent)
       × (UnchangedUnlessZero lent status left
-      × (length highs ≡ length lows → length lent ≡ length lows → Promise (markedLeft status left))))
+      × (length highs ≡ length lows → length lent ≡ length lows → Promise (eachTramLeft status left))))
 
   -- either count is wrong
   miscounted : wrongCount ≡ statusFor (length lows) highs (statusFor (length lows) lent (defined .refusal))
-      → (length highs ≡ length lows → length lent ≡ length lows → ⊥) → MarkedContract wrongCount lent
+      → (length highs ≡ length lows → length lent ≡ length lows → ⊥) → EachContract wrongCount lent
   unfolding leftBy
   miscounted is other-length = (is, (refl, (unchanged-by wrongCount [] lent lent refl, λ a b. absurd (other-length a b))))
 
-  pub highs-miscounted : (length highs ≡ length lows → ⊥) → MarkedContract wrongCount lent
+  pub highs-miscounted : (length highs ≡ length lows → ⊥) → EachContract wrongCount lent
   highs-miscounted other-length =
       miscounted (wrong-count-crosses (length lows) highs other-length _ [] .0) (λ alike _. other-length alike)
 
   module _ (highs-alike : length highs ≡ length lows) where
-    pub lent-miscounted : (length lent ≡ length lows → ⊥) → MarkedContract wrongCount lent
+    pub lent-miscounted : (length lent ≡ length lows → ⊥) → EachContract wrongCount lent
     lent-miscounted other-length =
         miscounted
         (wrong-count-crosses (length lows) lent other-length _ [] .0 ∙ sym (status-lent (length lows) highs highs-alike _))
         (λ _ alike. other-length alike)
 
-    module _ (alike : length lent ≡ length lows) (answered : MarkedTrams)
+    module _ (alike : length lent ≡ length lows) (answered : TramsAnswer)
         (ensured : (answered ≡ defined) × ((answered .refusal ≡ tramsRefusal card trams first second) × Promise answered)) where
       inherits : (status : ℕ) (left : List ℕ) → status ≡ statusFor (length lows) lent (defined .refusal)
-          → left ≡ leftBy status (yesValues (length lows) defined) lent → markedLeft status left ≡ answered → MarkedContract status left
+          → left ≡ leftBy status (yesValues (length lows) defined) lent → eachTramLeft status left ≡ answered → EachContract status left
       inherits status left is-status is-left decodes = (
         is-status ∙ sym (status-lent (length lows) highs highs-alike _),
         (is-left, (unchanged-by status _ lent left is-left, λ _ _. subst Promise (sym decodes) (ensured .1 .1))),
       )
 
-      pub refused-search : (answered .refusal ≡ 0 → ⊥) → MarkedContract (answered .refusal) lent
-      unfolding markedAnswer markedUnless markedLeft
+      pub refused-search : (answered .refusal ≡ 0 → ⊥) → EachContract (answered .refusal) lent
+      unfolding eachTramAnswer eachTramUnless eachTramLeft
       refused-search some =
           let (is, (number, _)) = ensured in
           let crosses = refusal-crosses (length lows) lent alike (answered .refusal) some (yesValues (length lows) defined) in
@@ -115,8 +115,8 @@ module _ (test : Stretch → Bool) (card lows highs lent : List ℕ) (first seco
       unfolding tramsLent
       few-lent none = let (_, placed) = served card trams first second (sym (ensured .1 .0) ∙ none) in rw alike (placed .few)
 
-      pub served-search : answered .refusal ≡ 0 → (left : List ℕ) → left ≡ bytesOf (answered .yes) (length lent) → MarkedContract 0 left
-      unfolding markedAnswer markedUnless markedLeft yesValues tramsLent
+      pub served-search : answered .refusal ≡ 0 → (left : List ℕ) → left ≡ bytesOf (answered .yes) (length lent) → EachContract 0 left
+      unfolding eachTramAnswer eachTramUnless eachTramLeft yesValues tramsLent
       served-search none left put =
           let (is, (number, _)) = ensured in
           let stretch = widenedAt (codeOf card) trams in

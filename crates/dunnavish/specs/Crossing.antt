@@ -11,7 +11,8 @@ use Rattle.bits.specs.Places.{listOf}
 use Rattle.model.specs.Trams.{mostTrams}
 use Rattle.model.specs.declared.Trams.{Trams}
 
--- How many values a call answers where it is served: a check of a card, a read, a block's start or a distance, and a vote.
+-- How many values a call answers where it is served: a check of a card; a read; a block's start, a distance or the nearest tram; and a
+-- vote. A search that says yes or no of each tram answers as many as there are trams.
 abbrev pub cardCount : ℕ
 cardCount = 7
 

@@ -26,7 +26,7 @@ use Rattle.model.specs.declared.MillimetresAnswer.{MillimetresAnswer}
 use Rattle.model.specs.declared.MillimetresAnswer.the-variants.{Millimetres, Refused as MillimetresRefused}
 use Rattle.model.specs.declared.VoteAnswer.{VoteAnswer}
 use Rattle.model.specs.declared.VoteAnswer.the-variants.{Voted, Refused as VoteRefused}
-use Rattle.model.specs.declared.MarkedTrams.{MarkedTrams}
+use Rattle.model.specs.declared.TramsAnswer.{TramsAnswer}
 use Rattle.model.specs.declared.NearestAnswer.{NearestAnswer}
 use Rattle.model.specs.declared.NearestAnswer.the-variants.{Tram, NoTram, Refused as NearestRefused}
 
@@ -88,8 +88,8 @@ voteLeft status left = unlessRefused status VoteRefused (Voted (getD left 0 0) (
 
 -- ---- a search that says yes or no of each tram: 1 for yes, and no past the numbers left
 
-unfoldable pub markedLeft : (status : ℕ) (left : List ℕ) → MarkedTrams
-markedLeft status left =
+unfoldable pub eachTramLeft : (status : ℕ) (left : List ℕ) → TramsAnswer
+eachTramLeft status left =
     unlessRefused status
     (λ number. record { refusal = number; yes = replicate mostTrams false })
     (record { refusal = 0; yes = listOf mostTrams (λ i. eqb (getD left i 0) 1) })

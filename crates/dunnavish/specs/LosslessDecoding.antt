@@ -1,7 +1,8 @@
 -- Decoding loses nothing: the answer that a status and the numbers left stand for has that status and, where the call was served, those
 -- numbers for its values. So what is promised of the decoded answer is promised of just what a caller in C was left. No two answers have
--- the same status and values, with three exceptions: a write that is done has the status of a refusal by 0, a chunk that was not read has
--- a number that could be a count, and no tram one that could be a place. Of these three, rows say which is meant. Assumes nothing.
+-- the same status and values, with four exceptions: a write that is done has the status of a refusal by 0, a chunk that was not read has
+-- a number that could be a count, and no tram one that could be a place; of these three, rows say which is meant. And the answers for
+-- trams past the count, or beside a refusal, which are all no, do not cross. Assumes nothing.
 use mathlib.Core.Path.{_≡_}
 use mathlib.Core.List.{List, [], _∷_}
 use Prim.Native.Nat.{ℕ, _≤_, _<_}
@@ -19,7 +20,7 @@ use Rattle.model.specs.declared.ChunkBits.the-variants.{Differing, NotRead}
 use Rattle.model.specs.declared.ReadAnswer.the-variants.{At}
 use Rattle.model.specs.declared.NearestAnswer.the-variants.{Tram, NoTram}
 use Rattle.dunnavish.specs.Crossing.{cardCount, readCount, numberCount, voteCount}
-use Rattle.dunnavish.specs.Decoding.{cardLeft, writeLeft, readLeft, millimetresLeft, voteLeft, markedLeft, nearestLeft}
+use Rattle.dunnavish.specs.Decoding.{cardLeft, writeLeft, readLeft, millimetresLeft, voteLeft, eachTramLeft, nearestLeft}
 
 -- of a call that answers `count` values: every status, and where it is 0 every `count` numbers, are those of the answer decoded
 pub record Kept {A B : Type 0} (status : A → ℕ) (values : A → List B) (decoded : (s : ℕ) (left : List B) → A) (count : ℕ) : Type 0 where
@@ -34,8 +35,8 @@ pub record LosslessDecoding : Type 0 where
   pub vote : Kept voteStatus voteValues voteLeft voteCount
   pub nearest : Kept nearestStatus nearestValues nearestLeft numberCount
   -- of a search that says yes or no of each tram: every status, and where it is 0 every answer of at most 64 trams
-  pub marked-status : (s : ℕ) (left : List ℕ) → markedLeft s left .refusal ≡ s
-  pub marked : (left : List ℕ) → length left ≤ mostTrams → ((i : ℕ) → getD left i 0 < 2) → yesValues (length left) (markedLeft 0 left) ≡ left
+  pub each-status : (s : ℕ) (left : List ℕ) → eachTramLeft s left .refusal ≡ s
+  pub marked : (left : List ℕ) → length left ≤ mostTrams → ((i : ℕ) → getD left i 0 < 2) → yesValues (length left) (eachTramLeft 0 left) ≡ left
   pub write : (s : ℕ) → writeStatus (writeLeft s) ≡ s
   pub written : writeLeft 0 ≡ Written
   pub by-rule-1 : readLeft 0 (7 ∷ 3 ∷ 1 ∷ 2 ∷ notRead ∷ [])

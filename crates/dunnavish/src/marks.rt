@@ -10,7 +10,7 @@ ghost use Rattle.model.specs.TramsWithin.{withinAnswer};
 ghost use Rattle.model.specs.NearestTram.{nearestAnswer, nearestStatus, nearestValues};
 ghost use Rattle.tram_theory.specs.TramPromises.{CrossingPromises, WithinPromises, NearestPromises};
 ghost use Rattle.dunnavish.specs.Crossing.{numberCount, tramsLent, statusFor, leftBy, UnchangedUnlessZero};
-ghost use Rattle.dunnavish.specs.Decoding.{markedLeft, nearestLeft};
+ghost use Rattle.dunnavish.specs.Decoding.{eachTramLeft, nearestLeft};
 use super::WRONG_COUNT;
 use model::NearestAnswer;
 use model::Stretch;
@@ -70,7 +70,7 @@ pub extern "C" fn dunnavish_trams_crossing(
     ensures unchanged { λ r. ⌜ UnchangedUnlessZero (now (yes .entry)) r (now (yes .exit)) ⌝ }
     ensures promises { λ r. ⌜ (length (now (highs .entry)) ≡ length (now (lows .entry))
         → length (now (yes .entry)) ≡ length (now (lows .entry))
-        → CrossingPromises (now (card .entry)) (tramsLent (now (lows .entry)) (now (highs .entry))) mark (markedLeft r (now (yes .exit)))) ⌝ }
+        → CrossingPromises (now (card .entry)) (tramsLent (now (lows .entry)) (now (highs .entry))) mark (eachTramLeft r (now (yes .exit)))) ⌝ }
 {
     if highs.len() != lows.len() {
         return WRONG_COUNT;
@@ -106,7 +106,7 @@ pub extern "C" fn dunnavish_trams_within(
     ensures promises { λ r. ⌜ (length (now (highs .entry)) ≡ length (now (lows .entry))
         → length (now (yes .entry)) ≡ length (now (lows .entry))
         → WithinPromises (now (card .entry)) (tramsLent (now (lows .entry)) (now (highs .entry))) first second
-        (markedLeft r (now (yes .exit)))) ⌝ }
+        (eachTramLeft r (now (yes .exit)))) ⌝ }
 {
     if highs.len() != lows.len() {
         return WRONG_COUNT;

@@ -13,7 +13,7 @@ use Rattle.model.specs.declared.Trams.{Trams}
 use Rattle.model.specs.declared.NearestAnswer.{NearestAnswer}
 use Rattle.model.specs.declared.NearestAnswer.the-variants.{Tram, NoTram, Refused}
 
--- how far two positions are apart: the larger less the smaller (one of the two differences is 0)
+-- how far two positions are apart: the absolute difference (one of the two truncated ones is 0)
 abbrev pub apart : (a b : ℕ) → ℕ
 apart a b = (a - b) + (b - a)
 
@@ -39,11 +39,13 @@ unfoldable pub nearestOf : (mark : ℕ) (stretch : ℕ → Stretch) (count : ℕ
 nearestOf mark stretch zero = NoTram
 nearestOf mark stretch (suc m) = Tram (nearestUpTo mark stretch m)
 
+-- the nearest in the widened list
+abbrev pub nearestAmong : Code → Trams → (mark : ℕ) → NearestAnswer
+nearestAmong C trams mark = nearestOf mark (widenedAt C trams) (trams .count)
+
 -- the answer for the code of a sound card
 unfoldable pub nearestOn : Code → Trams → (mark : ℕ) → NearestAnswer
-nearestOn C trams mark =
-    unlessRefused (firstRefusal (rowsOfTrams (lastPosition C) trams mark mark)) Refused
-    (nearestOf mark (widenedAt C trams) (trams .count))
+nearestOn C trams mark = unlessRefused (firstRefusal (rowsOfTrams (lastPosition C) trams mark mark)) Refused (nearestAmong C trams mark)
 
 -- the refusal's number, or 0
 abbrev pub nearestRefusal : (card : List ℕ) → Trams → (mark : ℕ) → ℕ
@@ -51,8 +53,7 @@ nearestRefusal card trams mark = tramsRefusal card trams mark mark
 
 -- the answer
 unfoldable pub nearestAnswer : (card : List ℕ) → Trams → (mark : ℕ) → NearestAnswer
-nearestAnswer card trams mark =
-    unlessRefused (nearestRefusal card trams mark) Refused (nearestOf mark (widenedAt (codeOf card) trams) (trams .count))
+nearestAnswer card trams mark = unlessRefused (nearestRefusal card trams mark) Refused (nearestAmong (codeOf card) trams mark)
 
 -- a place as a number; for no tram, 2^32 - 1, which is no place (the documents leave that number open)
 abbrev pub noTram : ℕ
@@ -71,4 +72,4 @@ nearestValues (Refused refusal) = []
 
 -- the value expected of a search that is served, by the definitions
 unfoldable pub nearestExpected : (card : List ℕ) → Trams → (mark : ℕ) → List ℕ
-nearestExpected card trams mark = nearestValues (nearestOf mark (widenedAt (codeOf card) trams) (trams .count))
+nearestExpected card trams mark = nearestValues (nearestAmong (codeOf card) trams mark)

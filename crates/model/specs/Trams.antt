@@ -13,7 +13,7 @@ use Rattle.model.specs.Card.{Code, cardRefusal, codeOf, radius}
 use Rattle.model.specs.Order.{lastPosition}
 use Rattle.model.specs.declared.Stretch.{Stretch}
 use Rattle.model.specs.declared.Trams.{Trams}
-use Rattle.model.specs.declared.MarkedTrams.{MarkedTrams}
+use Rattle.model.specs.declared.TramsAnswer.{TramsAnswer}
 
 -- ---- stretches, as they are given and widened
 
@@ -29,7 +29,7 @@ stretchAt trams i = getD (trams .stretches) i (record { low = 0; high = 0 })
 abbrev pub margin : Code → ℕ
 margin C = 10 * radius C
 
--- a stretch widened by a margin at both ends and cut to 0, at which a difference of numbers ends, and to the last position
+-- a stretch widened by a margin at both ends and cut to 0, where subtraction is truncated, and to the last position
 unfoldable pub widened : (margin last : ℕ) → Stretch → Stretch
 widened margin last s = record { low = s .low - margin; high = min (s .high + margin) last }
 
@@ -66,20 +66,20 @@ unfoldable pub answersBy : (test : Stretch → Bool) (stretch : ℕ → Stretch)
 answersBy test stretch count = listOf mostTrams (λ i. cond (ltb i count) (test (stretch i)) false)
 
 -- a search by a test of the widened stretches: the refusal's number with no for all, or 0 with the answers
-unfoldable pub markedUnless : (refusal : ℕ) (test : Stretch → Bool) → Code → Trams → MarkedTrams
-markedUnless refusal test C trams =
+unfoldable pub eachTramUnless : (refusal : ℕ) (test : Stretch → Bool) → Code → Trams → TramsAnswer
+eachTramUnless refusal test C trams =
     unlessRefused refusal
     (λ number. record { refusal = number; yes = replicate mostTrams false })
     (record { refusal = 0; yes = answersBy test (widenedAt C trams) (trams .count) })
 
 -- the answer for the code of a sound card
-unfoldable pub markedOn : (test : Stretch → Bool) → Code → Trams → (first second : ℕ) → MarkedTrams
-markedOn test C trams first second = markedUnless (firstRefusal (rowsOfTrams (lastPosition C) trams first second)) test C trams
+unfoldable pub eachTramOn : (test : Stretch → Bool) → Code → Trams → (first second : ℕ) → TramsAnswer
+eachTramOn test C trams first second = eachTramUnless (firstRefusal (rowsOfTrams (lastPosition C) trams first second)) test C trams
 
 -- the answer
-unfoldable pub markedAnswer : (test : Stretch → Bool) (card : List ℕ) → Trams → (first second : ℕ) → MarkedTrams
-markedAnswer test card trams first second = markedUnless (tramsRefusal card trams first second) test (codeOf card) trams
+unfoldable pub eachTramAnswer : (test : Stretch → Bool) (card : List ℕ) → Trams → (first second : ℕ) → TramsAnswer
+eachTramAnswer test card trams first second = eachTramUnless (tramsRefusal card trams first second) test (codeOf card) trams
 
 -- the values of an answer for so many trams, in list order: 1 for yes, 0 for no
-unfoldable pub yesValues : (count : ℕ) → MarkedTrams → List ℕ
+unfoldable pub yesValues : (count : ℕ) → TramsAnswer → List ℕ
 yesValues count answer = listOf count (λ i. cond (getD (answer .yes) i false) 1 0)

@@ -3,10 +3,10 @@ use mathlib.Core.Bool.{Bool, _&&_}
 use mathlib.Core.List.{List}
 use Prim.Native.Nat.{ℕ}
 use lib.Dec.{leb}
-use Rattle.model.specs.Trams.{tramsRefusal, markedAnswer}
+use Rattle.model.specs.Trams.{tramsRefusal, eachTramAnswer}
 use Rattle.model.specs.declared.Stretch.{Stretch}
 use Rattle.model.specs.declared.Trams.{Trams}
-use Rattle.model.specs.declared.MarkedTrams.{MarkedTrams}
+use Rattle.model.specs.declared.TramsAnswer.{TramsAnswer}
 
 -- a stretch crosses the mark: low at most the mark, high at least the mark
 unfoldable pub crosses : (mark : ℕ) → Stretch → Bool
@@ -17,5 +17,5 @@ abbrev pub crossingRefusal : (card : List ℕ) → Trams → (mark : ℕ) → �
 crossingRefusal card trams mark = tramsRefusal card trams mark mark
 
 -- the answer
-abbrev pub crossingAnswer : (card : List ℕ) → Trams → (mark : ℕ) → MarkedTrams
-crossingAnswer card trams mark = markedAnswer (crosses mark) card trams mark mark
+abbrev pub crossingAnswer : (card : List ℕ) → Trams → (mark : ℕ) → TramsAnswer
+crossingAnswer card trams mark = eachTramAnswer (crosses mark) card trams mark mark

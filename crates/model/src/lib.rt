@@ -1,6 +1,6 @@
 // What a code chunk reads as, what a card decodes to, and what the public calls answer. The definitions of specs/ give these
-// values their meaning. A refused call answers the refusal's number in documents 01 and 02 and nothing else. The exception is a card
-// that is not made: 512 zero bytes stand beside its number.
+// values their meaning. A refused call answers the refusal's number in documents 01 and 02 and nothing else. The exceptions are a card
+// that is not made, with 512 zero bytes beside the number, and a search that says yes or no of each tram, with no for all.
 
 // What a code chunk reads as: the number p of the codeword c(p) within the radius, and in how many places the two differ. Of a chunk with
 // erased bits, the codeword for which 2 × wrong + erased is below D, and how many places are wrong.
@@ -115,7 +115,7 @@ pub enum VoteAnswer {
     Refused(u32),
 }
 
-// A tram's stretch of the track: from a low to a high position, both included.
+// A tram's stretch of the track: the closed interval from a low to a high position.
 pub struct Stretch {
     pub low: u32,
     pub high: u32,
@@ -128,8 +128,8 @@ pub struct Trams {
 }
 
 // The answer to a search that says yes or no of each tram, in list order: the refusal's number, or 0, and the answers. Past the count, and
-// where the search is refused, all are no.
-pub struct MarkedTrams {
+// where the search is refused, all are no; so look at the refusal first.
+pub struct TramsAnswer {
     pub refusal: u32,
     pub yes: [bool; 64],
 }

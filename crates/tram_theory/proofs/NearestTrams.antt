@@ -148,7 +148,12 @@ module _ (mark : ℕ) (stretch : ℕ → Stretch) where
       let same : nearestUpTo mark stretch m ≡ place = cc in
       rw (← same) (omega (arith, in-list m), λ i l. kept m i (le-of-suc-le-suc l))
 
-  -- none is answered of no trams, and only of none
+  -- some place is answered of some trams; none of no trams, and only of none
+  pub some-found : (count : ℕ) → 0 < count → (place : ℕ) × (nearestOf mark stretch count ≡ Tram place)
+  unfolding nearestOf
+  some-found zero inhabited = absurd (omega arith)
+  some-found (suc m) inhabited = (nearestUpTo mark stretch m, refl)
+
   pub of-no-trams : (count : ℕ) → count ≡ 0 → nearestOf mark stretch count ≡ NoTram
   unfolding nearestOf
   of-no-trams zero e = refl

@@ -14,11 +14,11 @@ use Rattle.bits.proofs.Numbers.{lt-or-le, eq-or-ne}
 use Rattle.bits.proofs.Places.{length-listOf, getD-listOf}
 use Rattle.model.specs.Refusals.{unlessRefused}
 use Rattle.model.specs.Card.{Code, cardRefusal, codeOf, SoundCard}
-use Rattle.model.specs.Trams.{mostTrams, widenedAt, tramsRefusal, answersBy, markedUnless, markedOn, markedAnswer}
+use Rattle.model.specs.Trams.{mostTrams, widenedAt, tramsRefusal, answersBy, eachTramUnless, eachTramOn, eachTramAnswer}
 use Rattle.model.specs.declared.Stretch.{Stretch}
 use Rattle.model.specs.declared.Trams.{Trams}
 use Rattle.code_theory.proofs.RefusalRows.{served-if-none, refused-if-some, refused-by-card, past-card}
-use Rattle.tram_theory.specs.TramPromises.{ToldYes}
+use Rattle.tram_theory.specs.TramPromises.{AnsweredYes}
 
 -- a test that is made only where another holds
 both : (asked holds : Bool) → cond asked holds false ≡ true → (asked ≡ true) × (holds ≡ true)
@@ -46,19 +46,19 @@ module _ (test : Stretch → Bool) (stretch : ℕ → Stretch) (count : ℕ) whe
 
 -- the refusal and the answers of a search whose refusal has this number
 module _ (test : Stretch → Bool) (C : Code) (trams : Trams) (refusal : ℕ) where
-  pub marked-refusal : markedUnless refusal test C trams .refusal ≡ refusal
-  unfolding markedUnless
-  marked-refusal =
+  pub each-refusal : eachTramUnless refusal test C trams .refusal ≡ refusal
+  unfolding eachTramUnless
+  each-refusal =
       ⊎-elim (λ (e : refusal ≡ 0). rw (served-if-none refusal _ _ e) (sym e))
       (λ (ne : refusal ≡ 0 → ⊥). rw (refused-if-some refusal _ _ ne)) (eq-or-ne refusal 0)
 
-  pub marked-answers : refusal ≡ 0 → markedUnless refusal test C trams .yes ≡ answersBy test (widenedAt C trams) (trams .count)
-  unfolding markedUnless
-  marked-answers e = rw (served-if-none refusal _ _ e)
+  pub each-answers : refusal ≡ 0 → eachTramUnless refusal test C trams .yes ≡ answersBy test (widenedAt C trams) (trams .count)
+  unfolding eachTramUnless
+  each-answers e = rw (served-if-none refusal _ _ e)
 
   -- where it is refused no tram is told yes
-  pub served-if-told : (i : ℕ) → ToldYes (markedUnless refusal test C trams) i → refusal ≡ 0
-  unfolding markedUnless
+  pub served-if-told : (i : ℕ) → AnsweredYes (eachTramUnless refusal test C trams) i → refusal ≡ 0
+  unfolding eachTramUnless
   served-if-told i told =
       ⊎-elim (λ (e : refusal ≡ 0). e)
       (λ (ne : refusal ≡ 0 → ⊥). absurd (false≢true (sym (none-of-64 i) ∙ rw (refused-if-some refusal _ _ ne) at told)))
@@ -71,15 +71,15 @@ module _ (test : Stretch → Bool) (C : Code) (trams : Trams) (refusal : ℕ) wh
 
 -- the answer to a card's trams: its refusal stands beside the answers; a refused card refuses; on a sound card it is that for its code
 module _ (test : Stretch → Bool) (card : List ℕ) (trams : Trams) (first second : ℕ) where
-  pub marked-status : markedAnswer test card trams first second .refusal ≡ tramsRefusal card trams first second
-  unfolding markedAnswer
-  marked-status = marked-refusal test (codeOf card) trams (tramsRefusal card trams first second)
+  pub each-status : eachTramAnswer test card trams first second .refusal ≡ tramsRefusal card trams first second
+  unfolding eachTramAnswer
+  each-status = each-refusal test (codeOf card) trams (tramsRefusal card trams first second)
 
-  pub marked-by-card : (cardRefusal card ≡ 0 → ⊥)
-      → markedAnswer test card trams first second ≡ record { refusal = cardRefusal card; yes = replicate mostTrams false }
-  unfolding markedAnswer markedUnless tramsRefusal
-  marked-by-card refused = refused-by-card (cardRefusal card) _ _ _ refused
+  pub each-by-card : (cardRefusal card ≡ 0 → ⊥)
+      → eachTramAnswer test card trams first second ≡ record { refusal = cardRefusal card; yes = replicate mostTrams false }
+  unfolding eachTramAnswer eachTramUnless tramsRefusal
+  each-by-card refused = refused-by-card (cardRefusal card) _ _ _ refused
 
-  pub marked-sound : SoundCard card → markedAnswer test card trams first second ≡ markedOn test (codeOf card) trams first second
-  unfolding markedAnswer markedOn markedUnless tramsRefusal
-  marked-sound sound = past-card (cardRefusal card) _ _ _ sound
+  pub each-sound : SoundCard card → eachTramAnswer test card trams first second ≡ eachTramOn test (codeOf card) trams first second
+  unfolding eachTramAnswer eachTramOn eachTramUnless tramsRefusal
+  each-sound sound = past-card (cardRefusal card) _ _ _ sound

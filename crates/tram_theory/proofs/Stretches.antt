@@ -21,7 +21,7 @@ use Rattle.model.specs.declared.Trams.{Trams}
 use Rattle.code_theory.proofs.RefusalRows.{NoneHolds, numbered, none-holds}
 use Rattle.position_theory.proofs.Margin.{read-within-margin}
 use Rattle.position_theory.specs.Margin.{ReadWithinMargin}
-use Rattle.tram_theory.specs.Stretches.{Holds, LiesBetween, OnTrack, StandsFrom, WidenedHoldsBoth}
+use Rattle.tram_theory.specs.Stretches.{Holds, WithinMarks, OnTrack, StandsFrom, WidenedHoldsBoth}
 
 -- ---- refusals
 
@@ -76,10 +76,10 @@ module _ (mark : ℕ) (s : Stretch) where
   crosses-only-if = both-hold _ _ _ _
 
 module _ (first second : ℕ) (s : Stretch) where
-  pub within-if : LiesBetween first second s → liesWithin first second s ≡ true
+  pub within-if : WithinMarks first second s → liesWithin first second s ≡ true
   unfolding liesWithin
   within-if = both-tests _ _ _ _
 
-  pub within-only-if : liesWithin first second s ≡ true → LiesBetween first second s
+  pub within-only-if : liesWithin first second s ≡ true → WithinMarks first second s
   unfolding liesWithin
   within-only-if = both-hold _ _ _ _

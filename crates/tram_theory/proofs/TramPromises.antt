@@ -10,7 +10,7 @@ use Rattle.bits.proofs.Numbers.{lt-or-le, eq-or-ne}
 use Rattle.model.specs.Refusals.{unlessRefused}
 use Rattle.model.specs.Card.{cardRefusal, codeOf, SoundCard}
 use Rattle.model.specs.Order.{lastPosition}
-use Rattle.model.specs.Trams.{stretchAt, margin, widenedAt, rowsOfTrams, tramsRefusal, markedAnswer}
+use Rattle.model.specs.Trams.{stretchAt, margin, widenedAt, rowsOfTrams, tramsRefusal, eachTramAnswer}
 use Rattle.model.specs.TramsCrossing.{crosses, crossingAnswer}
 use Rattle.model.specs.TramsWithin.{liesWithin, withinAnswer}
 use Rattle.model.specs.NearestTram.{nearestOf, nearestOn, nearestAnswer, nearestStatus}
@@ -19,13 +19,13 @@ use Rattle.model.specs.declared.Trams.{Trams}
 use Rattle.model.specs.declared.NearestAnswer.{NearestAnswer}
 use Rattle.model.specs.declared.NearestAnswer.the-variants.{Tram, NoTram, Refused}
 use Rattle.code_theory.proofs.RefusalRows.{none-past-card, past-card, served-if-none, refused-if-some}
-use Rattle.tram_theory.specs.Stretches.{Holds, LiesBetween, Between, OnTrack, StandsFrom, WidenedHoldsBoth}
-use Rattle.tram_theory.specs.TramPromises.{ToldYes, ToldExactly, NoneMissed, TrulyWithin, CrossingPromises, WithinPromises}
-use Rattle.tram_theory.specs.TramPromises.{IsNearest, NearestOfAll, ZeroIfCrossing, NoneCloser, NearestPromises}
+use Rattle.tram_theory.specs.Stretches.{Holds, WithinMarks, Between, OnTrack, StandsFrom, WidenedHoldsBoth}
+use Rattle.tram_theory.specs.TramPromises.{AnsweredYes, YesExactlyIf, NoneMissed, TrulyWithin, CrossingPromises, WithinPromises}
+use Rattle.tram_theory.specs.TramPromises.{IsNearest, NearestOfAll, ZeroExactlyIfCrossing, NoneCloser, NearestPromises}
 use Rattle.tram_theory.proofs.Stretches.{on-track, widened-in-order, widened-holds-both}
 use Rattle.tram_theory.proofs.Stretches.{crosses-if, crosses-only-if, within-if, within-only-if}
-use Rattle.tram_theory.proofs.ServedTrams.{yes-if, yes-only-if, marked-refusal, marked-answers, marked-status, served-if-told}
-use Rattle.tram_theory.proofs.NearestTrams.{crossing-at-0, at-0-crossing, no-farther, found, none-found, of-no-trams}
+use Rattle.tram_theory.proofs.ServedTrams.{yes-if, yes-only-if, each-refusal, each-answers, each-status, served-if-told}
+use Rattle.tram_theory.proofs.NearestTrams.{crossing-at-0, at-0-crossing, no-farther, found, some-found, none-found, of-no-trams}
 
 -- ---- trams of a search that is served
 
@@ -60,35 +60,35 @@ module _ (card : List ℕ) (trams : Trams) where
 
 module _ (Test : Stretch → Type 0) (test : Stretch → Bool)
     (if : (s : Stretch) → Test s → test s ≡ true) (only-if : (s : Stretch) → test s ≡ true → Test s) where
-  told-exactly : (card : List ℕ) (trams : Trams) (first second : ℕ)
-      → ToldExactly Test card trams (markedAnswer test card trams first second)
-  unfolding markedAnswer
-  told-exactly card trams first second =
+  yes-exactly-if : (card : List ℕ) (trams : Trams) (first second : ℕ)
+      → YesExactlyIf Test card trams (eachTramAnswer test card trams first second)
+  unfolding eachTramAnswer
+  yes-exactly-if card trams first second =
       let C = codeOf card in
       let refusal = tramsRefusal card trams first second in
-      let number = marked-refusal test C trams refusal in
+      let number = each-refusal test C trams refusal in
       record {
         yes = λ i none below holds.
             let is : refusal ≡ 0 = sym number ∙ none in
             let (_, placed) = served card trams first second is in
-            rw (marked-answers test C trams refusal is)
+            rw (each-answers test C trams refusal is)
             (yes-if test (widenedAt C trams) (trams .count) i (placed .few) below (if (widenedAt C trams i) holds));
         only = λ i told.
             let is = served-if-told test C trams refusal i told in
             let (below, holds) =
-            yes-only-if test (widenedAt C trams) (trams .count) i (rw (marked-answers test C trams refusal is) at told) in
+            yes-only-if test (widenedAt C trams) (trams .count) i (rw (each-answers test C trams refusal is) at told) in
             (number ∙ is, below, only-if (widenedAt C trams i) holds);
       }
 
 pub crossing-promises : (card : List ℕ) (trams : Trams) (mark : ℕ) → CrossingPromises card trams mark (crossingAnswer card trams mark)
 unfolding NoneMissed
 crossing-promises card trams mark =
-    let exactly = told-exactly (λ s. Holds s mark) (crosses mark) (crosses-if mark) (crosses-only-if mark) card trams mark mark in
+    let exactly = yes-exactly-if (λ s. Holds s mark) (crosses mark) (crosses-if mark) (crosses-only-if mark) card trams mark mark in
     record {
       exactly = exactly;
       none-missed = λ i a b none below stands between.
           let inside : i < trams .count = omega arith in
-          let (sound, placed) = served card trams mark mark (sym (marked-status (crosses mark) card trams mark mark) ∙ none) in
+          let (sound, placed) = served card trams mark mark (sym (each-status (crosses mark) card trams mark mark) ∙ none) in
           exactly .yes i none inside (holds-between card trams sound placed i inside a b mark stands between);
     }
 
@@ -97,14 +97,14 @@ pub within-promises : (card : List ℕ) (trams : Trams) (first second : ℕ)
 unfolding TrulyWithin
 within-promises card trams first second =
     let exactly =
-    told-exactly (LiesBetween first second) (liesWithin first second) (within-if first second) (within-only-if first second)
+    yes-exactly-if (WithinMarks first second) (liesWithin first second) (within-if first second) (within-only-if first second)
     card trams first second in
     record {
       exactly = exactly;
       truly = λ i a b told stands.
           let (none, below, (low, high)) = exactly .only i told in
           let (sound, placed) =
-          served card trams first second (sym (marked-status (liesWithin first second) card trams first second) ∙ none) in
+          served card trams first second (sym (each-status (liesWithin first second) card trams first second) ∙ none) in
           let ((low-a, high-a), (low-b, high-b)) = holds-both card trams sound placed i below a b stands in
           ((omega arith, omega arith), (omega arith, omega arith));
     }
@@ -151,13 +151,15 @@ module _ (card : List ℕ) (trams : Trams) (mark : ℕ) where
                   ⊎-elim (λ (before : i < place). absurd (omega (arith, best i l .lower-than-earlier before (sym same)))) (λ after. after)
                   (lt-or-le i place);
             };
+        some = λ zero-is inhabited.
+            let (place, is) = some-found mark stretch (trams .count) inhabited in (place, answered (status-0 zero-is) ∙ is);
         none = λ e. none-found mark stretch (trams .count) (none-answered e);
         of-none = λ zero-is empty. answered (status-0 zero-is) ∙ of-no-trams mark stretch (trams .count) empty;
       }
 
-  zero-if-crossing : ZeroIfCrossing card trams mark (nearestAnswer card trams mark)
-  unfolding ZeroIfCrossing
-  zero-if-crossing i zero-is below =
+  zero-exactly-if-crossing : ZeroExactlyIfCrossing card trams mark (nearestAnswer card trams mark)
+  unfolding ZeroExactlyIfCrossing
+  zero-exactly-if-crossing i zero-is below =
       let (sound, placed) = served card trams mark mark (status-0 zero-is) in
       (crossing-at-0 mark (stretch i), at-0-crossing mark (stretch i) (in-order card trams sound placed i below))
 
@@ -170,7 +172,7 @@ module _ (card : List ℕ) (trams : Trams) (mark : ℕ) where
       omega (arith, found mark stretch (trams .count) place is .1 i below .no-farther-off)
 
   pub nearest-promises : NearestPromises card trams mark (nearestAnswer card trams mark)
-  nearest-promises = record { of-all = nearest-of-all; crossing = zero-if-crossing; none-closer = none-closer }
+  nearest-promises = record { of-all = nearest-of-all; crossing = zero-exactly-if-crossing; none-closer = none-closer }
 
 -- on a sound card the search is answered as for the card's code
 pub nearest-sound : (card : List ℕ) (trams : Trams) (mark : ℕ) → SoundCard card

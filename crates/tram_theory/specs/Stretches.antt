@@ -10,24 +10,26 @@ use Rattle.model.specs.declared.Stretch.{Stretch}
 use Rattle.model.specs.declared.Trams.{Trams}
 use Rattle.position_theory.specs.Margin.{ReadFrom}
 
--- a position lies in a stretch; and a stretch lies between two marks
+-- a position lies in a stretch; and a stretch lies within two marks
 abbrev pub Holds : Stretch → (position : ℕ) → Type 0
 Holds s position = (s .low ≤ position) × (position ≤ s .high)
 
-abbrev pub LiesBetween : (first second : ℕ) → Stretch → Type 0
-LiesBetween first second s = (first ≤ s .low) × (s .high ≤ second)
+abbrev pub WithinMarks : (first second : ℕ) → Stretch → Type 0
+WithinMarks first second s = (first ≤ s .low) × (s .high ≤ second)
 
 -- a position lies between two others, whichever of these is the smaller
 abbrev pub Between : (a b position : ℕ) → Type 0
 Between a b position = ((a ≤ position) × (position ≤ b)) ⊎ ((b ≤ position) × (position ≤ a))
 
--- trams that neither 18 nor 19 refuses: at most 64, each with its low end at most its high end, and that at most the last position
+-- trams whose count 18 and whose stretches 19 does not refuse: at most 64, each with its low end at most its high end, and that at most
+-- the last position
 pub record OnTrack (last : ℕ) (trams : Trams) : Type 0 where
   pub few : trams .count ≤ mostTrams
   pub in-order : (i : ℕ) → i < trams .count → stretchAt trams i .low ≤ stretchAt trams i .high
   pub below-last : (i : ℕ) → i < trams .count → stretchAt trams i .high ≤ last
 
--- a tram truly stands from a to b: the ends of its stretch were read from words of these positions, within the radius in every chunk
+-- a tram truly stands at a and b and between them: the low end of its stretch was read from a word of a, and the high end from one of b,
+-- each with at most t damaged bits in every chunk
 pub record StandsFrom (card : List ℕ) (s : Stretch) (a b : ℕ) : Type 0 where
   pub low-end : ReadFrom card a (s .low)
   pub high-end : ReadFrom card b (s .high)

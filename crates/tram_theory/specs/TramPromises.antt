@@ -10,42 +10,42 @@ use Rattle.model.specs.Trams.{stretchAt, widenedAt}
 use Rattle.model.specs.NearestTram.{apart, distanceTo, nearestStatus}
 use Rattle.model.specs.declared.Stretch.{Stretch}
 use Rattle.model.specs.declared.Trams.{Trams}
-use Rattle.model.specs.declared.MarkedTrams.{MarkedTrams}
+use Rattle.model.specs.declared.TramsAnswer.{TramsAnswer}
 use Rattle.model.specs.declared.NearestAnswer.{NearestAnswer}
 use Rattle.model.specs.declared.NearestAnswer.the-variants.{Tram, NoTram}
-use Rattle.tram_theory.specs.Stretches.{Holds, LiesBetween, Between, StandsFrom}
+use Rattle.tram_theory.specs.Stretches.{Holds, WithinMarks, Between, StandsFrom}
 
 -- ---- yes or no for each tram
 
--- the answer of the tram at place i is yes
-abbrev pub ToldYes : MarkedTrams → (i : ℕ) → Type 0
-ToldYes answer i = getD (answer .yes) i false ≡ true
+-- the answer for the tram at place i is yes
+abbrev pub AnsweredYes : TramsAnswer → (i : ℕ) → Type 0
+AnsweredYes answer i = getD (answer .yes) i false ≡ true
 
--- Where the search is served, a tram's answer is yes if this holds of its widened stretch, and only then. Past the count, and where the
--- search is refused, none is.
-pub record ToldExactly (Test : Stretch → Type 0) (card : List ℕ) (trams : Trams) (answer : MarkedTrams) : Type 0 where
-  pub yes : (i : ℕ) → answer .refusal ≡ 0 → i < trams .count → Test (widenedAt (codeOf card) trams i) → ToldYes answer i
-  pub only : (i : ℕ) → ToldYes answer i → (answer .refusal ≡ 0) × (i < trams .count) × Test (widenedAt (codeOf card) trams i)
+-- Where the search is served, the answer for a tram is yes if this holds of its widened stretch, and only then. Past the count, and where
+-- the search is refused, it never is.
+pub record YesExactlyIf (Test : Stretch → Type 0) (card : List ℕ) (trams : Trams) (answer : TramsAnswer) : Type 0 where
+  pub yes : (i : ℕ) → answer .refusal ≡ 0 → i < trams .count → Test (widenedAt (codeOf card) trams i) → AnsweredYes answer i
+  pub only : (i : ℕ) → AnsweredYes answer i → (answer .refusal ≡ 0) × (i < trams .count) × Test (widenedAt (codeOf card) trams i)
 
 -- a tram that truly stands at the mark, since the mark lies between its true positions a and b, is never missed
-unfoldable pub NoneMissed : (card : List ℕ) → Trams → (mark : ℕ) → MarkedTrams → Type 0
+unfoldable pub NoneMissed : (card : List ℕ) → Trams → (mark : ℕ) → TramsAnswer → Type 0
 NoneMissed card trams mark answer =
-    (i a b : ℕ) → answer .refusal ≡ 0 → i < trams .count → StandsFrom card (stretchAt trams i) a b → Between a b mark → ToldYes answer i
+    (i a b : ℕ) → answer .refusal ≡ 0 → i < trams .count → StandsFrom card (stretchAt trams i) a b → Between a b mark → AnsweredYes answer i
 
--- a tram that is told to be within two marks truly is: both its true positions lie between them
-unfoldable pub TrulyWithin : (card : List ℕ) → Trams → (first second : ℕ) → MarkedTrams → Type 0
+-- a tram that is reported as within two marks truly is: both its true positions lie between them
+unfoldable pub TrulyWithin : (card : List ℕ) → Trams → (first second : ℕ) → TramsAnswer → Type 0
 TrulyWithin card trams first second answer =
-    (i a b : ℕ) → ToldYes answer i → StandsFrom card (stretchAt trams i) a b
+    (i a b : ℕ) → AnsweredYes answer i → StandsFrom card (stretchAt trams i) a b
     → ((first ≤ a) × (a ≤ second)) × ((first ≤ b) × (b ≤ second))
 
 -- all trams crossing a mark
-pub record CrossingPromises (card : List ℕ) (trams : Trams) (mark : ℕ) (answer : MarkedTrams) : Type 0 where
-  pub exactly : ToldExactly (λ s. Holds s mark) card trams answer
+pub record CrossingPromises (card : List ℕ) (trams : Trams) (mark : ℕ) (answer : TramsAnswer) : Type 0 where
+  pub exactly : YesExactlyIf (λ s. Holds s mark) card trams answer
   pub none-missed : NoneMissed card trams mark answer
 
 -- all trams wholly within two marks
-pub record WithinPromises (card : List ℕ) (trams : Trams) (first second : ℕ) (answer : MarkedTrams) : Type 0 where
-  pub exactly : ToldExactly (LiesBetween first second) card trams answer
+pub record WithinPromises (card : List ℕ) (trams : Trams) (first second : ℕ) (answer : TramsAnswer) : Type 0 where
+  pub exactly : YesExactlyIf (WithinMarks first second) card trams answer
   pub truly : TrulyWithin card trams first second answer
 
 -- ---- the nearest tram
@@ -63,15 +63,16 @@ pub record IsNearest (card : List ℕ) (trams : Trams) (mark place : ℕ) : Type
       → distanceTo mark (widenedAt (codeOf card) trams i) ≡ distanceTo mark (widenedAt (codeOf card) trams place)
       → widenedAt (codeOf card) trams i .low ≡ widenedAt (codeOf card) trams place .low → place ≤ i
 
--- it is answered so wherever there are trams, and of no trams it is none
+-- where the search is served, such a place is answered if there are trams, and of no trams none
 pub record NearestOfAll (card : List ℕ) (trams : Trams) (mark : ℕ) (answer : NearestAnswer) : Type 0 where
   pub nearest : (place : ℕ) → answer ≡ Tram place → IsNearest card trams mark place
+  pub some : nearestStatus answer ≡ 0 → 0 < trams .count → (place : ℕ) × (answer ≡ Tram place)
   pub none : answer ≡ NoTram → trams .count ≡ 0
   pub of-none : nearestStatus answer ≡ 0 → trams .count ≡ 0 → answer ≡ NoTram
 
 -- where the search is served, a tram is at distance 0 if it crosses the mark, and only then
-unfoldable pub ZeroIfCrossing : (card : List ℕ) → Trams → (mark : ℕ) → NearestAnswer → Type 0
-ZeroIfCrossing card trams mark answer =
+unfoldable pub ZeroExactlyIfCrossing : (card : List ℕ) → Trams → (mark : ℕ) → NearestAnswer → Type 0
+ZeroExactlyIfCrossing card trams mark answer =
     (i : ℕ) → nearestStatus answer ≡ 0 → i < trams .count
     → (Holds (widenedAt (codeOf card) trams i) mark → distanceTo mark (widenedAt (codeOf card) trams i) ≡ 0)
     × (distanceTo mark (widenedAt (codeOf card) trams i) ≡ 0 → Holds (widenedAt (codeOf card) trams i) mark)
@@ -84,5 +85,5 @@ NoneCloser card trams mark answer =
 
 pub record NearestPromises (card : List ℕ) (trams : Trams) (mark : ℕ) (answer : NearestAnswer) : Type 0 where
   pub of-all : NearestOfAll card trams mark answer
-  pub crossing : ZeroIfCrossing card trams mark answer
+  pub crossing : ZeroExactlyIfCrossing card trams mark answer
   pub none-closer : NoneCloser card trams mark answer

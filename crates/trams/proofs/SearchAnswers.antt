@@ -8,11 +8,11 @@ use lib.ListN.{replicate}
 use Rattle.model.specs.Refusals.{firstRefusal}
 use Rattle.model.specs.Card.{Code}
 use Rattle.model.specs.Order.{lastPosition}
-use Rattle.model.specs.Trams.{mostTrams, stretchAt, margin, widened, widenedAt, rowsOfTrams, answersBy, markedUnless, markedOn}
+use Rattle.model.specs.Trams.{mostTrams, stretchAt, margin, widened, widenedAt, rowsOfTrams, answersBy, eachTramUnless, eachTramOn}
 use Rattle.model.specs.NearestTram.{nearestOf, nearestOn}
 use Rattle.model.specs.declared.Stretch.{Stretch}
 use Rattle.model.specs.declared.Trams.{Trams}
-use Rattle.model.specs.declared.MarkedTrams.{MarkedTrams}
+use Rattle.model.specs.declared.TramsAnswer.{TramsAnswer}
 use Rattle.model.specs.declared.NearestAnswer.{NearestAnswer}
 use Rattle.model.specs.declared.NearestAnswer.the-variants.{Refused}
 use Rattle.code_theory.specs.Promise.{Sound}
@@ -39,16 +39,16 @@ module _ {C : Code} {trams : Trams} {first second last refusal : ℕ} (tested : 
   )
 
   module _ (test : Stretch → Bool) where
-    pub marked-refused : (refusal ≡ 0 → ⊥)
-        → _≡_ {A = MarkedTrams} (record { refusal = refusal; yes = replicate mostTrams false }) (markedOn test C trams first second)
-    unfolding markedOn markedUnless
-    marked-refused some = rw (← rows) (sym (refused-if-some refusal _ _ some))
+    pub each-refused : (refusal ≡ 0 → ⊥)
+        → _≡_ {A = TramsAnswer} (record { refusal = refusal; yes = replicate mostTrams false }) (eachTramOn test C trams first second)
+    unfolding eachTramOn eachTramUnless
+    each-refused some = rw (← rows) (sym (refused-if-some refusal _ _ some))
 
-    pub marked-served : refusal ≡ 0 → (reach : ℕ) → reach ≡ margin C → (answers : List Bool)
+    pub each-served : refusal ≡ 0 → (reach : ℕ) → reach ≡ margin C → (answers : List Bool)
         → answers ≡ answersBy test (λ i. widened reach last (stretchAt trams i)) (trams .count)
-        → _≡_ {A = MarkedTrams} (record { refusal = 0; yes = answers }) (markedOn test C trams first second)
-    unfolding markedOn markedUnless widenedAt
-    marked-served none reach reach-is answers are =
+        → _≡_ {A = TramsAnswer} (record { refusal = 0; yes = answers }) (eachTramOn test C trams first second)
+    unfolding eachTramOn eachTramUnless widenedAt
+    each-served none reach reach-is answers are =
         rw (← rows, are, reach-is, tested .last-is) (sym (served-if-none refusal _ _ none))
 
 module _ {C : Code} {trams : Trams} {mark last refusal : ℕ} (tested : Tested C trams mark mark last refusal) where

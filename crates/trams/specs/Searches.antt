@@ -3,8 +3,8 @@ use mathlib.Core.Bool.{Bool}
 use Rattle.model.specs.TramsCrossing.{crosses}
 use Rattle.model.specs.TramsWithin.{liesWithin}
 use Rattle.model.specs.declared.Stretch.{Stretch}
-use Rattle.trams.specs.declared.marking.Search.{Search}
-use Rattle.trams.specs.declared.marking.Search.the-variants.{Crossing, Within}
+use Rattle.trams.specs.declared.each_tram.Search.{Search}
+use Rattle.trams.specs.declared.each_tram.Search.the-variants.{Crossing, Within}
 
 unfoldable pub testOf : Search → Stretch → Bool
 testOf (Crossing mark) = crosses mark

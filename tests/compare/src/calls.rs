@@ -106,15 +106,15 @@ pub type Nearest = Result<Option<usize>, Refusal>;
 /// Which trams both tell to cross a mark.
 pub fn crossing(tally: &mut Tally, answer: &EachTram, second: &EachTram) {
     told(tally, "searches for crossing trams", answer, second);
-    tally.add_all("trams told to cross a mark", trams_told(second, true));
-    tally.add_all("trams told not to cross a mark", trams_told(second, false));
+    tally.add_all("trams reported as crossing a mark", trams_told(second, true));
+    tally.add_all("trams reported as not crossing a mark", trams_told(second, false));
 }
 
 /// Which trams both tell to be wholly within two marks.
 pub fn within(tally: &mut Tally, answer: &EachTram, second: &EachTram) {
     told(tally, "searches within two marks", answer, second);
-    tally.add_all("trams told to be within two marks", trams_told(second, true));
-    tally.add_all("trams told not to be within two marks", trams_told(second, false));
+    tally.add_all("trams reported as within two marks", trams_told(second, true));
+    tally.add_all("trams reported as not within two marks", trams_told(second, false));
 }
 
 /// Which tram both tell to be the nearest to a mark.

@@ -108,26 +108,26 @@ fn searched(tally: &mut Tally, card: &[u8], track: &Track, trams: &[Tram], seed:
     }
 }
 
-/// A tram that stood at a mark must be told to cross it.
+/// A tram that stood at a mark must be reported as crossing it.
 fn found_at(tally: &mut Tally, trams: &[Tram], mark: u32, crossing: &EachTram) {
     for (place, tram) in trams.iter().enumerate().filter(|(_, tram)| tram.stood.crosses(mark)) {
         tally.add("trams that stood at a mark", true);
         tally.add("trams of these whose stretch as read is not at the mark", !tram.read.crosses(mark));
-        tally.add("trams that stood at a mark not told to cross it", !is_told(crossing, place));
+        tally.add("trams that stood at a mark not reported as crossing it", !is_told(crossing, place));
     }
 }
 
-/// A tram that did not stand within two marks must not be told to be there.
+/// A tram that did not stand within two marks must not be reported as within.
 fn found_within(tally: &mut Tally, trams: &[Tram], [first, second]: [u32; 2], within: &EachTram) {
     let is_within = |stretch: Stretch| first <= stretch.low && stretch.high <= second;
     for (place, tram) in trams.iter().enumerate().filter(|(_, tram)| !is_within(tram.stood)) {
         tally.add("trams that did not stand within two marks", true);
         tally.add("trams of these whose stretch as read is within the marks", is_within(tram.read));
-        tally.add("trams that did not stand within two marks told to be there", is_told(within, place));
+        tally.add("trams that did not stand within two marks reported as within", is_told(within, place));
     }
 }
 
-/// The widened stretch of the tram that is told to be the nearest to a mark must be no further from it than any tram stood.
+/// The widened stretch of the tram that is answered as the nearest to a mark must be no further from it than any tram stood.
 fn found_nearest(tally: &mut Tally, list: &List, trams: &[Tram], mark: u32, nearest: Nearest) {
     let Some(stood) = trams.iter().map(|tram| tram.stood.distance(mark)).min() else { return };
     let told = nearest.ok().flatten().and_then(|place| list.widened(place));
@@ -138,7 +138,7 @@ fn found_nearest(tally: &mut Tally, list: &List, trams: &[Tram], mark: u32, near
     tally.add("nearest trams further off than where a tram stood, or none", is_further);
 }
 
-/// Whether the tram at a place of the list is told to do what is asked.
+/// Whether the tram at a place of the list is reported as asked for.
 fn is_told(answer: &EachTram, place: usize) -> bool {
     answer.as_ref().map_or(false, |told| told.get(place) == Some(&true))
 }

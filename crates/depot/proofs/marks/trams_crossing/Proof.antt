@@ -4,14 +4,14 @@ use borrow.Author.Needs.{needs}
 use Rattle.model.specs.TramsCrossing.{crosses}
 use Rattle.tram_theory.specs.TramPromises.{CrossingPromises}
 use Rattle.tram_theory.proofs.TramPromises.{crossing-promises}
-use Rattle.depot.proofs.TramsContract.{marked-card-refused, trams-marked}
+use Rattle.depot.proofs.TramsContract.{each-card-refused, each-answered}
 use Rattle.depot.proofs.marks.trams_crossing.Statement.{statement}
 use Rattle.depot.proofs.marks.trams_crossing.Tie as tie
 
 returns : tie.Need-returns
 returns c =
     let first = c .before .before .before .before in
-    marked-card-refused (crosses (first .args .mark)) _ (first .args .trams) (first .args .mark) (first .args .mark)
+    each-card-refused (crosses (first .args .mark)) _ (first .args .trams) (first .args .mark) (first .args .mark)
     (CrossingPromises _ _ _) (crossing-promises _ _ _) _ (c .before .before .decode .ensures) (c .if1 .taken)
 
 crossing-requires : tie.Need-crossing-requires
@@ -21,7 +21,7 @@ returns-2 : tie.Need-returns-2
 returns-2 c =
     let passed = c .before in
     let first = passed .before .before .before .before in
-    trams-marked (crosses (first .args .mark)) _ (first .args .trams) (first .args .mark) (first .args .mark)
+    each-answered (crosses (first .args .mark)) _ (first .args .trams) (first .args .mark) (first .args .mark)
     (CrossingPromises _ _ _) (crossing-promises _ _ _) _ (passed .before .before .decode .ensures) (passed .if1 .left) _
     (c .crossing .ensures)
 

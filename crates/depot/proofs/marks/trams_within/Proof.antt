@@ -4,14 +4,14 @@ use borrow.Author.Needs.{needs}
 use Rattle.model.specs.TramsWithin.{liesWithin}
 use Rattle.tram_theory.specs.TramPromises.{WithinPromises}
 use Rattle.tram_theory.proofs.TramPromises.{within-promises}
-use Rattle.depot.proofs.TramsContract.{marked-card-refused, trams-marked}
+use Rattle.depot.proofs.TramsContract.{each-card-refused, each-answered}
 use Rattle.depot.proofs.marks.trams_within.Statement.{statement}
 use Rattle.depot.proofs.marks.trams_within.Tie as tie
 
 returns : tie.Need-returns
 returns c =
     let first = c .before .before .before .before in
-    marked-card-refused (liesWithin (first .args .first) (first .args .second)) _ (first .args .trams) (first .args .first) (first .args .second)
+    each-card-refused (liesWithin (first .args .first) (first .args .second)) _ (first .args .trams) (first .args .first) (first .args .second)
     (WithinPromises _ _ _ _) (within-promises _ _ _ _) _ (c .before .before .decode .ensures) (c .if1 .taken)
 
 within-requires : tie.Need-within-requires
@@ -21,7 +21,7 @@ returns-2 : tie.Need-returns-2
 returns-2 c =
     let passed = c .before in
     let first = passed .before .before .before .before in
-    trams-marked (liesWithin (first .args .first) (first .args .second)) _ (first .args .trams) (first .args .first) (first .args .second)
+    each-answered (liesWithin (first .args .first) (first .args .second)) _ (first .args .trams) (first .args .first) (first .args .second)
     (WithinPromises _ _ _ _) (within-promises _ _ _ _) _ (passed .before .before .decode .ensures) (passed .if1 .left) _
     (c .within .ensures)
 

@@ -2,7 +2,7 @@
 ghost use mathlib.Core.Path.{_≡_};
 ghost use Prim.Native.Nat.{_+_, _<_};
 ghost use Rattle.model.specs.Decoded.{meaning};
-ghost use Rattle.model.specs.Trams.{stretchAt, widened, answersBy, markedOn};
+ghost use Rattle.model.specs.Trams.{stretchAt, widened, answersBy, eachTramOn};
 ghost use Rattle.model.specs.TramsCrossing.{crosses};
 ghost use Rattle.model.specs.TramsWithin.{liesWithin};
 ghost use Rattle.code_theory.specs.Promise.{Sound};
@@ -11,9 +11,9 @@ ghost use Rattle.trams.specs.Searches.{testOf};
 use super::refusals;
 use super::widening;
 use model::DecodedCode;
-use model::MarkedTrams;
 use model::Stretch;
 use model::Trams;
+use model::TramsAnswer;
 use position::blocks;
 
 // What is asked of each tram.
@@ -50,34 +50,34 @@ fn answers(search: Search, margin: u32, last: u32, trams: Trams) -> [bool; 64]
 }
 
 // A search, and the marks that 19 looks at.
-fn marked(code: DecodedCode, trams: Trams, first: u32, second: u32, search: Search) -> MarkedTrams
+fn ask_each(code: DecodedCode, trams: Trams, first: u32, second: u32, search: Search) -> TramsAnswer
     requires { ⌜ Sound (meaning code) ⌝ }
-    ensures { λ r. ⌜ r ≡ markedOn (testOf search) (meaning code) trams first second ⌝ }
+    ensures { λ r. ⌜ r ≡ eachTramOn (testOf search) (meaning code) trams first second ⌝ }
 {
     let last = blocks::last_position(code);
     let refusal = refusals::refusal_of(last, trams, first, second);
     if refusal != 0 {
-        return MarkedTrams {
+        return TramsAnswer {
             refusal,
             yes: [false; 64],
         };
     }
     let yes = answers(search, widening::margin_of(code), last, trams);
-    MarkedTrams { refusal: 0, yes }
+    TramsAnswer { refusal: 0, yes }
 }
 
 // All trams crossing a mark.
-pub fn crossing(code: DecodedCode, trams: Trams, mark: u32) -> MarkedTrams
+pub fn crossing(code: DecodedCode, trams: Trams, mark: u32) -> TramsAnswer
     requires { ⌜ Sound (meaning code) ⌝ }
-    ensures { λ r. ⌜ r ≡ markedOn (crosses mark) (meaning code) trams mark mark ⌝ }
+    ensures { λ r. ⌜ r ≡ eachTramOn (crosses mark) (meaning code) trams mark mark ⌝ }
 {
-    marked(code, trams, mark, mark, Search::Crossing(mark))
+    ask_each(code, trams, mark, mark, Search::Crossing(mark))
 }
 
 // All trams wholly within two marks.
-pub fn within(code: DecodedCode, trams: Trams, first: u32, second: u32) -> MarkedTrams
+pub fn within(code: DecodedCode, trams: Trams, first: u32, second: u32) -> TramsAnswer
     requires { ⌜ Sound (meaning code) ⌝ }
-    ensures { λ r. ⌜ r ≡ markedOn (liesWithin first second) (meaning code) trams first second ⌝ }
+    ensures { λ r. ⌜ r ≡ eachTramOn (liesWithin first second) (meaning code) trams first second ⌝ }
 {
-    marked(code, trams, first, second, Search::Within { first, second })
+    ask_each(code, trams, first, second, Search::Within { first, second })
 }

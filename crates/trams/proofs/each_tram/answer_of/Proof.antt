@@ -1,11 +1,11 @@
--- `trams::marking::answer_of` meets its contract: of either search, the second test decides where the first holds. Assumes nothing.
+-- `trams::each_tram::answer_of` meets its contract: of either search, the second test decides where the first holds. Assumes nothing.
 use borrow.Author.Needs.{needs}
 use borrow.Author.Tests.{le-leb, lt-leb}
 use Rattle.model.specs.TramsCrossing.{crosses}
 use Rattle.model.specs.TramsWithin.{liesWithin}
 use Rattle.trams.specs.Searches.{testOf}
-use Rattle.trams.proofs.marking.answer_of.Statement.{statement}
-use Rattle.trams.proofs.marking.answer_of.Tie as tie
+use Rattle.trams.proofs.each_tram.answer_of.Statement.{statement}
+use Rattle.trams.proofs.each_tram.answer_of.Tie as tie
 
 returns : tie.Need-returns
 unfolding testOf crosses

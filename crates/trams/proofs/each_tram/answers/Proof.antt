@@ -1,4 +1,4 @@
--- `trams::marking::answers` meets its contract. The loop's invariant: the answers are those of the first i trams. The measure is the trams
+-- `trams::each_tram::answers` meets its contract. The loop's invariant: the answers are those of the first i trams. The measure is the trams
 -- that are left. Assumes nothing.
 use mathlib.Core.Path.{_≡_}
 use Prim.Native.Nat.{_≤_, _-_}
@@ -7,8 +7,8 @@ use borrow.Author.Needs.{needs}
 use Rattle.model.specs.Trams.{answersBy}
 use Rattle.trams.specs.Searches.{testOf}
 use Rattle.trams.proofs.Passes.{wideAt, no-answers, one-answer-more}
-use Rattle.trams.proofs.marking.answers.Statement.{statement}
-use Rattle.trams.proofs.marking.answers.Tie as tie
+use Rattle.trams.proofs.each_tram.answers.Statement.{statement}
+use Rattle.trams.proofs.each_tram.answers.Tie as tie
 
 abbrev Inv-loop : tie.InvT-loop
 Inv-loop asked margin last count stretches told₀ i₀ told i =

@@ -1,9 +1,9 @@
--- `trams::marking::marked` meets its contract: refused by 18 or 19, or served with the answers of the widened stretches. Assumes nothing.
+-- `trams::each_tram::ask_each` meets its contract: refused by 18 or 19, or served with the answers of the widened stretches. Assumes nothing.
 use borrow.Author.Needs.{needs}
 use Rattle.model.specs.Decoded.{meaning}
-use Rattle.trams.proofs.SearchAnswers.{Tested, placed, marked-refused, marked-served}
-use Rattle.trams.proofs.marking.marked.Statement.{statement}
-use Rattle.trams.proofs.marking.marked.Tie as tie
+use Rattle.trams.proofs.SearchAnswers.{Tested, placed, each-refused, each-served}
+use Rattle.trams.proofs.each_tram.ask_each.Statement.{statement}
+use Rattle.trams.proofs.each_tram.ask_each.Tie as tie
 
 -- what the tests found
 tested : (c : tie.After-refusal-of)
@@ -14,7 +14,7 @@ tested c =
     record { sound = c .before .before .pre; last-is = c .before .last-position .ensures; refusal-is = c .refusal-of .ensures }
 
 returns : tie.Need-returns
-returns c = marked-refused (tested (c .before)) _ (c .if1 .taken)
+returns c = each-refused (tested (c .before)) _ (c .if1 .taken)
 
 answers-requires : tie.Need-answers-requires
 answers-requires c κs = placed (tested (c .before .before)) (c .before .if1 .left) _ (c .margin-of .ensures .1)
@@ -22,9 +22,9 @@ answers-requires c κs = placed (tested (c .before .before)) (c .before .if1 .le
 returns-2 : tie.Need-returns-2
 returns-2 c =
     let passed = c .before .before in
-    marked-served (tested (passed .before)) _ (passed .if1 .left) _ (c .before .margin-of .ensures .0) _ (c .answers .ensures)
+    each-served (tested (passed .before)) _ (passed .if1 .left) _ (c .before .margin-of .ensures .0) _ (c .answers .ensures)
 
-pub marked-spec : {M : Type 1} → statement M
-marked-spec =
+pub ask-each-spec : {M : Type 1} → statement M
+ask-each-spec =
     tie.close
     (tie.spec (λ c κs. search needs) (λ c κs. search needs) returns (λ c κs. search needs) answers-requires returns-2)
