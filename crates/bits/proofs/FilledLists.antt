@@ -1,6 +1,6 @@
 -- Lists that are filled entry by entry, whatever their entries are: those below i are f's, and the others are still as they were. Assumes
 -- nothing.
-use mathlib.Core.Path.{_≡_, refl, sym, _∙_}
+use mathlib.Core.Path.{_≡_, sym, _∙_}
 use mathlib.Core.Bool.{cond}
 use mathlib.Core.List.{List}
 use mathlib.Core.Logic.{⊎-elim}
@@ -38,7 +38,8 @@ module _ {A : Type 0} (m : ℕ) (f : ℕ → A) (past : A) where
       (λ j below.
       ⊎-elim
       (λ (here : j ≡ i).
-      rw (here, lt-ltb i (i + 1) (omega arith)) (getD-set-same (filled i) i (f i) past (rw (length-listOf m (λ j. cond (ltb j i) (f j) past)) inside)))
+      rw (here, lt-ltb i (i + 1) (omega arith))
+      (getD-set-same (filled i) i (f i) past (rw (length-listOf m (λ j. cond (ltb j i) (f j) past)) inside)))
       (λ (elsewhere : j ≡ i → ⊥).
       getD-set-other (filled i) i j (f i) past elsewhere ∙ getD-listOf m _ past j below ∙ as-before j i elsewhere)
       (eq-or-ne j i))

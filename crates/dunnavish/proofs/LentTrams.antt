@@ -1,10 +1,8 @@
 -- The trams that a caller in C hands over as lows and highs, stretch by stretch. Assumes nothing.
-use mathlib.Core.Path.{_≡_, refl}
+use mathlib.Core.Path.{_≡_}
 use mathlib.Core.List.{List}
 use Prim.Native.Nat.{ℕ, _+_, _≤_, _<_}
-use native.Mathlib.Omega.{arith}
 use lib.ListN.{getD, set, replicate, length, List·getD-eq-default}
-use Rattle.bits.specs.Places.{listOf}
 use Rattle.bits.proofs.FilledLists.{filled, filled-none, filled-more, filled-all}
 use Rattle.model.specs.Trams.{mostTrams}
 use Rattle.model.specs.declared.Stretch.{Stretch}

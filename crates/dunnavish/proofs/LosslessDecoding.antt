@@ -110,7 +110,7 @@ lossless-decoding =
       nearest = kept NearestRefused (λ left. placeLeft (getD left 0 0)) _ (λ n. refl) (λ n. refl) (λ left. place-status (getD left 0 0))
           (λ left is. place-kept (getD left 0 0) ∙ all-entries 0 1 left is);
       each-status = each-status-kept;
-      marked = flags-kept;
+      each-tram = flags-kept;
       write = λ s. status-and-values writeStatus writeValues s [] WriteRefused Written (λ n. refl) (λ n. refl) refl refl .0;
       written = refl;
       by-rule-1 = refl;

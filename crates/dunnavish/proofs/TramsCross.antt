@@ -1,19 +1,18 @@
 -- The contracts of the searches among trams, for each way out: from the counts of what is lent, and from what the library's own contract
 -- says of its answer. The two that say yes or no of each tram have one law, whatever their test. Assumes nothing.
-use mathlib.Core.Path.{_≡_, refl, sym, ap, subst, _∙_}
+use mathlib.Core.Path.{_≡_, refl, sym, subst, _∙_}
 use mathlib.Core.Bool.{Bool, true, false, cond}
 use mathlib.Core.List.{List, []}
 use mathlib.Core.Logic.{⊎-elim}
 use Prim.Native.Nat.{ℕ, _≤_, _<_}
 use native.Mathlib.Omega.{arith}
 use lib.Dec.{eqb, ltb}
-use lib.ListN.{length, getD, replicate, List·getD-eq-default}
+use lib.ListN.{length, getD, List·getD-eq-default}
 use borrow.Author.Tests.{ne-eqb, le-ltb}
 use Rattle.bits.specs.Places.{listOf}
 use Rattle.bits.proofs.Numbers.{lt-or-le}
 use Rattle.bits.proofs.Places.{length-listOf, getD-listOf}
 use Rattle.bits.proofs.FilledLists.{is-list-of}
-use Rattle.model.specs.Refusals.{unlessRefused}
 use Rattle.model.specs.Card.{codeOf}
 use Rattle.model.specs.Trams.{mostTrams, widenedAt, tramsRefusal, answersBy, eachTramUnless, eachTramAnswer, yesValues}
 use Rattle.model.specs.NearestTram.{nearestRefusal, nearestAnswer, nearestExpected, nearestStatus, nearestValues, noTram}

@@ -36,7 +36,8 @@ pub record LosslessDecoding : Type 0 where
   pub nearest : Kept nearestStatus nearestValues nearestLeft numberCount
   -- of a search that says yes or no of each tram: every status, and where it is 0 every answer of at most 64 trams
   pub each-status : (s : ℕ) (left : List ℕ) → eachTramLeft s left .refusal ≡ s
-  pub marked : (left : List ℕ) → length left ≤ mostTrams → ((i : ℕ) → getD left i 0 < 2) → yesValues (length left) (eachTramLeft 0 left) ≡ left
+  pub each-tram : (left : List ℕ) → length left ≤ mostTrams → ((i : ℕ) → getD left i 0 < 2)
+      → yesValues (length left) (eachTramLeft 0 left) ≡ left
   pub write : (s : ℕ) → writeStatus (writeLeft s) ≡ s
   pub written : writeLeft 0 ≡ Written
   pub by-rule-1 : readLeft 0 (7 ∷ 3 ∷ 1 ∷ 2 ∷ notRead ∷ [])

@@ -41,7 +41,7 @@ fn trams_lent(lows: &[u32], highs: &[u32]) -> Trams
     trams
 }
 
-// The answers of trams into as many lent bytes: 1 for yes, 0 for no.
+// The answers for trams into as many lent bytes: 1 for yes, 0 for no.
 fn put_answers(answers: [bool; 64], yes: &mut [u8])
     requires { ⌜ length (now yes) ≤ mostTrams ⌝ }
     ensures { λ _. ⌜ now (yes .exit) ≡ listOf (length (now (yes .entry))) (λ i. cond (getD answers i false) 1 0) ⌝ }
@@ -70,7 +70,8 @@ pub extern "C" fn dunnavish_trams_crossing(
     ensures unchanged { λ r. ⌜ UnchangedUnlessZero (now (yes .entry)) r (now (yes .exit)) ⌝ }
     ensures promises { λ r. ⌜ (length (now (highs .entry)) ≡ length (now (lows .entry))
         → length (now (yes .entry)) ≡ length (now (lows .entry))
-        → CrossingPromises (now (card .entry)) (tramsLent (now (lows .entry)) (now (highs .entry))) mark (eachTramLeft r (now (yes .exit)))) ⌝ }
+        → CrossingPromises (now (card .entry)) (tramsLent (now (lows .entry)) (now (highs .entry))) mark
+        (eachTramLeft r (now (yes .exit)))) ⌝ }
 {
     if highs.len() != lows.len() {
         return WRONG_COUNT;

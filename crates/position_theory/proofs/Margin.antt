@@ -1,6 +1,5 @@
 -- 10t is a margin: five chunks with at most t damaged bits each have at most 5t in all, and by demand 3 an answer is off by at most twice
 -- as many. Assumes nothing.
-use mathlib.Core.Path.{_≡_}
 use mathlib.Core.List.{List}
 use Prim.Native.Nat.{ℕ, _*_, _≤_}
 use native.Mathlib.Omega.{arith}
@@ -9,10 +8,9 @@ use Rattle.model.specs.Card.{Code, codeOf, SoundCard, radius}
 use Rattle.model.specs.Order.{lastPosition}
 use Rattle.model.specs.ReadWord.{readAnswer}
 use Rattle.model.specs.Trams.{margin}
-use Rattle.model.specs.declared.ReadAnswer.the-variants.{At}
 use Rattle.position_theory.specs.Damage.{WithinRadius, ChunksWithin, damagedInAll, damaged, Near}
 use Rattle.position_theory.specs.ReadPromises.{OffByAtMostTwiceDamaged}
-use Rattle.position_theory.specs.Margin.{ReadFrom, ReadWithinMargin}
+use Rattle.position_theory.specs.Margin.{ReadWithinMargin}
 use Rattle.position_theory.proofs.BoundedError.{near-loosen}
 use Rattle.position_theory.proofs.ReadPromises.{off-by-at-most-twice-damaged}
 

@@ -2,15 +2,15 @@
 -- it; so in the end none is nearer, of those as near none has a smaller low end, and of those with the same none stands earlier. A
 -- stretch is no farther from a mark than any position that lies in it. Assumes nothing.
 use mathlib.Core.Path.{_≡_, refl, sym, _∙_}
-use mathlib.Core.Bool.{Bool, true, false, cond, _&&_, _||_}
+use mathlib.Core.Bool.{Bool, true, false, _&&_, _||_}
 use mathlib.Core.Logic.{_⊎_, inl, inr, ⊎-elim}
-use Prim.Native.Nat.{ℕ, zero, suc, _+_, _-_, _≤_, _<_, min}
+use Prim.Native.Nat.{ℕ, zero, suc, _-_, _≤_, _<_, min}
 use native.Mathlib.Nat.{eq-or-lt-of-le, le-of-suc-le-suc}
 use native.Mathlib.Omega.{arith}
 use lib.Dec.{ltb, eqb}
 use lib.ListN.{length}
 use borrow.Author.Tests.{ltb-true, ltb-false, eqb-true, eq-eqb}
-use Rattle.bits.proofs.Numbers.{true-or-false, not-true, lt-or-le, by-test, or-false-left, or-false-right, and-true-left, and-true-right}
+use Rattle.bits.proofs.Numbers.{not-true, lt-or-le, by-test, or-false-left, or-false-right, and-true-left, and-true-right}
 use Rattle.model.specs.TramsCrossing.{crosses}
 use Rattle.model.specs.NearestTram.{apart, distanceTo, goesBefore, nearestUpTo, nearestOf, nearestStatus, nearestValues}
 use Rattle.model.specs.declared.Stretch.{Stretch}

@@ -12,7 +12,6 @@ use borrow.Author.Tests.{ltb-true, lt-ltb}
 use Rattle.bits.specs.Places.{listOf}
 use Rattle.bits.proofs.Numbers.{lt-or-le, eq-or-ne}
 use Rattle.bits.proofs.Places.{length-listOf, getD-listOf}
-use Rattle.model.specs.Refusals.{unlessRefused}
 use Rattle.model.specs.Card.{Code, cardRefusal, codeOf, SoundCard}
 use Rattle.model.specs.Trams.{mostTrams, widenedAt, tramsRefusal, answersBy, eachTramUnless, eachTramOn, eachTramAnswer}
 use Rattle.model.specs.declared.Stretch.{Stretch}

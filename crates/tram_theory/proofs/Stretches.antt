@@ -7,12 +7,9 @@ use Prim.Native.Nat.{ℕ, _≤_, _<_}
 use native.Mathlib.Omega.{arith}
 use lib.Dec.{leb, ltb}
 use borrow.Author.Tests.{ltb-false, leb-true, le-leb}
-use Rattle.bits.specs.Searches.{anyBelow}
 use Rattle.bits.proofs.Numbers.{or-false-left, or-false-right, and-true-left, and-true-right}
 use Rattle.bits.proofs.Searches.{none-of-any}
 use Rattle.model.specs.Refusals.{firstRefusal}
-use Rattle.model.specs.Card.{codeOf}
-use Rattle.model.specs.Order.{lastPosition}
 use Rattle.model.specs.Trams.{stretchAt, margin, widened, misplacedPair, anyMisplaced, rowsOfTrams}
 use Rattle.model.specs.TramsCrossing.{crosses}
 use Rattle.model.specs.TramsWithin.{liesWithin}
@@ -21,7 +18,7 @@ use Rattle.model.specs.declared.Trams.{Trams}
 use Rattle.code_theory.proofs.RefusalRows.{NoneHolds, numbered, none-holds}
 use Rattle.position_theory.proofs.Margin.{read-within-margin}
 use Rattle.position_theory.specs.Margin.{ReadWithinMargin}
-use Rattle.tram_theory.specs.Stretches.{Holds, WithinMarks, OnTrack, StandsFrom, WidenedHoldsBoth}
+use Rattle.tram_theory.specs.Stretches.{Holds, WithinMarks, OnTrack, WidenedHoldsBoth}
 
 -- ---- refusals
 

@@ -7,7 +7,6 @@ use mathlib.Core.Logic.{⊎-elim}
 use Prim.Native.Nat.{ℕ, _≤_, _<_}
 use native.Mathlib.Omega.{arith}
 use Rattle.bits.proofs.Numbers.{lt-or-le, eq-or-ne}
-use Rattle.model.specs.Refusals.{unlessRefused}
 use Rattle.model.specs.Card.{cardRefusal, codeOf, SoundCard}
 use Rattle.model.specs.Order.{lastPosition}
 use Rattle.model.specs.Trams.{stretchAt, margin, widenedAt, rowsOfTrams, tramsRefusal, eachTramAnswer}
@@ -16,12 +15,11 @@ use Rattle.model.specs.TramsWithin.{liesWithin, withinAnswer}
 use Rattle.model.specs.NearestTram.{nearestOf, nearestOn, nearestAnswer, nearestStatus}
 use Rattle.model.specs.declared.Stretch.{Stretch}
 use Rattle.model.specs.declared.Trams.{Trams}
-use Rattle.model.specs.declared.NearestAnswer.{NearestAnswer}
 use Rattle.model.specs.declared.NearestAnswer.the-variants.{Tram, NoTram, Refused}
 use Rattle.code_theory.proofs.RefusalRows.{none-past-card, past-card, served-if-none, refused-if-some}
 use Rattle.tram_theory.specs.Stretches.{Holds, WithinMarks, Between, OnTrack, StandsFrom, WidenedHoldsBoth}
-use Rattle.tram_theory.specs.TramPromises.{AnsweredYes, YesExactlyIf, NoneMissed, TrulyWithin, CrossingPromises, WithinPromises}
-use Rattle.tram_theory.specs.TramPromises.{IsNearest, NearestOfAll, ZeroExactlyIfCrossing, NoneCloser, NearestPromises}
+use Rattle.tram_theory.specs.TramPromises.{YesExactlyIf, NoneMissed, TrulyWithin, CrossingPromises, WithinPromises}
+use Rattle.tram_theory.specs.TramPromises.{NearestOfAll, ZeroExactlyIfCrossing, NoneCloser, NearestPromises}
 use Rattle.tram_theory.proofs.Stretches.{on-track, widened-in-order, widened-holds-both}
 use Rattle.tram_theory.proofs.Stretches.{crosses-if, crosses-only-if, within-if, within-only-if}
 use Rattle.tram_theory.proofs.ServedTrams.{yes-if, yes-only-if, each-refusal, each-answers, each-status, served-if-told}

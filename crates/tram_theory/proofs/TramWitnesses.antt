@@ -26,7 +26,7 @@ use Rattle.model.specs.NearestTram.{distanceTo, nearestStatus}
 use Rattle.model.specs.declared.ChunkBits.the-variants.{Differing, NotRead}
 use Rattle.model.specs.declared.Reading.{Reading}
 use Rattle.model.specs.declared.ReadAnswer.the-variants.{At}
-use Rattle.model.specs.declared.Trams.{Trams}
+use Rattle.model.specs.declared.Stretch.{Stretch}
 use Rattle.model.specs.declared.NearestAnswer.the-variants.{Tram}
 use Rattle.code_theory.proofs.CodeWitnesses.{card-B-sound}
 use Rattle.position_theory.specs.Damage.{damagedIn, WithinRadius}
@@ -41,7 +41,8 @@ use Rattle.tram_theory.specs.TramWitnesses.{from-to, at15, from12, from1
 -- ---- positions of card B that are read from words within the radius
 
 read-as : (position : ℕ) (received : List ℕ) (reading : Reading) → position ≤ lastPosition (codeOf cardB)
-    → WithinRadius (codeOf cardB) position received → readWord (codeOf cardB) received ≡ At reading → ReadFrom cardB position (reading .position)
+    → WithinRadius (codeOf cardB) position received → readWord (codeOf cardB) received ≡ At reading
+    → ReadFrom cardB position (reading .position)
 read-as position received reading on-track near is =
     record {
       on-track = on-track;
@@ -96,14 +97,14 @@ stands-exchanged : StandsFrom cardB exchanged 15 14
 stands-exchanged = record { low-end = reads .15-as-13; high-end = reads .14-as-14 }
 
 -- of two trams the nearest is the one, where it is not the other
-module _ (card : List ℕ) (trams : Trams) (mark : ℕ) (two : trams .count ≡ 2) where
-  second-of-two : (IsNearest card trams mark 0 → ⊥) → (place : ℕ) → IsNearest card trams mark place → place ≡ 1
+module _ (mark : ℕ) (stretch : ℕ → Stretch) where
+  second-of-two : (IsNearest mark stretch 2 0 → ⊥) → (place : ℕ) → IsNearest mark stretch 2 place → place ≡ 1
   second-of-two other place is =
-      ⊎-elim (λ (e : place ≡ 0). absurd (other (rw e at is))) (λ e. e) (zero-or-one place (rw two at (is .in-list)))
+      ⊎-elim (λ (e : place ≡ 0). absurd (other (rw e at is))) (λ e. e) (zero-or-one place (is .in-list))
 
-  first-of-two : (IsNearest card trams mark 1 → ⊥) → (place : ℕ) → IsNearest card trams mark place → place ≡ 0
+  first-of-two : (IsNearest mark stretch 2 1 → ⊥) → (place : ℕ) → IsNearest mark stretch 2 place → place ≡ 0
   first-of-two other place is =
-      ⊎-elim (λ e. e) (λ (e : place ≡ 1). absurd (other (rw e at is))) (zero-or-one place (rw two at (is .in-list)))
+      ⊎-elim (λ e. e) (λ (e : place ≡ 1). absurd (other (rw e at is))) (zero-or-one place (is .in-list))
 
 pub trams-witnessed : TramsWitnessed
 unfolding sumBelow weight place listOf anyBelow
@@ -135,15 +136,15 @@ trams-witnessed =
       truly-below = λ answer promise yes-is. let (_, (_, above)) = promise 0 12 15 yes-is stands-from-12 in omega arith;
       truly-above = λ answer promise yes-is. let ((below, _), _) = promise 0 11 15 yes-is stands-from-11 in omega arith;
       nearer = λ place promise.
-          second-of-two _ _ _ refl (λ is. let far = is .none-nearer 1 (computed refl) in omega arith) place (promise .nearest place refl);
+          second-of-two _ _ (λ is. let far = is .none-nearer 1 (computed refl) in omega arith) place (promise .nearest place refl);
       tie-to-low-end = λ place promise.
-          second-of-two _ _ _ refl (λ is. let high = is .smaller-low 1 (computed refl) refl in omega arith) place
+          second-of-two _ _ (λ is. let high = is .smaller-low 1 (computed refl) refl in omega arith) place
           (promise .nearest place refl);
       tie-to-earlier = λ place promise.
-          first-of-two _ _ _ refl (λ is. let late = is .earlier 0 (computed refl) refl refl in omega arith) place
+          first-of-two _ _ (λ is. let late = is .earlier 0 (computed refl) refl refl in omega arith) place
           (promise .nearest place refl);
       widened-tie = λ place promise.
-          first-of-two _ _ _ refl (λ is. let late = is .earlier 0 (computed refl) refl refl in omega arith) place
+          first-of-two _ _ (λ is. let late = is .earlier 0 (computed refl) refl refl in omega arith) place
           (promise .nearest place refl);
       no-trams = λ answer status promise. promise .of-none status refl;
       some-tram = λ answer status promise.

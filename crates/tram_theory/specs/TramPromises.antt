@@ -50,22 +50,18 @@ pub record WithinPromises (card : List ℕ) (trams : Trams) (first second : ℕ)
 
 -- ---- the nearest tram
 
--- Of the widened stretches, none is nearer to the mark than the one at this place; none that is as near has a smaller low end; and none
--- that is as near with the same low end stands earlier in the list.
-pub record IsNearest (card : List ℕ) (trams : Trams) (mark place : ℕ) : Type 0 where
-  pub in-list : place < trams .count
-  pub none-nearer : (i : ℕ) → i < trams .count
-      → distanceTo mark (widenedAt (codeOf card) trams place) ≤ distanceTo mark (widenedAt (codeOf card) trams i)
-  pub smaller-low : (i : ℕ) → i < trams .count
-      → distanceTo mark (widenedAt (codeOf card) trams i) ≡ distanceTo mark (widenedAt (codeOf card) trams place)
-      → widenedAt (codeOf card) trams place .low ≤ widenedAt (codeOf card) trams i .low
-  pub earlier : (i : ℕ) → i < trams .count
-      → distanceTo mark (widenedAt (codeOf card) trams i) ≡ distanceTo mark (widenedAt (codeOf card) trams place)
-      → widenedAt (codeOf card) trams i .low ≡ widenedAt (codeOf card) trams place .low → place ≤ i
+-- Of so many stretches, none is nearer to the mark than the one at this place; none that is as near has a smaller low end; and none that
+-- is as near with the same low end stands earlier in the list.
+pub record IsNearest (mark : ℕ) (stretch : ℕ → Stretch) (count place : ℕ) : Type 0 where
+  pub in-list : place < count
+  pub none-nearer : (i : ℕ) → i < count → distanceTo mark (stretch place) ≤ distanceTo mark (stretch i)
+  pub smaller-low : (i : ℕ) → i < count → distanceTo mark (stretch i) ≡ distanceTo mark (stretch place) → stretch place .low ≤ stretch i .low
+  pub earlier : (i : ℕ) → i < count → distanceTo mark (stretch i) ≡ distanceTo mark (stretch place)
+      → stretch i .low ≡ stretch place .low → place ≤ i
 
--- where the search is served, such a place is answered if there are trams, and of no trams none
+-- where the search is served, the nearest in the widened list is answered if there are trams, and of no trams none
 pub record NearestOfAll (card : List ℕ) (trams : Trams) (mark : ℕ) (answer : NearestAnswer) : Type 0 where
-  pub nearest : (place : ℕ) → answer ≡ Tram place → IsNearest card trams mark place
+  pub nearest : (place : ℕ) → answer ≡ Tram place → IsNearest mark (widenedAt (codeOf card) trams) (trams .count) place
   pub some : nearestStatus answer ≡ 0 → 0 < trams .count → (place : ℕ) × (answer ≡ Tram place)
   pub none : answer ≡ NoTram → trams .count ≡ 0
   pub of-none : nearestStatus answer ≡ 0 → trams .count ≡ 0 → answer ≡ NoTram

@@ -15,7 +15,8 @@ use Rattle.model.specs.declared.NearestAnswer.{NearestAnswer}
 use Rattle.model.specs.declared.NearestAnswer.the-variants.{Tram, NoTram}
 use Rattle.position_theory.specs.Margin.{ReadFrom}
 use Rattle.tram_theory.specs.Stretches.{Holds, WithinMarks, StandsFrom, WidenedHoldsBoth}
-use Rattle.tram_theory.specs.TramPromises.{AnsweredYes, YesExactlyIf, NoneMissed, TrulyWithin, NearestOfAll, ZeroExactlyIfCrossing, NoneCloser}
+use Rattle.tram_theory.specs.TramPromises.{AnsweredYes, YesExactlyIf, NoneMissed, TrulyWithin}
+use Rattle.tram_theory.specs.TramPromises.{NearestOfAll, ZeroExactlyIfCrossing, NoneCloser}
 
 -- ---- trams. On card B, t is 1 and the last position 15, so a stretch is widened by 10; on card A, t is 0 and the last position 30
 

@@ -3,7 +3,6 @@ use mathlib.Core.Path.{_≡_, refl}
 use mathlib.Core.Bool.{Bool, true, false, _||_}
 use Prim.Native.Nat.{ℕ, _≤_, _<_}
 use borrow.Author.Tests.{lt-ltb, le-ltb}
-use Rattle.bits.specs.Searches.{anyBelow}
 use Rattle.bits.proofs.Searches.{any-some, any-none}
 use Rattle.model.specs.Refusals.{firstRefusal}
 use Rattle.model.specs.Trams.{mostTrams, stretchAt, misplacedPair, anyMisplaced, rowsOfTrams}

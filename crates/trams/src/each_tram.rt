@@ -22,7 +22,7 @@ pub enum Search {
     Within { first: u32, second: u32 },
 }
 
-// The answer of a widened stretch.
+// The answer for a widened stretch.
 fn answer_of(search: Search, s: Stretch) -> bool
     ensures { λ r. ⌜ r ≡ testOf search s ⌝ }
 {
@@ -32,7 +32,7 @@ fn answer_of(search: Search, s: Stretch) -> bool
     }
 }
 
-// The answers of all trams; past the count they are no.
+// The answers for all trams; past the count they are no.
 fn answers(search: Search, margin: u32, last: u32, trams: Trams) -> [bool; 64]
     requires { ⌜ OnTrack last trams × (last + margin < 4294967296) ⌝ }
     ensures { λ r. ⌜ r ≡ answersBy (testOf search) (λ i. widened margin last (stretchAt trams i)) (trams .count) ⌝ }
@@ -49,7 +49,7 @@ fn answers(search: Search, margin: u32, last: u32, trams: Trams) -> [bool; 64]
     yes
 }
 
-// A search, and the marks that 19 looks at.
+// Asks each tram, where neither 18 nor 19 refuses. The two marks are those that 19 looks at.
 fn ask_each(code: DecodedCode, trams: Trams, first: u32, second: u32, search: Search) -> TramsAnswer
     requires { ⌜ Sound (meaning code) ⌝ }
     ensures { λ r. ⌜ r ≡ eachTramOn (testOf search) (meaning code) trams first second ⌝ }

@@ -48,12 +48,19 @@ goes-before-requires c κs =
 loop-again : tie.Need-loop-again Inv-loop μ-loop
 loop-again c =
     let turn = c .before .before .before .before .before in
-    let tested = rw (c .before .before .widened-stretch2 .ensures, turn .loop .inv .2) at (c .before .goes-before .ensures) in
+    let wide = c .before .before .widened-stretch2 .ensures in
+    let tested = rw (wide, turn .loop .inv .2) at (c .before .goes-before .ensures) in
     ⊎-elim
     (λ w.
-    rw (w .1, w .2) (omega arith, omega arith, c .before .before .widened-stretch2 .ensures, nearer _ _ (turn .loop .i) (turn .loop .place) (turn .loop .inv .3) (sym tested ∙ w .0 .taken)))
+    rw (w .1, w .2)
+    (omega arith, omega arith, wide, nearer _ _ (turn .loop .i) (turn .loop .place) (turn .loop .inv .3) (sym tested ∙ w .0 .taken)))
     (λ w.
-    rw (w .1, w .2) (omega arith, omega arith, turn .loop .inv .2, no-nearer _ _ (turn .loop .i) (turn .loop .place) (turn .loop .inv .3) (sym tested ∙ w .0 .left)))
+    rw (w .1, w .2) (
+      omega arith,
+      omega arith,
+      turn .loop .inv .2,
+      no-nearer _ _ (turn .loop .i) (turn .loop .place) (turn .loop .inv .3) (sym tested ∙ w .0 .left),
+    ))
     (c .if2 .came)
 
 returns-2 : tie.Need-returns-2 Inv-loop μ-loop

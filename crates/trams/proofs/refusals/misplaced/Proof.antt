@@ -1,5 +1,4 @@
 -- `trams::refusals::misplaced` meets its contract: the second test decides where the first fails. Assumes nothing.
-use borrow.Author.Needs.{needs}
 use borrow.Author.Tests.{lt-ltb, le-ltb}
 use Rattle.model.specs.Trams.{misplacedPair}
 use Rattle.trams.proofs.refusals.misplaced.Statement.{statement}

@@ -1,5 +1,4 @@
 -- `trams::widening::margin_of` meets its contract: D is at most n, so at most 64, and the radius at most 31. Assumes nothing.
-use mathlib.Core.Path.{_≡_}
 use Prim.Native.Nat.{_≤_}
 use borrow.Author.Needs.{needs}
 use native.Mathlib.Omega.{arith}
