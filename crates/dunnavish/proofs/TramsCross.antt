@@ -1,6 +1,6 @@
 -- The contracts of the searches among trams, for each way out: from the counts of what is lent, and from what the library's own contract
 -- says of its answer. The two that say yes or no of each tram have one law, whatever their test. Assumes nothing.
-use mathlib.Core.Path.{_≡_, refl, sym, subst, _∙_}
+use mathlib.Core.Path.{_≡_, refl, sym, ap, subst, _∙_}
 use mathlib.Core.Bool.{Bool, true, false, cond}
 use mathlib.Core.List.{List, []}
 use mathlib.Core.Logic.{⊎-elim}
@@ -10,7 +10,7 @@ use lib.Dec.{eqb, ltb}
 use lib.ListN.{length, getD, List·getD-eq-default}
 use borrow.Author.Tests.{ne-eqb, le-ltb}
 use Rattle.bits.specs.Places.{listOf}
-use Rattle.bits.proofs.Numbers.{lt-or-le}
+use Rattle.bits.proofs.Numbers.{lt-or-le, eq-or-ne}
 use Rattle.bits.proofs.Places.{length-listOf, getD-listOf}
 use Rattle.bits.proofs.FilledLists.{is-list-of}
 use Rattle.model.specs.Card.{codeOf}
@@ -94,37 +94,42 @@ module _ (test : Stretch → Bool) (card lows highs lent : List ℕ) (first seco
 
     module _ (alike : length lent ≡ length lows) (answered : TramsAnswer)
         (ensured : (answered ≡ defined) × ((answered .refusal ≡ tramsRefusal card trams first second) × Promise answered)) where
-      inherits : (status : ℕ) (left : List ℕ) → status ≡ statusFor (length lows) lent (defined .refusal)
-          → left ≡ leftBy status (yesValues (length lows) defined) lent → eachTramLeft status left ≡ answered → EachContract status left
-      inherits status left is-status is-left decodes = (
-        is-status ∙ sym (status-lent (length lows) highs highs-alike _),
-        (is-left, (unchanged-by status _ lent left is-left, λ _ _. subst Promise (sym decodes) (ensured .1 .1))),
-      )
-
-      pub refused-search : (answered .refusal ≡ 0 → ⊥) → EachContract (answered .refusal) lent
-      unfolding eachTramAnswer eachTramUnless eachTramLeft
-      refused-search some =
-          let (is, (number, _)) = ensured in
-          let crosses = refusal-crosses (length lows) lent alike (answered .refusal) some (yesValues (length lows) defined) in
-          inherits (answered .refusal) lent (rw (← is) (crosses .0)) (crosses .1)
-          (refused-if-some (answered .refusal) _ _ some
-          ∙ (rw number (sym (refused-if-some (tramsRefusal card trams first second) _ _ (rw number at some))) ∙ sym is))
-
       pub few-lent : answered .refusal ≡ 0 → length lent ≤ mostTrams
       unfolding tramsLent
       few-lent none = let (_, placed) = served card trams first second (sym (ensured .1 .0) ∙ none) in rw alike (placed .few)
 
-      pub served-search : answered .refusal ≡ 0 → (left : List ℕ) → left ≡ bytesOf (answered .yes) (length lent) → EachContract 0 left
+      -- what a search leaves decodes to its answer: the refusal, or the answers
+      decodes-refused : (left : List ℕ) → (answered .refusal ≡ 0 → ⊥) → eachTramLeft (answered .refusal) left ≡ answered
+      unfolding eachTramAnswer eachTramUnless eachTramLeft
+      decodes-refused left some =
+          let (is, (number, _)) = ensured in
+          refused-if-some (answered .refusal) _ _ some
+          ∙ (rw number (sym (refused-if-some (tramsRefusal card trams first second) _ _ (rw number at some))) ∙ sym is)
+
+      decodes-served : answered .refusal ≡ 0 → eachTramLeft 0 (yesValues (length lows) answered) ≡ answered
       unfolding eachTramAnswer eachTramUnless eachTramLeft yesValues tramsLent
-      served-search none left put =
+      decodes-served none =
           let (is, (number, _)) = ensured in
           let stretch = widenedAt (codeOf card) trams in
           let serves : answered ≡ record { refusal = 0; yes = answersBy test stretch (length lows) } =
           is ∙ served-if-none (tramsRefusal card trams first second) _ _ (sym number ∙ none) in
-          let values : left ≡ yesValues (length lows) defined = put ∙ rw (alike, is) refl in
-          let crosses = values-cross (length lows) lent alike (yesValues (length lows) defined) in
-          inherits 0 left (rw (← is, none) (crosses .0)) (values ∙ crosses .1)
-          (served-if-none 0 _ _ refl ∙ (rw (put, alike, serves, ← (answers-decode test stretch (length lows))) refl ∙ sym serves))
+          served-if-none 0 _ _ refl ∙ (rw (serves, ← (answers-decode test stretch (length lows))) refl ∙ sym serves)
+
+      pub answered-search : (status : ℕ) (left : List ℕ) → status ≡ answered .refusal
+          → left ≡ leftBy status (yesValues (length lent) answered) lent → EachContract status left
+      unfolding leftBy
+      answered-search status left is-status is-left =
+          let (is, (_, promised)) = ensured in
+          let left-is : left ≡ leftBy status (yesValues (length lows) defined) lent = is-left ∙ rw (alike, is) refl in
+          let decodes : eachTramLeft status left ≡ answered =
+          ⊎-elim
+          (λ (none : status ≡ 0). rw (is-left, none, alike) (decodes-served (sym is-status ∙ none)))
+          (λ (some : status ≡ 0 → ⊥). rw is-status (decodes-refused left (rw is-status at some)))
+          (eq-or-ne status 0) in (
+            is-status ∙ ap (λ (a : TramsAnswer). a .refusal) is
+                ∙ sym (status-lent (length lows) lent alike _) ∙ sym (status-lent (length lows) highs highs-alike _),
+            (left-is, (unchanged-by status _ lent left left-is, λ _ _. subst Promise (sym decodes) promised)),
+          )
 
 -- ---- the nearest tram
 

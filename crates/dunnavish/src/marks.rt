@@ -1,9 +1,7 @@
 // The calls for C that search among the trams of a track: which cross a mark or lie within two, and which is nearest.
 ghost use mathlib.Core.Path.{_≡_};
-ghost use mathlib.Core.Bool.{false, cond};
 ghost use Prim.Native.Nat.{_≤_};
-ghost use lib.ListN.{length, getD};
-ghost use Rattle.bits.specs.Places.{listOf};
+ghost use lib.ListN.{length};
 ghost use Rattle.model.specs.Trams.{mostTrams, yesValues};
 ghost use Rattle.model.specs.TramsCrossing.{crossingAnswer};
 ghost use Rattle.model.specs.TramsWithin.{withinAnswer};
@@ -15,6 +13,7 @@ use super::WRONG_COUNT;
 use model::NearestAnswer;
 use model::Stretch;
 use model::Trams;
+use model::TramsAnswer;
 
 // The place that stands for no tram. Any other is at most 63.
 const NO_TRAM: u32 = 4294967295;
@@ -41,16 +40,23 @@ fn trams_lent(lows: &[u32], highs: &[u32]) -> Trams
     trams
 }
 
-// The answers for trams into as many lent bytes: 1 for yes, 0 for no.
-fn put_answers(answers: [bool; 64], yes: &mut [u8])
-    requires { ⌜ length (now yes) ≤ mostTrams ⌝ }
-    ensures { λ _. ⌜ now (yes .exit) ≡ listOf (length (now (yes .entry))) (λ i. cond (getD answers i false) 1 0) ⌝ }
+// What a search answers for each tram, into as many lent bytes as there are trams: 1 for yes, 0 for no. Answers the status; where that is
+// not 0, the bytes stay as they are.
+fn put_answer(answer: TramsAnswer, yes: &mut [u8]) -> u32
+    requires { ⌜ (answer .refusal ≡ 0 → length (now yes) ≤ mostTrams) ⌝ }
+    ensures status { λ r. ⌜ r ≡ answer .refusal ⌝ }
+    ensures left { λ r. ⌜ now (yes .exit) ≡ leftBy r (yesValues (length (now (yes .entry))) answer) (now (yes .entry)) ⌝ }
 {
+    if answer.refusal != 0 {
+        return answer.refusal;
+    }
+    let answers = answer.yes;
     let mut i: usize = 0;
     while i < yes.len() {
         yes[i] = if answers[i] { 1 } else { 0 };
         i += 1;
     }
+    0
 }
 
 // All trams crossing a mark, a byte for each tram.
@@ -79,13 +85,10 @@ pub extern "C" fn dunnavish_trams_crossing(
     if yes.len() != lows.len() {
         return WRONG_COUNT;
     }
-    let answer = depot::trams_crossing(card, trams_lent(lows, highs), mark);
-    if answer.refusal != 0 {
-        return answer.refusal;
-    }
-    let answers = answer.yes;
-    put_answers(answers, yes);
-    0
+    put_answer(
+        depot::trams_crossing(card, trams_lent(lows, highs), mark),
+        yes,
+    )
 }
 
 // All trams wholly within two marks, a byte for each tram.
@@ -115,13 +118,10 @@ pub extern "C" fn dunnavish_trams_within(
     if yes.len() != lows.len() {
         return WRONG_COUNT;
     }
-    let answer = depot::trams_within(card, trams_lent(lows, highs), first, second);
-    if answer.refusal != 0 {
-        return answer.refusal;
-    }
-    let answers = answer.yes;
-    put_answers(answers, yes);
-    0
+    put_answer(
+        depot::trams_within(card, trams_lent(lows, highs), first, second),
+        yes,
+    )
 }
 
 // The place of the tram nearest to a mark into one number, NO_TRAM of no trams.

@@ -3,7 +3,7 @@
 use borrow.Author.Needs.{needs}
 use Rattle.model.specs.TramsCrossing.{crosses}
 use Rattle.tram_theory.specs.TramPromises.{CrossingPromises}
-use Rattle.dunnavish.proofs.TramsCross.{highs-miscounted, lent-miscounted, refused-search, few-lent, served-search}
+use Rattle.dunnavish.proofs.TramsCross.{highs-miscounted, lent-miscounted, few-lent, answered-search}
 use Rattle.dunnavish.proofs.marks.dunnavish_trams_crossing.Statement.{statement}
 use Rattle.dunnavish.proofs.marks.dunnavish_trams_crossing.Tie as tie
 
@@ -19,35 +19,24 @@ returns-2 c =
     lent-miscounted (crosses (a .mark)) (a .card .now) (a .lows .now) (a .highs .now) (a .yes .now) (a .mark) (a .mark)
     (CrossingPromises _ _ (a .mark)) (c .before .if1 .left) (c .if2 .taken)
 
-returns-3 : tie.Need-returns-3
-returns-3 c =
-    let asked = c .before .before in
-    let counted = asked .before .before in
-    let a = counted .before .before .before .before .before .before .args in
-    refused-search (crosses (a .mark)) (a .card .now) (a .lows .now) (a .highs .now) (a .yes .now) (a .mark) (a .mark)
-    (CrossingPromises _ _ (a .mark)) (counted .before .if1 .left) (counted .if2 .left) _
-    (rw (asked .before .trams-lent .ensures) at (asked .trams-crossing .ensures)) (c .if3 .taken)
-
-put-answers-requires : tie.Need-put-answers-requires
-put-answers-requires c κs =
-    let passed = c .before .before in
-    let asked = passed .before .before in
+put-answer-requires : tie.Need-put-answer-requires
+put-answer-requires c κs =
+    let asked = c .before in
     let counted = asked .before .before in
     let a = counted .before .before .before .before .before .before .args in
     few-lent (crosses (a .mark)) (a .card .now) (a .lows .now) (a .highs .now) (a .yes .now) (a .mark) (a .mark)
     (CrossingPromises _ _ (a .mark)) (counted .before .if1 .left) (counted .if2 .left) _
-    (rw (asked .before .trams-lent .ensures) at (asked .trams-crossing .ensures)) (passed .if3 .left)
+    (rw (asked .before .trams-lent .ensures) at (asked .trams-crossing .ensures))
 
-returns-4 : tie.Need-returns-4
-returns-4 c =
+returns-3 : tie.Need-returns-3
+returns-3 c =
     let put = c .before .before in
-    let passed = put .before .before .before in
-    let asked = passed .before .before in
+    let asked = put .before .before in
     let counted = asked .before .before in
     let a = counted .before .before .before .before .before .before .args in
-    served-search (crosses (a .mark)) (a .card .now) (a .lows .now) (a .highs .now) (a .yes .now) (a .mark) (a .mark)
+    answered-search (crosses (a .mark)) (a .card .now) (a .lows .now) (a .highs .now) (a .yes .now) (a .mark) (a .mark)
     (CrossingPromises _ _ (a .mark)) (counted .before .if1 .left) (counted .if2 .left) _
-    (rw (asked .before .trams-lent .ensures) at (asked .trams-crossing .ensures)) (passed .if3 .left) _ (put .put-answers .ensures)
+    (rw (asked .before .trams-lent .ensures) at (asked .trams-crossing .ensures)) _ _ (put .put-answer .ensures .0) (put .put-answer .ensures .1)
 
 pub dunnavish-trams-crossing-spec : {M : Type 1} → statement M
 dunnavish-trams-crossing-spec =
@@ -57,7 +46,6 @@ dunnavish-trams-crossing-spec =
     returns-2
     (λ c κs. search needs)
     (λ c κs. search needs)
-    returns-3
-    put-answers-requires
+    put-answer-requires
     (λ c. search needs)
-    returns-4)
+    returns-3)

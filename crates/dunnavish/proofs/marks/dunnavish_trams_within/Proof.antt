@@ -3,7 +3,7 @@
 use borrow.Author.Needs.{needs}
 use Rattle.model.specs.TramsWithin.{liesWithin}
 use Rattle.tram_theory.specs.TramPromises.{WithinPromises}
-use Rattle.dunnavish.proofs.TramsCross.{highs-miscounted, lent-miscounted, refused-search, few-lent, served-search}
+use Rattle.dunnavish.proofs.TramsCross.{highs-miscounted, lent-miscounted, few-lent, answered-search}
 use Rattle.dunnavish.proofs.marks.dunnavish_trams_within.Statement.{statement}
 use Rattle.dunnavish.proofs.marks.dunnavish_trams_within.Tie as tie
 
@@ -19,35 +19,24 @@ returns-2 c =
     lent-miscounted (liesWithin (a .first) (a .second)) (a .card .now) (a .lows .now) (a .highs .now) (a .yes .now) (a .first) (a .second)
     (WithinPromises _ _ (a .first) (a .second)) (c .before .if1 .left) (c .if2 .taken)
 
-returns-3 : tie.Need-returns-3
-returns-3 c =
-    let asked = c .before .before in
-    let counted = asked .before .before in
-    let a = counted .before .before .before .before .before .before .args in
-    refused-search (liesWithin (a .first) (a .second)) (a .card .now) (a .lows .now) (a .highs .now) (a .yes .now) (a .first) (a .second)
-    (WithinPromises _ _ (a .first) (a .second)) (counted .before .if1 .left) (counted .if2 .left) _
-    (rw (asked .before .trams-lent .ensures) at (asked .trams-within .ensures)) (c .if3 .taken)
-
-put-answers-requires : tie.Need-put-answers-requires
-put-answers-requires c κs =
-    let passed = c .before .before in
-    let asked = passed .before .before in
+put-answer-requires : tie.Need-put-answer-requires
+put-answer-requires c κs =
+    let asked = c .before in
     let counted = asked .before .before in
     let a = counted .before .before .before .before .before .before .args in
     few-lent (liesWithin (a .first) (a .second)) (a .card .now) (a .lows .now) (a .highs .now) (a .yes .now) (a .first) (a .second)
     (WithinPromises _ _ (a .first) (a .second)) (counted .before .if1 .left) (counted .if2 .left) _
-    (rw (asked .before .trams-lent .ensures) at (asked .trams-within .ensures)) (passed .if3 .left)
+    (rw (asked .before .trams-lent .ensures) at (asked .trams-within .ensures))
 
-returns-4 : tie.Need-returns-4
-returns-4 c =
+returns-3 : tie.Need-returns-3
+returns-3 c =
     let put = c .before .before in
-    let passed = put .before .before .before in
-    let asked = passed .before .before in
+    let asked = put .before .before in
     let counted = asked .before .before in
     let a = counted .before .before .before .before .before .before .args in
-    served-search (liesWithin (a .first) (a .second)) (a .card .now) (a .lows .now) (a .highs .now) (a .yes .now) (a .first) (a .second)
+    answered-search (liesWithin (a .first) (a .second)) (a .card .now) (a .lows .now) (a .highs .now) (a .yes .now) (a .first) (a .second)
     (WithinPromises _ _ (a .first) (a .second)) (counted .before .if1 .left) (counted .if2 .left) _
-    (rw (asked .before .trams-lent .ensures) at (asked .trams-within .ensures)) (passed .if3 .left) _ (put .put-answers .ensures)
+    (rw (asked .before .trams-lent .ensures) at (asked .trams-within .ensures)) _ _ (put .put-answer .ensures .0) (put .put-answer .ensures .1)
 
 pub dunnavish-trams-within-spec : {M : Type 1} → statement M
 dunnavish-trams-within-spec =
@@ -57,7 +46,6 @@ dunnavish-trams-within-spec =
     returns-2
     (λ c κs. search needs)
     (λ c κs. search needs)
-    returns-3
-    put-answers-requires
+    put-answer-requires
     (λ c. search needs)
-    returns-4)
+    returns-3)
