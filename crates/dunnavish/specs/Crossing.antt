@@ -42,11 +42,12 @@ tramsLent lows highs =
       stretches = listOf mostTrams (λ i. record { low = getD lows i 0; high = getD highs i 0 });
     }
 
--- The status of a call whose lent numbers, or bytes, are not exactly as many as its answer has values. It is above every refusal.
+-- The status of a call whose lent numbers, or bytes, are not exactly as many as its answer has values, or whose lows and highs are not
+-- equally many. It is above every refusal.
 abbrev pub wrongCount : ℕ
 wrongCount = 100
 
--- the status of a call that answers `count` values: that of its answer, or `wrongCount`
+-- the status of a call that answers `count` values, or takes a list of `count` highs: that of its answer, or `wrongCount`
 unfoldable pub statusFor : {A : Type 0} (count : ℕ) (lent : List A) (answered : ℕ) → ℕ
 statusFor count lent answered = cond (eqb (length lent) count) answered wrongCount
 
