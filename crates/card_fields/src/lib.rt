@@ -1,4 +1,6 @@
 // The bytes of a card: its fields, its check, what it leaves zero, and its offset.
+#![tactic(auto)]
+
 pub mod checksum;
 pub mod fields;
 pub mod offset;

@@ -1,5 +1,7 @@
 // A request for a card, as radio staff type it: the track number, the order r and the number of variables m, three texts in decimal.
 // It is answered with the card, or with the number of the first thing that is wrong with it; specs/Request.antt says which.
+#![tactic(auto)]
+
 ghost use Rattle.std.specs.Prelude.{◌≡◌};
 ghost use Rattle.model.specs.Refusals.{if_served};
 ghost use Rattle.reed_muller_theory.specs.MadeCards.{IsReedMullerCard};

@@ -1,4 +1,6 @@
 // The 512 bytes of a card, written from its fields.
+#![tactic(auto)]
+
 ghost use Rattle.std.specs.Prelude.{◌≡◌, ◌+◌, ◌≤◌, ◌<◌, length, get_or};
 ghost use Rattle.model.specs.CardBytes.{card_of};
 ghost use Rattle.card_writer.specs.WithNumber.{with_number};

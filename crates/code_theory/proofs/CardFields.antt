@@ -37,6 +37,11 @@ pub last_byte : (m x : ℕ) (after : List ℕ) → bytes_of (suc m) x ++ after �
 unfolding bytes_of
 last_byte m x after = append_assoc (bytes_of m (x / 256)) (x % 256 ∷ []) after
 
+-- a number with one byte more
+high_first_suc : (b : List ℕ) (i m : ℕ) → high_first b i (suc m) ≡ high_first b i m * 256 + byte b (i + m)
+unfolding high_first
+high_first_suc b i m = refl
+
 -- it reads as that number where it stands
 read_back : (before : List ℕ) (m x : ℕ) (after : List ℕ) (at : ℕ) → length before ≡ at → x < 256 ^ m
     → high_first (before ++ (bytes_of m x ++ after)) at m ≡ x
@@ -48,7 +53,8 @@ read_back before (suc m) x after at here h =
     let there : length (before ++ high) ≡ at + m = rw (length-append, length_bytes m (x / 256), here) in
     let last : byte (before ++ (high ++ (x % 256 ∷ after))) (at + m) ≡ x % 256 =
     rw (← append_assoc before high (x % 256 ∷ after)) (get_or_at (before ++ high) (x % 256) after 0 (at + m) there) in
-    rw (last_byte m x after, read_back before m (x / 256) (x % 256 ∷ after) at here fits, last) (omega arith)
+    high_first_suc (before ++ (bytes_of (suc m) x ++ after)) at m
+    ∙ rw (last_byte m x after, read_back before m (x / 256) (x % 256 ∷ after) at here fits, last) (omega arith)
 
 -- ---- rows
 

@@ -6,6 +6,8 @@
 // an answer of the library's (specs/Decoding.antt), from which both can be computed again (specs/LosslessDecoding.antt). The clause
 // `promises` says of that answer what the library's own call promises; of a made card `made` does, and a block's start is promised to be
 // the answer and no more. include/dunnavish.h says how they are called from C.
+#![tactic(auto)]
+
 mod cards;
 mod codes;
 mod level_words;

@@ -1,5 +1,7 @@
 // Reading a word of levels, document 02, P5: the second way to see a word. Its levels are folded once; then its separators are read by the
 // sums of their levels, and its code chunks and the nearest position by the rules of crate reader, over the bits that aren't erased.
+#![tactic(auto)]
+
 ghost use Rattle.std.specs.Prelude.{◌≡◌};
 ghost use Rattle.model.specs.ReadLevels.{read_levels};
 ghost use Rattle.model.specs.Decoded.{meaning};

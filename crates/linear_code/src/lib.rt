@@ -1,3 +1,5 @@
 // The chunk code: codewords, and the reading of a code chunk.
+#![tactic(auto)]
+
 pub mod codeword;
 pub mod search;

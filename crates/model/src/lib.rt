@@ -2,6 +2,7 @@
 // values their meaning. A refused call answers the refusal's number in documents 01 and 02 and nothing else. The exceptions are a card
 // that is not made, with 512 zero bytes beside the number; a search that says yes or no of each tram, with no for all; and a call on the
 // yard, with the yard as it was.
+#![tactic(auto)]
 
 // What a code chunk reads as: the number p of the codeword c(p) within the radius, and in how many places the two differ. Of a chunk with
 // erased bits, the codeword for which 2 × wrong + erased is below D, and how many places are wrong.

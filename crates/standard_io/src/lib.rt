@@ -1,6 +1,8 @@
 // Standard input and standard output of a program. A call of the system's that was interrupted is made again; any other failure gets
 // one line on standard error, the `message` that the caller gives and the system's reason, and the caller learns of it. What a call
 // reads or writes is the system's: no contract speaks of it.
+#![tactic(auto)]
+
 ghost use Rattle.std.specs.Prelude.{◌≡◌, ◌+◌, ◌≤◌, ◌<◌, length, take};
 
 use libc::{EINTR, STDIN_FILENO, STDOUT_FILENO};

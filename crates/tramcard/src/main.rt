@@ -2,6 +2,8 @@
 // decimal; standard output gets the card's 512 bytes. Where no card is made, standard error gets a line that says why, and standard
 // output nothing. The answer to the arguments is `request_answer`, a definition of crate card_request.
 // The stored args are track 14, r 1 and m 4, and stdout is that card: n is 16, k is 5 and D is 8.
+#![tactic(auto)]
+
 ghost use Rattle.std.specs.Prelude.{◌≡◌, length};
 ghost use Rattle.card_request.specs.Request.{request_answer};
 ghost use Rattle.card_request.specs.declared.Outcome.TheVariants.{Made};

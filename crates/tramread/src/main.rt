@@ -2,6 +2,8 @@
 // All that is printed is `report_of` of all that is read, a definition of crate report; the loop over the words is crate word_loop's.
 // The stored stdin is document 01's card B with the words of its example, and stdout is the document's text, with document 02's bits of
 // the chunks at the end of each line of a word that is read.
+#![tactic(auto)]
+
 ghost use Rattle.std.specs.Prelude.{◌≡◌, false, ◌++◌, ◌≤◌, length, take};
 ghost use Rattle.model.specs.Card.{SoundCard};
 ghost use Rattle.report.specs.Report.{report_of};

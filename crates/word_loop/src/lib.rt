@@ -2,6 +2,8 @@
 // the system's reads or writes, so what is proved is said of the bytes in the buffers: each turn adds to the report what the bytes
 // that came in call for, whatever came before (stream's turn.rt), and the last part, which is made only where a read found the end of
 // the input, completes it.
+#![tactic(auto)]
+
 ghost use Rattle.std.specs.Prelude.{◌≡◌, ◌+◌, ◌≤◌, ◌<◌, length, take};
 ghost use Rattle.model.specs.Decoded.{meaning};
 ghost use Rattle.code_theory.specs.Promise.{Sound};
