@@ -3,13 +3,8 @@
 use mathlib.Core.Path.{◌∙◌}
 use native.Mathlib.Nat.{one-mul}
 use native.Mathlib.Omega.{arith}
-use borrow.Author.Rules.{rules}
 use lib.Pow.{shl_exact}
-use Rattle.bit_arithmetic.proofs.powers.two_to.Statement.{statement}
-use Rattle.bit_arithmetic.proofs.powers.two_to.Tie as tie
+use Rattle.bit_arithmetic.proofs.powers.two_to.Goals as goal
 
-returns : tie.Need-returns
+pub returns : goal.returns
 returns c = shl_exact {a = 1} 1 c.args.k 32 (omega arith) (omega arith) ∙ one-mul _
-
-pub two_to_spec : {M : Type 1} → statement M
-two_to_spec = tie.close (tie.spec (λ c. search rules) returns)
