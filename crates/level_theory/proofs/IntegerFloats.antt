@@ -10,7 +10,7 @@ use native.Mathlib.Omega.{arith}
 use borrow.Author.Tests.{ltb-true, ltb-false, leb-true, leb-false, lt-ltb, le-ltb}
 use lib.Dec.{T, leb, ltb, leb→le, ltb→lt, le→leb, lt→ltb}
 use lib.IntN.{ℤ, pos, negsuc, sub_ℕ, ◌+ℤ◌}
-use lib.Ieee.{Float, fin, Format, prec, up, down, minus, round, sum, add, lt, of_int, in_float}
+use lib.Ieee.{Float, nan, inf, fin, Format, prec, up, down, minus, round, sum, add, lt, of_int, in_float}
 use lib.Ieee.Fits.{down_pos}
 use lib.Ieee.Exact.{HasValue}
 use lib.Ieee.Back.{round_whole}
@@ -85,11 +85,15 @@ unfolding lt
 integer_below_zero f (pos n) h = not_below (of_int f (pos n)) (integer_value f (pos n) h)
   where
     not_below : (x : Float) → HasValue x false n 1 → lt x zero_level ≡ false
+    not_below nan value = elim value [ ]
+    not_below (inf _) value = elim value [ ]
     not_below (fin true m e) (sign, value) = absurd (true≢false sign)
     not_below (fin false m e) (sign, value) = le-ltb (m * up e * 1) (0 * down e) (omega arith)
 integer_below_zero f (negsuc n) h = below (of_int f (negsuc n)) (integer_value f (negsuc n) h)
   where
     below : (x : Float) → HasValue x true (suc n) 1 → lt x zero_level ≡ true
+    below nan value = elim value [ ]
+    below (inf _) value = elim value [ ]
     below (fin false m e) (sign, value) = absurd (false≢true sign)
     below (fin true m e) (sign, value) = lt-ltb 0 (m * up e * 1 + 0 * down e) (omega (arith, down_pos e))
 
@@ -130,6 +134,10 @@ over_both k a c d h = let e : k ≡ a * c = omega arith in rw e (omega arith)
 -- floats with whole values add up as those whole numbers
 add_wholes : (f : Format) (x y : Float) (s : Bool) (a : ℕ) (t : Bool) (b : ℕ) → HasValue x s a 1 → HasValue y t b 1
     → add f x y ≡ sum f s a t b 1
+add_wholes f nan y s a t b value value' = elim value [ ]
+add_wholes f (inf _) y s a t b value value' = elim value [ ]
+add_wholes f (fin s m e) nan s' a t' b value value' = elim value' [ ]
+add_wholes f (fin s m e) (inf _) s' a t' b value value' = elim value' [ ]
 add_wholes f (fin s m e) (fin t n d) s' a t' b (sign, value) (sign', value') =
     rw (add_opened f s m e t n d, sign, sign', over_both (m * up e) a (down e) (down d) value)
     (rw (over_both (n * up d) b (down d) (down e) value', mul_comm (down d) (down e))

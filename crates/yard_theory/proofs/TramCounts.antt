@@ -1,6 +1,6 @@
 -- How often a tram is in a list: a tram is not among these exactly if it is so 0 times, and none is twice exactly if each is so at most once.
 -- Counts add up and change by one a call, where order would not stay. Assumes nothing.
-use mathlib.Core.Path.{◌≡◌, refl, sym, ap, ◌∙◌}
+use mathlib.Core.Path.{◌≡◌, refl, sym, ap, subst, ◌∙◌}
 use mathlib.Core.Bool.{Bool, true, false, cond, ◌||◌, false≢true}
 use mathlib.Core.List.{List, [], ◌∷◌, ◌++◌}
 use mathlib.Core.Logic.{⊎_elim}
@@ -57,8 +57,8 @@ once (y ∷ ys) none x =
     let rest = once ys (or_false_right (among y ys) (any_twice ys) none) x in
     ⊎_elim
     (λ (here : y ≡ x).
-    let no_more = among_times y ys (or_false_left (among y ys) (any_twice ys) none) in
-    rw (eq-eqb y x here, ← here) (omega (arith, no_more)))
+    let no_more = subst (λ z. times z ys ≡ 0) here (among_times y ys (or_false_left (among y ys) (any_twice ys) none)) in
+    rw (eq-eqb y x here) (omega (arith, no_more)))
     (λ (other : y ≡ x → ⊥). rw (ne_eqb y x other) (omega (arith, rest)))
     (eq_or_ne y x)
 
