@@ -6,7 +6,6 @@ use Rattle.model.specs.ReadWord.{reading_of, read_word, read_answer, read_refusa
 use Rattle.model.specs.Trams.{margin}
 use Rattle.model.specs.Yard.{slot_at, queue, unsound, freed, handed_to}
 use Rattle.model.specs.declared.Yard.{Yard}
-use Rattle.model.specs.declared.Reading.{Reading}
 use Rattle.model.specs.declared.ReadAnswer.{ReadAnswer}
 use Rattle.model.specs.declared.ReadAnswer.TheVariants.{At, Refused as ReadRefused}
 use Rattle.model.specs.declared.Released.{Released}

@@ -4,15 +4,15 @@ use mathlib.Core.Path.{◌≡◌, refl, sym, ap, ◌∙◌}
 use mathlib.Core.Bool.{Bool, true, false, cond, false≢true}
 use mathlib.Core.List.{List, [], ◌∷◌, ◌++◌, append-nil}
 use mathlib.Core.Logic.{⊎_elim}
-use Prim.Native.Nat.{ℕ, suc, ◌+◌, ◌-◌, ◌≤◌, ◌<◌}
+use Prim.Native.Nat.{ℕ, ◌+◌, ◌≤◌, ◌<◌}
 use native.Mathlib.Numerals.{add-one}
 use native.Mathlib.Omega.{arith}
 use borrow.Author.Tests.{eq-eqb, ne_eqb}
-use lib.ListN.{length, get_or, take, set, length-set}
+use lib.ListN.{length, get_or, set, length-set}
 use lib.Seq.{get_or-set_same, get_or-set_other, take-suc-set}
 use Rattle.bits.proofs.Numbers.{eq_or_ne}
 use Rattle.model.specs.Yard.{track_count, most_waiting, free_slot, slot_at, is_held, entries, queue_in, queue, holders, trams_of}
-use Rattle.model.specs.Yard.{holding, joined, freed, without_first, handed_to}
+use Rattle.model.specs.Yard.{holding, joined, freed, handed_to}
 use Rattle.model.specs.declared.Slot.{Slot}
 use Rattle.model.specs.declared.Waiting.{Waiting}
 use Rattle.model.specs.declared.Yard.{Yard}
@@ -21,7 +21,7 @@ use Rattle.yard_theory.specs.YardPromises.{OtherLinesStay}
 use Rattle.yard_theory.proofs.TramCounts.{is_tram, times, times_append, in_slot, times_set}
 use Rattle.yard_theory.proofs.Queues.{trams_in, queue_append, queue_of_one, queue_of_other, trams_append}
 use Rattle.yard_theory.proofs.Queues.{removed, length_without, removed_entries, removed_queue, removed_other, removed_times}
-use Rattle.yard_theory.proofs.OrderlyYards.{Sized, Orderly}
+use Rattle.yard_theory.proofs.OrderlyYards.{Orderly}
 
 -- ---- lines and counts
 

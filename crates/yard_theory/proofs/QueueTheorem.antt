@@ -2,30 +2,29 @@
 -- end. So a tram in the line has one fewer ahead of it after each accepted release of the track, and as many as before after any other
 -- call; the line's first is the holder, the others are the queue. Assumes nothing.
 use mathlib.Core.Path.{◌≡◌, refl, sym, ap, ◌∙◌}
-use mathlib.Core.Bool.{Bool, true, false, cond, false≢true}
+use mathlib.Core.Bool.{Bool, true, false, false≢true}
 use mathlib.Core.List.{List, [], ◌∷◌, ◌++◌, append-nil}
 use mathlib.Core.Logic.{⊎_elim}
-use Prim.Native.Nat.{ℕ, zero, suc, ◌+◌, ◌≤◌}
+use Prim.Native.Nat.{ℕ, suc, ◌+◌}
 use native.Mathlib.Omega.{arith}
-use borrow.Author.Tests.{eqb-true, eqb-false, eq-eqb, ne_eqb}
+use borrow.Author.Tests.{eqb-true, eq-eqb}
 use lib.Dec.{eqb}
-use lib.ListN.{length, get_or, replicate, length-append, length-replicate}
+use lib.ListN.{length, get_or, length-append}
 use Rattle.bits.proofs.Numbers.{eq_or_ne, true_or_false, and_true_left, and_true_right}
 use Rattle.model.specs.Card.{track_of}
-use Rattle.model.specs.Yard.{track_count, most_waiting, free_slot, no_entry, empty_yard, slot_at, is_held, entries, queue_in, queue}
-use Rattle.model.specs.Yard.{holders, trams_of, unsound}
+use Rattle.model.specs.Yard.{empty_yard, slot_at, is_held, entries, queue_in, queue}
+use Rattle.model.specs.Yard.{holders, trams_of}
 use Rattle.model.specs.RequestTrack.{request_answer, request_status}
 use Rattle.model.specs.ReleaseTrack.{release_answer, accepted}
-use Rattle.model.specs.declared.Slot.{Slot}
 use Rattle.model.specs.declared.Yard.{Yard}
 use Rattle.yard_theory.specs.Lines.{HasAhead, WaitsBehind, HoldsTrack, HoldsNone, line}
 use Rattle.yard_theory.specs.YardPromises.{OtherLinesStay}
 use Rattle.yard_theory.specs.Runs.{Call, request, release, yard_after, run, releases, accepted_releases, NeverUnsound, ServedInTurn}
-use Rattle.yard_theory.proofs.TramCounts.{times, times_append, is_tram, itself, holds_once}
-use Rattle.yard_theory.proofs.Queues.{trams_in, queue_times, still_ahead, one_less_ahead}
-use Rattle.yard_theory.proofs.OrderlyYards.{Sized, Orderly, sound_orderly, orderly_sound}
+use Rattle.yard_theory.proofs.TramCounts.{times, times_append, itself, holds_once}
+use Rattle.yard_theory.proofs.Queues.{queue_times, still_ahead, one_less_ahead}
+use Rattle.yard_theory.proofs.OrderlyYards.{Orderly, sound_orderly, orderly_sound}
 use Rattle.yard_theory.proofs.SizedYards.{sized_after}
-use Rattle.yard_theory.proofs.Changes.{line_held, line_free, in_all}
+use Rattle.yard_theory.proofs.Changes.{line_free, in_all}
 use Rattle.yard_theory.proofs.RequestPromises.{request_promises}
 use Rattle.yard_theory.proofs.ReleasePromises.{release_promises}
 

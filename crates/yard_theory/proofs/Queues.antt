@@ -1,7 +1,7 @@
 -- The queues among entries: what an entry at the end adds to them, and what is left of them without the first entry for a track. Places in a
 -- list: how many are ahead, when the list grows at its end and when its head leaves. Assumes nothing.
 use mathlib.Core.Path.{◌≡◌, refl, sym, ap, ◌∙◌}
-use mathlib.Core.Bool.{Bool, true, false, cond}
+use mathlib.Core.Bool.{true, false, cond}
 use mathlib.Core.List.{List, [], ◌∷◌, ◌++◌, map, append_assoc}
 use mathlib.Core.Logic.{⊎_elim}
 use Prim.Native.Nat.{ℕ, zero, suc, ◌+◌, ◌-◌, ◌≤◌}
@@ -15,7 +15,7 @@ use Rattle.bits.proofs.Numbers.{eq_or_ne, true_or_false}
 use Rattle.model.specs.Yard.{no_entry, queue_in, without_first}
 use Rattle.model.specs.declared.Waiting.{Waiting}
 use Rattle.yard_theory.specs.Lines.{HasAhead}
-use Rattle.yard_theory.proofs.TramCounts.{is_tram, times, times_append}
+use Rattle.yard_theory.proofs.TramCounts.{is_tram, times}
 
 -- the trams of entries
 abbrev pub trams_in : List Waiting → List ℕ

@@ -1,7 +1,6 @@
 -- Each row by its promise: the premise is computed of the yard, the card and the damaged word, and what the promise then says is the row.
 -- Assumes nothing.
 use mathlib.Core.Path.{◌≡◌, refl, sym, ap, ◌∙◌}
-use mathlib.Core.Bool.{true, false}
 use mathlib.Core.List.{List, [], ◌∷◌}
 use Prim.Native.Nat.{ℕ}
 use native.Mathlib.Omega.{arith}
@@ -21,9 +20,6 @@ use Rattle.model.specs.CardsToTry.{card_b}
 use Rattle.model.specs.Yard.{empty_yard, queue_in, holders, trams_of, among, any_twice, any_for_free, unsound, holding, joined}
 use Rattle.model.specs.RequestTrack.{rows_of_request, request_refusal, request_served, request_answer, request_status}
 use Rattle.model.specs.ReleaseTrack.{is_holder, rows_of_release, refusal_ahead_of_word, accepted}
-use Rattle.model.specs.declared.RequestAnswer.TheVariants.{Holds, Waits}
-use Rattle.model.specs.declared.ReleaseAnswer.TheVariants.{NotClear, Freed, HandedTo}
-use Rattle.code_theory.proofs.CodeWitnesses.{card_b_sound}
 use Rattle.position_theory.specs.Damage.{damaged_in}
 use Rattle.position_theory.specs.PositionWitnesses.{last_damaged}
 use Rattle.position_theory.proofs.PositionWitnesses.{computed, within}

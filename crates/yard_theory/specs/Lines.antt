@@ -1,7 +1,6 @@
 -- Who holds a track, and who waits for it with how many trams ahead. Assumes nothing.
 use Rattle.std.specs.Prelude.{◌≡◌, true, cond, List, ◌∷◌, ◌++◌, ℕ, length}
 use Rattle.model.specs.Yard.{slot_at, is_held, queue}
-use Rattle.model.specs.declared.Slot.{Slot}
 use Rattle.model.specs.declared.Yard.{Yard}
 
 -- the tram is in the list, with so many ahead of it

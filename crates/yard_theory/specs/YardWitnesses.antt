@@ -1,7 +1,7 @@
 -- The promises of the calls on the yard, and the queue's theorem, held from below. Each row takes one promise of a yard, and whatever is
 -- answered, and says what the promise alone then gives, at the border of its premise or of its bound. So a premise that nobody can meet, or
 -- a bound looser than the documents', no longer gives its row. Assumes nothing.
-use Rattle.std.specs.Prelude.{◌≡◌, true, false, List, [], ◌∷◌, ◌++◌, ℕ, set, replicate}
+use Rattle.std.specs.Prelude.{◌≡◌, true, false, List, [], ◌∷◌, ℕ, set, replicate}
 use Rattle.model.specs.CardsToTry.{card_with, card_b}
 use Rattle.model.specs.Yard.{track_count, free_slot, no_entry, empty_yard, is_held, unsound}
 use Rattle.model.specs.RequestTrack.{request_status}
