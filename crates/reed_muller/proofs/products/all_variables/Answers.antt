@@ -4,12 +4,8 @@ use Rattle.bits.specs.Sums.{sum_below}
 use Rattle.bits.specs.Places.{list_of}
 use Rattle.model.specs.ReedMuller.{product, product_row}
 use Rattle.reed_muller.specs.Table.{variable_rows}
-use Rattle.reed_muller.proofs.products.all_variables.Statement.{statement}
-use Rattle.reed_muller.proofs.products.all_variables.Tie as tie
+use Rattle.reed_muller.proofs.products.all_variables.Goals as goal
 
-returns : tie.Need-returns
+pub returns : goal.returns
 unfolding sum_below list_of product product_row variable_rows
 returns c = refl
-
-pub all_variables_spec : {M : Type 1} → statement M
-all_variables_spec = tie.close (tie.spec returns)

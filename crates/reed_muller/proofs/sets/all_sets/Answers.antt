@@ -4,12 +4,8 @@ use Rattle.bits.specs.Sums.{sum_below}
 use Rattle.bits.specs.Places.{weight}
 use Rattle.bits.specs.Counting.{those}
 use Rattle.model.specs.ReedMuller.{sets_of, sets_up_to}
-use Rattle.reed_muller.proofs.sets.all_sets.Statement.{statement}
-use Rattle.reed_muller.proofs.sets.all_sets.Tie as tie
+use Rattle.reed_muller.proofs.sets.all_sets.Goals as goal
 
-returns : tie.Need-returns
+pub returns : goal.returns
 unfolding sum_below weight those sets_of sets_up_to
 returns c = refl
-
-pub all_sets_spec : {M : Type 1} → statement M
-all_sets_spec = tie.close (tie.spec returns)
