@@ -3,13 +3,8 @@
 use mathlib.Core.Path.{◌∙◌}
 use native.Mathlib.Nat.{one-mul}
 use native.Mathlib.Omega.{arith}
-use borrow.Author.Rules.{rules}
 use lib.Pow.{shl_exact}
-use Rattle.levels.proofs.level_chunk.worth_of.Statement.{statement}
-use Rattle.levels.proofs.level_chunk.worth_of.Tie as tie
+use Rattle.levels.proofs.level_chunk.worth_of.Goals as goal
 
-returns : tie.Need-returns
+pub returns : goal.returns
 returns c = shl_exact {a = 1} 1 c.args.q 64 (omega arith) (omega arith) ∙ one-mul _
-
-pub worth_of_spec : {M : Type 1} → statement M
-worth_of_spec = tie.close (tie.spec (λ c. search rules) returns)
