@@ -2,11 +2,7 @@
 -- the weight. Assumes nothing.
 use mathlib.Core.Path.{sym}
 use Rattle.bits.proofs.Binary.{weight_ones}
-use Rattle.linear_code.proofs.codeword.row_weight.Statement.{statement}
-use Rattle.linear_code.proofs.codeword.row_weight.Tie as tie
+use Rattle.linear_code.proofs.codeword.row_weight.Goals as goal
 
-returns : tie.Need-returns
+pub returns : goal.returns
 returns c = λ n h. sym (weight_ones n c.args.row h)
-
-pub row_weight_spec : {M : Type 1} → statement M
-row_weight_spec = tie.close (tie.spec returns)
