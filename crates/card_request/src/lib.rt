@@ -22,21 +22,21 @@ pub const NO_ORDER: u32 = 102;
 pub const NO_VARIABLES: u32 = 103;
 
 // What a text reads as: a number in decimal, or none.
-#[derive(Drop)]
+#[derive(Clone, Copy)]
 pub enum NumberText {
     Number(u32),
     NoNumber,
 }
 
 // The outcome of a request: that the card is made, or the number of the refusal, 13 for a code outside the limits, or that of a text.
-#[derive(Drop)]
+#[derive(Clone, Copy)]
 pub enum Outcome {
     Made,
     Refused(u32),
 }
 
 // The answer to a request: its outcome, and the card's bytes, all zero where none is made.
-#[derive(Drop)]
+#[derive(Clone, Copy)]
 pub struct Answer {
     pub outcome: Outcome,
     pub card: [u8; 512],

@@ -14,7 +14,7 @@ use position::layout::Layout;
 use position::words;
 
 // The word received, its erased bits 0; the sums of its separators; and the strength.
-#[derive(Drop)]
+#[derive(Clone, Copy)]
 pub struct LevelWord {
     pub word: ReceivedWord,
     pub sum1: f32,

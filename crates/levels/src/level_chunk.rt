@@ -12,7 +12,7 @@ use model::{ReceivedLevel, Strength};
 
 // The bits of a chunk and a 1 for each unerased one, place 0 lowest, an erased bit 0 in both; the sum of the chunk's levels; and the
 // strength over the levels of the word up to the chunk's last.
-#[derive(Drop)]
+#[derive(Clone, Copy)]
 pub struct LevelChunk {
     pub bits: u64,
     pub unerased: u64,

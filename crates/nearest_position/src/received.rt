@@ -4,7 +4,7 @@ ghost use Rattle.std.specs.Prelude.{◌≤◌, length};
 ghost use Rattle.nearest_position.specs.Received.{PlainWord};
 
 // The bits, with zeros after them, and a 1 for each unerased place.
-#[derive(Drop)]
+#[derive(Clone, Copy)]
 pub struct ReceivedWord {
     pub bits: [u8; 40],
     pub unerased: [u8; 40],

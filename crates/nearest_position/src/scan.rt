@@ -14,7 +14,7 @@ use position::{places, splice};
 
 // Where a search stands: the first position, the one that it has come to with its residual, and the nearest one met so far
 // with its residual.
-#[derive(Drop)]
+#[derive(Clone, Copy)]
 pub struct Scan {
     pub low: u32,
     pub position: u32,

@@ -9,7 +9,7 @@ ghost use Rattle.position.specs.LayoutOf.{LayoutOf};
 use model::DecodedCode;
 
 // At which place each chunk of a word starts, separator 1 at place 0, and how many bits the word has.
-#[derive(Drop)]
+#[derive(Clone, Copy)]
 pub struct Layout {
     pub chunk1: u32,
     pub separator2: u32,

@@ -17,7 +17,7 @@ use position::layout::Layout;
 use position::places;
 
 // The number of the codeword that the rule's chunks read as, and in how many bits each code chunk that was read differs from it.
-#[derive(Drop)]
+#[derive(Clone, Copy)]
 pub struct ChunksRead {
     pub number: u32,
     pub chunk1: ChunkBits,
@@ -26,7 +26,7 @@ pub struct ChunksRead {
 
 // What the chunks that a rule names read as; or they are refused, by 10 where one reads as no codeword, and by 11 where two read
 // differently.
-#[derive(Drop)]
+#[derive(Clone, Copy)]
 pub enum NamedChunks {
     Refused(u32),
     Read(ChunksRead),

@@ -13,7 +13,7 @@ use position::layout::Layout;
 use position::places;
 
 // A rule by its number, or 0 for none, and what the rule's separator reads.
-#[derive(Drop)]
+#[derive(Clone, Copy)]
 pub struct NamedRule {
     pub rule: u32,
     pub separator: u32,

@@ -16,7 +16,7 @@ const VARIABLES: [u64; 6] = [
 
 // The classes of a set: the positions that name them are the ones of `row`, the set's product, and at each of these `sums` holds the
 // sum of y over the class.
-#[derive(Drop)]
+#[derive(Clone, Copy)]
 pub struct Classes {
     pub sums: u64,
     pub row: u64,

@@ -6,7 +6,7 @@ use super::{products, sets};
 use bit_arithmetic::powers;
 
 // How many rows there are, and the rows. Those past them are zero.
-#[derive(Drop)]
+#[derive(Clone, Copy)]
 pub struct Rows {
     pub count: u32,
     pub rows: [u64; 12],

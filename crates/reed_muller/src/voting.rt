@@ -26,7 +26,7 @@ fn number_of(rows: u32) -> u32
 
 // A chunk as far as it has been voted on: what is left of it, and the rows that were voted for, those of more variables above those
 // of fewer. A vote that is tied ends the voting.
-#[derive(Drop)]
+#[derive(Clone, Copy)]
 struct Voted {
     tied: bool,
     left: u64,

@@ -16,7 +16,7 @@ use report::lines;
 
 // How a reader of words stands between two turns: the bytes short of a word, which it holds where the words start in its buffer, the
 // words that it met, and those of them that were read.
-#[derive(Drop)]
+#[derive(Clone, Copy)]
 pub struct Progress {
     pub held: usize,
     pub met: u64,
@@ -24,7 +24,7 @@ pub struct Progress {
 }
 
 // What a turn gives: the place past its lines, and how the reader then stands.
-#[derive(Drop)]
+#[derive(Clone, Copy)]
 pub struct Taken {
     pub next: usize,
     pub progress: Progress,

@@ -23,7 +23,7 @@ fn count_if_read(answer: ReadAnswer) -> u64
 }
 
 // What putting the lines of some words gives: the place past them, and how many of the words were read.
-#[derive(Drop)]
+#[derive(Clone, Copy)]
 pub struct WordsPut {
     pub next: usize,
     pub read: u64,

@@ -13,7 +13,7 @@ use model::{DecodedCode, Stretch, Trams, TramsAnswer};
 use position::blocks;
 
 // What is asked of each tram.
-#[derive(Drop)]
+#[derive(Clone, Copy)]
 pub enum Search {
     Crossing(u32),
     Within { first: u32, second: u32 },

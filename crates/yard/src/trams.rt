@@ -5,7 +5,7 @@ ghost use Rattle.model.specs.Yard.{most_waiting, holders, trams_of, among, any_t
 use model::{Slot, Yard};
 
 // A list of trams: how many there are, and their numbers. What is past the count means nothing.
-#[derive(Drop)]
+#[derive(Clone, Copy)]
 pub struct TramList {
     pub count: usize,
     pub trams: [u16; 48],
