@@ -2,21 +2,16 @@
 -- these bits. Assumes nothing.
 use mathlib.Core.Path.{◌≡◌, sym, ◌∙◌}
 use native.Mathlib.Omega.{arith}
-use borrow.Author.Rules.{rules}
 use lib.Count.{ones}
 use Rattle.bits.specs.Places.{weight}
 use Rattle.bits.proofs.Binary.{weight_ones, weight_le}
 use Rattle.bits.proofs.Sums.{sum_ext}
-use Rattle.position.proofs.places.ones_from.Statement.{statement}
-use Rattle.position.proofs.places.ones_from.Tie as tie
+use Rattle.position.proofs.places.ones_from.Goals as goal
 
-returns : tie.Need-returns
+pub returns : goal.returns
 unfolding weight
 returns c =
     let number = c.bits_at.result in
-    let len = c.before.args.len in
+    let len = c.args.len in
     let counted : ones number ≡ weight len number = sym (weight_ones len number c.bits_at.ensures.0) in
     (counted ∙ sum_ext len c.bits_at.ensures.1, omega (arith, weight_le len number))
-
-pub ones_from_spec : {M : Type 1} → statement M
-ones_from_spec = tie.close (tie.spec (λ c κs. search rules) returns)

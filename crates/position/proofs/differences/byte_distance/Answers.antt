@@ -4,16 +4,12 @@ use native.Mathlib.Omega.{arith}
 use lib.Bits.{xor_lt}
 use Rattle.bits.proofs.Binary.{ones_xor}
 use Rattle.bits.proofs.Distance.{distance_le}
-use Rattle.position.proofs.differences.byte_distance.Statement.{statement}
-use Rattle.position.proofs.differences.byte_distance.Tie as tie
+use Rattle.position.proofs.differences.byte_distance.Goals as goal
 
-cast_result : tie.Need-overflow-cast-result
-cast_result c = omega (arith, xor_lt 8 c.args.x c.args.y c.ranges.x.fits c.ranges.y.fits)
+pub overflow_cast-result : goal.overflow_cast-result
+overflow_cast-result c = omega (arith, xor_lt 8 c.args.x c.args.y c.ranges.x.fits c.ranges.y.fits)
 
-returns : tie.Need-returns
+pub returns : goal.returns
 returns c =
     let is = ones_xor 8 c.args.x c.args.y c.ranges.x.fits c.ranges.y.fits in
     (is, rw is (distance_le 8 _ _))
-
-pub byte_distance_spec : {M : Type 1} → statement M
-byte_distance_spec = tie.close (tie.spec cast_result returns)

@@ -6,25 +6,25 @@ use Rattle.model.specs.Decoded.{meaning}
 use Rattle.model.specs.Words.{word_bits}
 use Rattle.code_theory.proofs.LeastDistance.{D-high}
 use Rattle.code_theory.proofs.Starts.{word_bits_bound}
-use Rattle.position.proofs.layout.layout_of.Statement.{statement}
-use Rattle.position.proofs.layout.layout_of.Tie as tie
+use Rattle.position.proofs.layout.layout_of.Goals.{Start}
+use Rattle.position.proofs.layout.layout_of.Goals as goal
 
-short : (c : tie.Start) → word_bits (meaning c.args.code) ≤ 320
+short : (c : Start) → word_bits (meaning c.args.code) ≤ 320
 short c = word_bits_bound (meaning c.args.code) c.requires
 
-add_separator2 : tie.Need-overflow-add-separator2
-add_separator2 c = omega (arith, short c)
+pub overflow_add-separator2 : goal.overflow_add-separator2
+overflow_add-separator2 c = omega (arith, short c)
 
-add_chunk2 : tie.Need-overflow-add-chunk2
-add_chunk2 c = omega (arith, short c)
+pub overflow_add-chunk2 : goal.overflow_add-chunk2
+overflow_add-chunk2 c = omega (arith, short c)
 
-add_separator3 : tie.Need-overflow-add-separator3
-add_separator3 c = omega (arith, short c)
+pub overflow_add-separator3 : goal.overflow_add-separator3
+overflow_add-separator3 c = omega (arith, short c)
 
-add_t7 : tie.Need-overflow-add-t7
-add_t7 c = omega (arith, short c)
+pub overflow_add-result : goal.overflow_add-result
+overflow_add-result c = omega (arith, short c)
 
-returns : tie.Need-returns
+pub returns : goal.returns
 returns c =
     record {
       chunk₁_at = refl;
@@ -36,6 +36,3 @@ returns c =
       separator_fits = omega (arith, D-high (meaning c.args.code) c.requires);
       chunk_fits = c.requires.n_high;
     }
-
-pub layout_of_spec : {M : Type 1} → statement M
-layout_of_spec = tie.close (tie.spec add_separator2 add_chunk2 add_separator3 add_t7 returns)
