@@ -26,10 +26,10 @@ pub fn search_block(
     to: u32,
 ) -> Scan
     requires sound { Sound (meaning code) × NothingSpare (meaning code) x }
-    requires i_bound { (i ≤ last_codeword (meaning code)) × (low ≡ position_at (meaning code) i next from)
+    requires part { (i ≤ last_codeword (meaning code)) × (low ≡ position_at (meaning code) i next from)
         × (from ≤ to) × (to ≤ word_bits (meaning code)) }
-    ensures low_value { (result.low ≡ low) × (result.position ≡ position_at (meaning code) i next to) }
-    ensures by_index { (f : ℕ → ℕ) → ResidualsOf (meaning code) x i next f → Scanned f result }
+    ensures ends { (result.low ≡ low) × (result.position ≡ position_at (meaning code) i next to) }
+    ensures scanned { (f : ℕ → ℕ) → ResidualsOf (meaning code) x i next f → Scanned f result }
 {
     let u = words::word_of(code, i);
     let v = words::word_of(code, next);
@@ -39,10 +39,10 @@ pub fn search_block(
 // The search on from the block's start, at which it stands, through the places of separator 1.
 pub fn search_after_start(code: DecodedCode, x: ReceivedWord, i: u32, next: u32, s: Scan) -> Scan
     requires sound { Sound (meaning code) × NothingSpare (meaning code) x × (i ≤ last_codeword (meaning code)) }
-    requires position_value { (s.position ≡ start (meaning code) i)
+    requires at_start { (s.position ≡ start (meaning code) i)
         × (s.residual ≡ received_distance (word_bits (meaning code)) (word (meaning code) i) x) }
-    ensures low_value { (result.low ≡ s.low) × (result.position ≡ position_at (meaning code) i next code.distance) }
-    ensures by_index { (f : ℕ → ℕ) → ResidualsOf (meaning code) x i next f → Scanned f s → Scanned f result }
+    ensures ends { (result.low ≡ s.low) × (result.position ≡ position_at (meaning code) i next code.distance) }
+    ensures scanned { (f : ℕ → ℕ) → ResidualsOf (meaning code) x i next f → Scanned f s → Scanned f result }
 {
     let u = words::word_of(code, i);
     let v = words::word_of(code, next);

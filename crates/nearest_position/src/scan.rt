@@ -55,8 +55,8 @@ fn next_residual(residual: u32, new: u32, received: u32, unerased: u32) -> u32
 // most 320 places.
 fn advance(s: Scan, residual: u32) -> Scan
     requires { s.position ≤ 1311040 }
-    ensures low_value { (result.low ≡ s.low) × (result.position ≡ s.position + 1) × (result.residual ≡ residual) }
-    ensures by_index { (f : ℕ → ℕ) → Scanned f s → residual ≡ f (s.position + 1) → Scanned f result }
+    ensures ends { (result.low ≡ s.low) × (result.position ≡ s.position + 1) × (result.residual ≡ residual) }
+    ensures scanned { (f : ℕ → ℕ) → Scanned f s → residual ≡ f (s.position + 1) → Scanned f result }
 {
     let position = s.position + 1;
     if residual < s.least {

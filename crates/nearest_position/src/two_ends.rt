@@ -77,8 +77,8 @@ fn nearest_around(code: DecodedCode, at: Layout, x: ReceivedWord, p: u32) -> Sca
 
 // The search through the positions that the rule allows where its chunks read p, and there is a block for it.
 pub fn nearest_by(code: DecodedCode, at: Layout, x: ReceivedWord, rule: u32, p: u32) -> Scan
-    requires received_in { ReceivedIn (meaning code) at x × (p ≤ last_codeword (meaning code)) }
-    requires le_rule { (1 ≤ rule) × (rule ≤ 3) × ((two_ends (meaning code)).no_block rule p ≡ false) }
+    requires received { ReceivedIn (meaning code) at x × (p ≤ last_codeword (meaning code)) }
+    requires has_block { (1 ≤ rule) × (rule ≤ 3) × ((two_ends (meaning code)).no_block rule p ≡ false) }
     ensures { SearchedRange (residual_in (meaning code) x) ((two_ends (meaning code)).range rule p) result }
 {
     if rule == 1 {

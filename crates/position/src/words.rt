@@ -62,8 +62,8 @@ pub fn put_down(
     chunk2: u64,
     separator3: u64,
 ) -> [u8; 40]
-    requires n_bound { (n ≤ 64) × (d ≤ 64) × (d + n + d + n + d ≤ 320) }
-    requires by_index { (u : ℕ → ℕ) × FiveChunks n d u separator1 chunk1 separator2 chunk2 separator3 }
+    requires room { (n ≤ 64) × (d ≤ 64) × (d + n + d + n + d ≤ 320) }
+    requires five { (u : ℕ → ℕ) × FiveChunks n d u separator1 chunk1 separator2 chunk2 separator3 }
     ensures { (u : ℕ → ℕ) → FiveChunks n d u separator1 chunk1 separator2 chunk2 separator3
         → (p : ℕ) → place result p ≡ cut (d + n + d + n + d) u p }
 {
@@ -91,7 +91,7 @@ pub fn word_of(code: DecodedCode, i: u32) -> [u8; 40]
 // to the other.
 pub fn word_in_block(code: DecodedCode, i: u32, next: u32, m: u32) -> [u8; 40]
     requires sound { Sound (meaning code) }
-    requires m_bound { m ≤ distance (word_bits (meaning code)) (word (meaning code) i) (word (meaning code) next) }
+    requires steps { m ≤ distance (word_bits (meaning code)) (word (meaning code) i) (word (meaning code) next) }
     ensures { HoldsWord (meaning code) (walk (word (meaning code) i) (word (meaning code) next) m) result }
 {
     let u = word_of(code, i);

@@ -47,25 +47,25 @@ module _ (u : ℕ → ℕ) where
 
 pub put_chunk-to_chunk1-requires : goal.put_chunk-to_chunk1-requires
 put_chunk-to_chunk1-requires c =
-    let (u, five) = c.requires.by_index in (omega arith, omega arith, five.separator₁_bits.0, λ p _. zero_place 40 p)
+    let (u, five) = c.requires.five in (omega arith, omega arith, five.separator₁_bits.0, λ p _. zero_place 40 p)
 
 pub put_chunk-to_separator2-requires : goal.put_chunk-to_separator2-requires
 put_chunk-to_separator2-requires c =
-    let (u, five) = c.requires.by_index in (omega arith, omega arith, five.chunk₁_bits.0, zeros_behind u _ (to_chunk₁ u c five))
+    let (u, five) = c.requires.five in (omega arith, omega arith, five.chunk₁_bits.0, zeros_behind u _ (to_chunk₁ u c five))
 
 pub put_chunk-to_chunk2-requires : goal.put_chunk-to_chunk2-requires
 put_chunk-to_chunk2-requires c =
-    let (u, five) = c.requires.by_index in
+    let (u, five) = c.requires.five in
     (omega arith, omega arith, five.separator₂_bits.0, zeros_behind u _ (to_separator₂ u c five))
 
 pub put_chunk-to_separator3-requires : goal.put_chunk-to_separator3-requires
 put_chunk-to_separator3-requires c =
-    let (u, five) = c.requires.by_index in
+    let (u, five) = c.requires.five in
     (omega arith, omega arith, five.chunk₂_bits.0, zeros_behind u _ (to_chunk₂ u c five))
 
 pub put_chunk-requires : goal.put_chunk-requires
 put_chunk-requires c =
-    let (u, five) = c.requires.by_index in
+    let (u, five) = c.requires.five in
     (omega arith, omega arith, five.separator₃_bits.0, zeros_behind u _ (to_separator₃ u c five))
 
 pub returns : goal.returns

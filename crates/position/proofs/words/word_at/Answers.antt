@@ -34,7 +34,7 @@ pub word_in_block-requires : goal.word_in_block-requires
 word_in_block-requires c =
     record {
       sound = c.requires.0;
-      m_bound =
+      steps =
           rw (c.start_of_block.ensures, c.block_of-i.ensures)
           (steps_in_block _ (promise _ c.requires.0) c.args.position c.requires.1);
     }

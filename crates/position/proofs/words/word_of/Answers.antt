@@ -26,8 +26,8 @@ pub put_down-requires : goal.put_down-requires
 put_down-requires c =
     let C = meaning c.args.code in
     record {
-      n_bound = (c.requires.n_high, omega (arith, D-high C c.requires), omega (arith, word_bits_bound C c.requires));
-      by_index = (_, five c);
+      room = (c.requires.n_high, omega (arith, D-high C c.requires), omega (arith, word_bits_bound C c.requires));
+      five = (_, five c);
     }
 
 pub returns : goal.returns

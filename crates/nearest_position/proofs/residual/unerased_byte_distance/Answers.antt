@@ -6,18 +6,14 @@ use lib.Bits.{bit_xor, and_le_r}
 use lib.Count.{ones}
 use Rattle.bits.proofs.Erasures.{unerased_le}
 use Rattle.bits.proofs.Masks.{and_xor, cut_distance}
-use Rattle.nearest_position.proofs.residual.unerased_byte_distance.Statement.{statement}
-use Rattle.nearest_position.proofs.residual.unerased_byte_distance.Tie as tie
+use Rattle.nearest_position.proofs.residual.unerased_byte_distance.Goals as goal
 
-cast_result : tie.Need-overflow-cast-result
-cast_result c = omega (arith, and_le_r (bit_xor c.args.x c.args.y) c.args.unerased, c.ranges.unerased.fits)
+pub overflow_cast-result : goal.overflow_cast-result
+overflow_cast-result c = omega (arith, and_le_r (bit_xor c.args.x c.args.y) c.args.unerased, c.ranges.unerased.fits)
 
-returns : tie.Need-returns
+pub returns : goal.returns
 returns c =
     let is =
     ap ones (and_xor c.args.x c.args.y c.args.unerased)
     ∙ cut_distance 8 c.args.x c.args.y c.args.unerased c.ranges.x.fits c.ranges.y.fits c.ranges.unerased.fits in
     (is, rw is (unerased_le _ 8 _ _))
-
-pub unerased_byte_distance_spec : {M : Type 1} → statement M
-unerased_byte_distance_spec = tie.close (tie.spec cast_result returns)
