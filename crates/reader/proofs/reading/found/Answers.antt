@@ -2,12 +2,8 @@
 -- counted for it, and the bits that it is handed. Assumes nothing.
 use mathlib.Core.Path.{refl}
 use Rattle.reader.specs.RuleAnswers.{found_at}
-use Rattle.reader.proofs.reading.found.Statement.{statement}
-use Rattle.reader.proofs.reading.found.Tie as tie
+use Rattle.reader.proofs.reading.found.Goals as goal
 
-returns : tie.Need-returns
+pub returns : goal.returns
 unfolding found_at
 returns c = refl
-
-pub found_spec : {M : Type 1} → statement M
-found_spec = tie.close (tie.spec returns)
