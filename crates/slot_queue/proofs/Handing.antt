@@ -1,13 +1,11 @@
 -- An accepted release: the first entry for the track, found by its place, is handed the track; where none is found, the track is freed.
 -- Assumes nothing.
-use mathlib.Core.Path.{◌≡◌, refl, sym, ap, ◌∙◌}
-use mathlib.Core.Bool.{true}
-use mathlib.Core.List.{List, [], ◌∷◌}
+use mathlib.Core.Path.{◌≡◌, ap}
 use Prim.Native.Nat.{ℕ, ◌-◌, ◌≤◌, ◌<◌}
 use native.Mathlib.Omega.{arith}
-use lib.ListN.{length, get_or, take, set}
+use lib.ListN.{length, get_or}
 use lib.Seq.{length-take-le, get_or-take}
-use Rattle.model.specs.Yard.{most_waiting, free_slot, no_entry, entries, queue, held_by, freed, handed_to}
+use Rattle.model.specs.Yard.{most_waiting, no_entry, entries, queue, held_by, freed, handed_to}
 use Rattle.model.specs.ReleaseTrack.{handed_on}
 use Rattle.model.specs.declared.Waiting.{Waiting}
 use Rattle.model.specs.declared.Yard.{Yard}

@@ -1,0 +1,8 @@
+-- `slot_queue::requests::hold` meets its contract. Assumes nothing.
+use mathlib.Core.Path.{refl}
+use Rattle.model.specs.Yard.{holding}
+use Rattle.slot_queue.proofs.requests.hold.Goals as goal
+
+pub returns : goal.returns
+unfolding holding
+returns c = refl
