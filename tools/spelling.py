@@ -29,6 +29,7 @@ LEMMAS = {
     "nearest_in": "nearest_in_lem",
     "slot_lent": "slot_lent_lem",
     "getD-listOf": "get_or_list_of",
+    "read-levels": "read_levels",
     "rows9To12": "rows_9_to_12",
     "plusOne": "plus_one_level",
     "minusOne": "minus_one_level",

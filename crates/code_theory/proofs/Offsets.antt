@@ -31,7 +31,7 @@ use Rattle.model.specs.declared.NumberAnswer.TheVariants.{Number, Refused as Num
 use Rattle.model.specs.declared.MillimetresAnswer.TheVariants.{Millimetres, Refused as MillimetresRefused}
 use Rattle.code_theory.specs.Offsets.{OldCard, old_misplaced, old_card_refusal, old_card_answer, old_millimetres_answer, as_signed}
 use Rattle.code_theory.specs.Offsets.{CheckedAsBefore, DistanceAsBefore, CheckPromises, MillimetresPromises}
-use Rattle.code_theory.specs.Offsets.{SameButOffset, AnsweredAlike}
+use Rattle.code_theory.specs.Offsets.{SameButOffset, AnsweredAlike, ReleasesAlike}
 
 -- ---- old cards
 
@@ -123,7 +123,6 @@ module _ (b b' : List ℕ) (same : SameButOffset b b') where
   pub alike_but_distances : AnsweredAlike b b'
   unfolding card_answer summary_of track_of write_refusal write_answer lent_after_write read_refusal read_answer
       levels_refusal levels_answer start_refusal start_answer trams_refusal each_tram_answer nearest_answer
-      refusal_ahead_of_word release_answer
   alike_but_distances =
       record {
         refused = same_refusal;
@@ -132,10 +131,14 @@ module _ (b b' : List ℕ) (same : SameButOffset b b') where
         written = λ position lent. rw (same_refusal, same_code);
         left = λ position lent. rw (same_refusal, same_code);
         read = λ received. rw (same_refusal, same_code);
-        read_levels_lem = λ levels. rw (same_refusal, same_code);
+        read_levels = λ levels. rw (same_refusal, same_code);
         started = λ block. rw (same_refusal, same_code);
         crossing = λ trams mark. rw (same_refusal, same_code);
         within = λ trams first second. rw (same_refusal, same_code);
         nearest = λ trams mark. rw (same_refusal, same_code);
-        released = λ yard tram word mark. rw (same_refusal, same_code, same_number 2 2 (omega arith));
       }
+
+  pub releases_alike : ReleasesAlike b b'
+  unfolding track_of read_refusal read_answer refusal_ahead_of_word release_answer
+  releases_alike =
+      record { released = λ yard tram word mark. rw (same_refusal, same_code, same_number 2 2 (omega arith)) }

@@ -98,15 +98,18 @@ pub record AnsweredAlike (b b' : List ℕ) : Type 0 where
   pub refused : card_refusal b ≡ card_refusal b'
   -- the code: its least distance, the word of each position, the start of each block and what each word reads as go by it
   pub code : code_of b ≡ code_of b'
-  -- and each call's answer, for every position, lent word, received word, list of levels, block, list of trams, mark, yard and tram
+  -- and each call's answer, for every position, lent word, received word, list of levels, block, list of trams and mark
   pub checked : card_answer b ≡ card_answer b'
   pub written : (position : ℕ) (lent : List ℕ) → write_answer b position lent ≡ write_answer b' position lent
   pub left : (position : ℕ) (lent : List ℕ) → lent_after_write b position lent ≡ lent_after_write b' position lent
   pub read : (received : List ℕ) → read_answer b received ≡ read_answer b' received
-  pub read_levels_lem : (levels : List Float) → levels_answer b levels ≡ levels_answer b' levels
+  pub read_levels : (levels : List Float) → levels_answer b levels ≡ levels_answer b' levels
   pub started : (block : ℕ) → start_answer b block ≡ start_answer b' block
   pub crossing : (trams : Trams) (mark : ℕ) → crossing_answer b trams mark ≡ crossing_answer b' trams mark
   pub within : (trams : Trams) (first second : ℕ) → within_answer b trams first second ≡ within_answer b' trams first second
   pub nearest : (trams : Trams) (mark : ℕ) → nearest_answer b trams mark ≡ nearest_answer b' trams mark
+
+-- and so is the answer to a release of a track, for every yard, tram, received word and mark
+pub record ReleasesAlike (b b' : List ℕ) : Type 0 where
   pub released : (yard : Yard) (tram : ℕ) (word : List ℕ) (mark : ℕ)
       → release_answer yard tram word mark b ≡ release_answer yard tram word mark b'
