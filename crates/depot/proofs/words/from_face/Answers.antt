@@ -2,7 +2,6 @@
 -- sum is that of the two numbers, and it fits. Assumes nothing.
 use mathlib.Core.Path.{◌≡◌, ◌∙◌}
 use Prim.Native.Nat.{◌*◌}
-use borrow.Author.Rules.{rules}
 use native.Mathlib.Omega.{arith}
 use lib.IntN.{pos, ◌+ℤ◌}
 use mir.Facts.{to_z-of_z, to_z_pos}
@@ -10,19 +9,19 @@ use mir.Syntax.{w32}
 use mir.Val.{SFits, to_z, of_z}
 use Rattle.model.specs.Words.{millimetres_of}
 use Rattle.depot.proofs.MillimetresContract.{sum_fits}
-use Rattle.depot.proofs.words.from_face.Statement.{statement}
-use Rattle.depot.proofs.words.from_face.Tie as tie
+use Rattle.depot.proofs.words.from_face.Goals.{Start}
+use Rattle.depot.proofs.words.from_face.Goals as goal
 
-summed : (c : tie.Start)
+summed : (c : Start)
     → to_z w32 (of_z w32 c.args.offset) +ℤ to_z w32 (50 * c.args.position) ≡ c.args.offset +ℤ pos (50 * c.args.position)
 summed c = rw (to_z-of_z c.ranges.offset, to_z_pos w32 {n = 50 * c.args.position} (omega arith))
 
-fits : (c : tie.Start) → SFits w32 (to_z w32 (of_z w32 c.args.offset) +ℤ to_z w32 (50 * c.args.position))
+fits : (c : Start) → SFits w32 (to_z w32 (of_z w32 c.args.offset) +ℤ to_z w32 (50 * c.args.position))
 fits c = rw (summed c) (sum_fits c.args.offset (50 * c.args.position) c.requires.0 (omega arith))
 
-returns : tie.Need-returns
+pub returns : goal.returns
 unfolding millimetres_of
 returns c = to_z-of_z (fits c) ∙ summed c
 
-pub from_face_spec : {M : Type 1} → statement M
-from_face_spec = tie.close (tie.spec (λ c. search rules) (λ c. search rules) fits returns)
+pub overflow_add-result : goal.overflow_add-result
+overflow_add-result c = fits c
