@@ -5,7 +5,7 @@
 
 ghost use Rattle.std.specs.Prelude.{◌≡◌, ◌+◌, ◌≤◌, ◌<◌, length, take};
 
-use libc::{EINTR, STDIN_FILENO, STDOUT_FILENO};
+use std::io::{Cursor, Error, ErrorKind, Read, Write};
 
 // A proved loop has to end, and nothing says that interruptions do: a call is made again as often as this, a number that no run
 // uses up.
@@ -13,7 +13,7 @@ const TRIES: u64 = 9007199254740992;
 
 // What was received: how many bytes, and whether the system failed. The fields are this crate's own, so that no other makes one up:
 // a read that brought nothing and did not fail says that the input has ended.
-#[derive(Drop)]
+#[derive(Clone, Copy)]
 pub struct Received {
     count: usize,
     failed: bool,
@@ -33,56 +33,79 @@ impl Received {
     }
 }
 
+// Writes some bytes to standard error. Where that fails, nothing is left to say so on.
+fn put_error(rt: &HostRuntime, bytes: &[u8]) {
+    let _ = rt.stderr().write_all(bytes);
+}
+
+// Writes a line to standard error: the message, a colon and the reason. std puts the error's number behind a reason of the system's, in
+// brackets; the line goes without.
+fn print_failure(rt: &HostRuntime, message: &[u8], error: Error) {
+    let mut told = Cursor::new([0; 256]);
+    let _ = write!(told, "{error}");
+    let end = (told.position() as usize).min(256);
+    let text = std::str::from_utf8(&told.get_ref()[..end]).unwrap_or("");
+    let reason = match text.rsplit_once(" (os error ") {
+        Some((reason, _)) => reason,
+        None => text,
+    };
+    put_error(rt, message);
+    put_error(rt, b": ");
+    put_error(rt, reason.as_bytes());
+    put_error(rt, b"\n");
+}
+
 // A read that failed brought nothing.
-fn read_failed(message: &[u8]) -> Received
+fn read_failed(rt: &HostRuntime, message: &[u8], error: Error) -> Received
     ensures { result.count ≡ 0 }
 {
-    os::fail(message);
+    print_failure(rt, message, error);
     Received {
         count: 0,
         failed: true,
     }
 }
 
-// A write that failed.
-fn write_failed(message: &[u8]) -> bool {
-    os::fail(message);
-    false
-}
-
 // Reads once, into the buffer's bytes from place `held` up to `full`. There is room for one, so that nothing comes only where the input
 // has ended or the system failed. What is held stays as it is.
-pub fn receive(buffer: &mut [u8], held: usize, full: usize, message: &[u8]) -> Received
+pub fn receive(
+    rt: &HostRuntime,
+    buffer: &mut [u8],
+    held: usize,
+    full: usize,
+    message: &[u8],
+) -> Received
     requires { (held < full) × (full ≤ length buffer.old) }
     ensures count_bound { held + result.count ≤ full }
     ensures buffer_unchanged { take held buffer.new ≡ take held buffer.old }
 {
-    let mut tries = TRIES;
-    while tries > 0 {
-        let got = libc::read(STDIN_FILENO, &mut buffer[held..full]);
-        if got >= 0 {
-            return Received {
-                count: io::count(got, &buffer[held..full]),
-                failed: false,
-            };
+    for _ in 0..TRIES {
+        match rt.stdin().read(&mut buffer[held..full]) {
+            Ok(count) => {
+                return Received {
+                    count,
+                    failed: false,
+                };
+            }
+            Err(error) => {
+                if error.kind() != ErrorKind::Interrupted {
+                    return read_failed(rt, message, error);
+                }
+            }
         }
-        if os::errno() != EINTR {
-            return read_failed(message);
-        }
-        tries -= 1;
     }
-    read_failed(message)
+    read_failed(rt, message, Error::from(ErrorKind::Interrupted))
 }
 
 // Reads until the buffer, which has room, is full or the input ends.
-pub fn receive_all(buffer: &mut [u8], message: &[u8]) -> Received
+pub fn receive_all(rt: &HostRuntime, buffer: &mut [u8], message: &[u8]) -> Received
     requires { 0 < length buffer.old }
     ensures { result.count ≤ length buffer.new }
 {
     let full = buffer.len();
     let mut held: usize = 0;
     while held < full {
-        let came = receive(buffer, held, full, message);
+        let came = receive(rt, buffer, held, full, message);
         if came.count == 0 {
             return Received {
                 count: held,
@@ -98,22 +121,14 @@ pub fn receive_all(buffer: &mut [u8], message: &[u8]) -> Received
 }
 
 // Writes the first `end` bytes of the buffer, and answers whether all of them were taken.
-pub fn put_all(buffer: &[u8], end: usize, message: &[u8]) -> bool
+pub fn put_all(rt: &HostRuntime, buffer: &[u8], end: usize, message: &[u8]) -> bool
     requires { end ≤ length buffer.now }
 {
-    let mut done: usize = 0;
-    let mut tries = TRIES;
-    while done < end {
-        if tries == 0 {
-            return write_failed(message);
+    match rt.stdout().write_all(&buffer[..end]) {
+        Ok(()) => true,
+        Err(error) => {
+            print_failure(rt, message, error);
+            false
         }
-        let got = libc::write(STDOUT_FILENO, &buffer[done..end]);
-        if got > 0 {
-            done += io::count(got, &buffer[done..end]);
-        } else if os::errno() != EINTR {
-            return write_failed(message);
-        }
-        tries -= 1;
     }
-    true
 }

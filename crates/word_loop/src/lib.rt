@@ -10,7 +10,6 @@ ghost use Rattle.code_theory.specs.Promise.{Sound};
 ghost use Rattle.report.specs.Report.{words_report};
 ghost use Rattle.word_loop.specs.Parts.{FromCard, PartOfReport, LastPart, OnlyAtEnd};
 
-use libc::STDERR_FILENO;
 use model::DecodedCode;
 use position::layout;
 use standard_io::Received;
@@ -36,36 +35,33 @@ pub enum Ended {
 }
 
 // Reads once, behind the bytes that the buffer holds, and up to place `full`.
-fn receive_words(buffer: &mut [u8], held: usize, full: usize) -> Received
+fn receive_words(rt: &HostRuntime, buffer: &mut [u8], held: usize, full: usize) -> Received
     requires { (held < full) × (full ≤ length buffer.old) }
     ensures count_bound { held + result.count ≤ full }
     ensures buffer_unchanged { take held buffer.new ≡ take held buffer.old }
 {
-    standard_io::receive(buffer, held, full, b"tramread: reading standard input")
+    standard_io::receive(rt, buffer, held, full, b"tramread: reading standard input")
 }
 
 // Prints on standard error that the turns have run out, which is no end of the input.
-fn out_of_turns() -> Ended
+fn out_of_turns(rt: &HostRuntime) -> Ended
     ensures { result ≡ Ended.Failed }
 {
-    io::write_all(
-        STDERR_FILENO,
-        b"tramread: reading standard input: too many reads\n",
-    );
+    let _ = eprintln!(rt; "tramread: reading standard input: too many reads");
     Ended::Failed
 }
 
 // Writes the first `end` bytes of the buffer, which are a part of a report, and answers whether all of them were taken.
-pub fn put_out(buffer: &[u8], end: usize) -> bool
+pub fn put_out(rt: &HostRuntime, buffer: &[u8], end: usize) -> bool
     requires end_in_bounds { end ≤ length buffer.now }
     requires part_of_report { PartOfReport (take end buffer.now) }
 {
-    standard_io::put_all(buffer, end, b"tramread: writing standard output")
+    standard_io::put_all(rt, buffer, end, b"tramread: writing standard output")
 }
 
 // Reads words until the input ends, puts out their lines, and leaves the bytes short of a word and the last line in `out`. A read may
 // bring few bytes, and part of a word: that part is kept, and the next read goes on behind it.
-pub fn read_words(code: DecodedCode, input: &mut [u8], out: &mut [u8]) -> Ended
+pub fn read_words(rt: &HostRuntime, code: DecodedCode, input: &mut [u8], out: &mut [u8]) -> Ended
     requires sound { Sound (meaning code) }
     requires from_card { FromCard (meaning code) }
     requires input_len { (length input.old ≡ 64512) × (length out.old ≡ 230400) }
@@ -78,7 +74,7 @@ pub fn read_words(code: DecodedCode, input: &mut [u8], out: &mut [u8]) -> Ended
     while turns > 0 {
         let held = progress.held;
         let at = START + held;
-        let came = receive_words(input, at, full);
+        let came = receive_words(rt, input, at, full);
         if came.failed() {
             return Ended::Failed;
         }
@@ -88,12 +84,12 @@ pub fn read_words(code: DecodedCode, input: &mut [u8], out: &mut [u8]) -> Ended
         }
         let taken = turn::take_in(out, code, input, START, held + count, progress);
         let end = taken.next;
-        if !put_out(out, end) {
+        if !put_out(rt, out, end) {
             return Ended::Failed;
         }
         let next = taken.progress;
         progress = next;
         turns -= 1;
     }
-    out_of_turns()
+    out_of_turns(rt)
 }
