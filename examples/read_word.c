@@ -5,8 +5,8 @@
  *
  * Prints   position P residual R rule N   and on the same line, for each code chunk that was read,   chunk C bits B   with the
  * number of bits in which it differs from its codeword; or   refused N: why   . Its exit status is 0 if the word was read, 1 if
- * it was refused, and 2 if the arguments or the file are of no use. Built in the repository's root, after `rt staticlib
- * dunnavish`, by
+ * it was refused, and 2 if the arguments or the file are of no use. Built in the repository's root, after
+ * `tools/build dunnavish`, by
  *
  *     cc -Iinclude -o target/read_word examples/read_word.c -Ltarget/staticlib -ldunnavish
  */

@@ -7,7 +7,7 @@
  * code, which are given no card: make its card, and read a chunk of it by majority votes. One call on a yard alone: request a track of
  * it. docs/FORMAT.md says what the bytes of a card and of a word are, how a word is read, which card is made, what stands at a mark, who
  * holds a track and who waits, and what each refusal means. The archive is target/staticlib/libdunnavish.a, for x86-64 Linux;
- * `rt staticlib dunnavish` builds it. From the repository's root, link it as   cc -Iinclude program.c -Ltarget/staticlib -ldunnavish
+ * `tools/build dunnavish` builds it. From the repository's root, link it as   cc -Iinclude program.c -Ltarget/staticlib -ldunnavish
  * (it needs memcpy and memset, and nothing else). The header is C99 or later, or C++.
  *
  * A call answers with its status: 0 (DUNNAVISH_OK), or the number of the one reason why it could not be served, below. Whenever

@@ -1,4 +1,4 @@
-//! Links the proved library: `libdunnavish.a`, which `rt staticlib dunnavish` writes to `target/staticlib` of the repository. The
+//! Links the proved library: `libdunnavish.a`, which `tools/build dunnavish` puts into `target/staticlib` of the repository. The
 //! environment variable `DUNNAVISH_LIB_DIR` names another folder for it; a relative one is taken from where cargo is started.
 use std::env;
 use std::fs;
@@ -16,7 +16,7 @@ fn main() {
     println!("cargo:rerun-if-changed={}", archive.display());
     if !archive.is_file() {
         eprintln!("error: the library {} is not there.", archive.display());
-        eprintln!("Build it in the repository's root with `rt staticlib dunnavish`, or name its folder in DUNNAVISH_LIB_DIR.");
+        eprintln!("Build it in the repository's root with `tools/build dunnavish`, or name its folder in DUNNAVISH_LIB_DIR.");
         exit(1);
     }
     println!("cargo:rustc-link-search=native={}", folder.display());

@@ -11,7 +11,7 @@
 //!
 //! `docs/FORMAT.md` of the repository says what a card and a word are, byte by byte, how a word is read, which card is made, what
 //! stands at a mark, who holds a track and who waits, and what each refusal means. The archive that is linked, `libdunnavish.a`,
-//! is the one that `rt staticlib dunnavish` writes to `target/staticlib` there; the environment variable `DUNNAVISH_LIB_DIR`
+//! is the one that `tools/build dunnavish` puts into `target/staticlib` there; the environment variable `DUNNAVISH_LIB_DIR`
 //! names another folder, and a relative one is taken from where cargo is started.
 //!
 //! ```
