@@ -28,7 +28,7 @@ const TURNS: u64 = 9007199254740992;
 
 // How reading ended: with the last part of the report at the front of the buffer of lines, up to a place, and what the last read
 // brought; or the system failed or the turns ran out, and standard error has a line that says so.
-#[derive(Drop)]
+#[derive(Clone, Copy)]
 pub enum Ended {
     At(usize, Received),
     Failed,
