@@ -11,15 +11,20 @@ pub type Lent = [u8; LENT];
 /// Counts a call by what the second reader answered, and whether the library's answer differs from that. `served` names the line of
 /// calls that are served; the lines of refusals begin with `calls`, and that of the mismatches ends with it. A card's own refusals
 /// are told apart where it is checked only.
-pub fn answered<T>(tally: &mut Tally, calls: &str, served: &str, second: Result<T, Refusal>, unlike: bool) {
+pub fn counted<T>(tally: &mut Tally, calls: &str, served: &str, second: Result<T, Refusal>, unlike: bool) {
     match second {
         Ok(_) => tally.add(served, true),
         Err(1..=5 | 14) if calls != CARDS => tally.add(&format!("{calls} on refused cards"), true),
         Err(WRONG_COUNT) => tally.add(&format!("{calls} with a wrong count"), true),
         Err(refusal) => tally.add(&format!("{calls} refused {refusal}"), true),
     }
-    tally.add("answers compared", true);
     tally.add(&format!("mismatches of {calls}"), unlike);
+}
+
+/// The same, of a call on a card or a code.
+fn answered<T>(tally: &mut Tally, calls: &str, served: &str, second: Result<T, Refusal>, unlike: bool) {
+    counted(tally, calls, served, second, unlike);
+    tally.add("answers compared", true);
 }
 
 const CARDS: &str = "cards";

@@ -1,7 +1,7 @@
 //! The counts that the program prints.
 
 /// The printed lines in their order: a name each, under which something is counted.
-const LINES: [&str; 221] = [
+const LINES: [&str; 222] = [
     // What the second reader answered, call by call.
     "cards sound",
     "cards refused 1",
@@ -201,6 +201,7 @@ const LINES: [&str; 221] = [
     "releases of these above the mark less 20t",
     "releases of these one step above the mark less 20t, with t above 0",
     "answers compared",
+    "answers on yards compared",
     // What the library got wrong: 0 each where it is right.
     "mismatches of cards",
     "mismatches of writes",

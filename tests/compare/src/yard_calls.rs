@@ -1,5 +1,5 @@
 //! One call on a yard: the library's against the second reader's, the answers and all numbers left.
-use crate::calls::answered;
+use crate::calls::counted;
 use crate::lent;
 use crate::library;
 use crate::tally::Tally;
@@ -41,6 +41,12 @@ pub struct Release<'a> {
 /// The lines of calls that are served, by the values that the C interface has for the answers.
 const REQUESTS: [&str; 2] = ["requests that hold their track", "requests that join a queue"];
 const RELEASES: [&str; 3] = ["releases not clear", "releases that free the track", "releases that hand the track on"];
+
+/// Counts a call on a yard, as those on a card are counted, and its answer on a line of its own.
+fn answered<T>(tally: &mut Tally, calls: &str, served: &str, second: Result<T, Refusal>, unlike: bool) {
+    counted(tally, calls, served, second, unlike);
+    tally.add("answers on yards compared", true);
+}
 
 /// A request, by each in its own yard.
 pub fn request(tally: &mut Tally, yards: &mut Yards, tram: u16, track: u32) -> Both<Requested> {
