@@ -127,7 +127,7 @@ enum dunnavish_status {
                                        `highs` and `yes` are not equal; tested first */
 };
 
-/* What a status says, in a few words: a constant string, never NULL, for any other number too. */
+/* What the status of a call on a card or a code says, in a few words: a constant string, never NULL, for any other number too. */
 static inline const char *dunnavish_status_text(uint32_t status)
 {
     switch (status) {
@@ -151,13 +151,21 @@ static inline const char *dunnavish_status_text(uint32_t status)
     case DUNNAVISH_PARITY_DIFFERS: return "a separator of the received word contradicts the parity of its codeword's number";
     case DUNNAVISH_TRAM_COUNT: return "there are more than 64 trams";
     case DUNNAVISH_STRETCH_LIMITS: return "a stretch or pair of marks has low above high, or a high or mark is above the last position";
+    case DUNNAVISH_VALUE_COUNT: return "the count of values, of a strength, of a made card's bytes, or of lows, highs and yes, is not the call's";
+    default: return "a status that this version does not have";
+    }
+}
+
+/* The same of a call on a yard. */
+static inline const char *dunnavish_yard_status_text(uint32_t status)
+{
+    switch (status) {
     case DUNNAVISH_NO_SUCH_TRACK: return "the track's number is above 15";
     case DUNNAVISH_WRONG_TRAM: return "the requesting tram already holds or waits for a track, or the releasing tram is not the holder";
     case DUNNAVISH_WAITING_FULL: return "the track is held, and 32 trams already wait";
     case DUNNAVISH_YARD_UNSOUND: return "the yard has a tram twice, a tram waiting for a free track, or more than 32 waiting";
-    case DUNNAVISH_VALUE_COUNT:
-        return "the count of values, of a strength, of a yard, of a made card's bytes, or of lows, highs and yes, is not the call's";
-    default: return "a status that this version does not have";
+    case DUNNAVISH_VALUE_COUNT: return "the count of values or of a yard is not the call's";
+    default: return dunnavish_status_text(status);
     }
 }
 

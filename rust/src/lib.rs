@@ -112,9 +112,10 @@ pub const WIDEST_WORD_BYTES: usize = 40;
 /// The most trams that a track holds.
 pub const MOST_TRAMS: usize = 64;
 
-/// Defines [`Refusal`] by one table: a name, the number in docs/FORMAT.md, and the reason, which is its documentation and text.
+/// Defines [`Refusal`] by two tables, of calls on a card or a code, and of those that only a call on a yard answers besides: a name, the
+/// number in docs/FORMAT.md, and the reason, which is its documentation and text.
 macro_rules! refusals {
-    ($($name:ident = $number:literal: $reason:literal,)+) => {
+    ({ $($name:ident = $number:literal: $reason:literal,)+ } { $($yard:ident = $yard_number:literal: $yard_reason:literal,)+ }) => {
         /// Why a call was refused. A call reports the first reason that holds, in the order of their numbers, but
         /// [`CardOffset`](Refusal::CardOffset) between [`CardStrayBits`](Refusal::CardStrayBits) and
         /// [`DependentRows`](Refusal::DependentRows), [`CodeLimits`](Refusal::CodeLimits) before any other, and
@@ -127,6 +128,7 @@ macro_rules! refusals {
         #[non_exhaustive]
         pub enum Refusal {
             $(#[doc = $reason] $name,)+
+            $(#[doc = $yard_reason] $yard,)+
             /// the library answered a status that this crate has no name for: the two are of different versions
             UnknownStatus(u32),
             /// the library read the word by a rule that this crate has no name for: the two are of different versions
@@ -147,24 +149,36 @@ macro_rules! refusals {
         }
 
         impl Refusal {
-            /// Every refusal that has a number, in the order of their numbers.
+            /// Every refusal of calls on a card or a code that has a number, in the order of their numbers.
             pub const ALL: &'static [Refusal] = &[$(Refusal::$name,)+];
+
+            /// Those that only calls on a [`Yard`] answer, in the order of their numbers.
+            pub const OF_A_YARD: &'static [Refusal] = &[$(Refusal::$yard,)+];
 
             /// Its number in `docs/FORMAT.md`, 1 to 22 or 26; none where the library and this crate are of different versions.
             pub fn number(self) -> Option<u32> {
                 match self {
                     $(Refusal::$name => Some($number),)+
+                    $(Refusal::$yard => Some($yard_number),)+
                     Refusal::UnknownStatus(_) | Refusal::UnknownRule(_) | Refusal::OtherChunks(_) => None,
                     Refusal::NeitherYesNorNo(_) | Refusal::NoSuchTram(_) | Refusal::MoreTrams => None,
                     Refusal::UnknownYardAnswer(_) => None,
                 }
             }
 
-            /// The refusal with this number, if there is one.
+            /// The refusal with this number of calls on a card or a code, if there is one.
             pub fn from_number(number: u32) -> Option<Refusal> {
                 match number {
                     $($number => Some(Refusal::$name),)+
                     _ => None,
+                }
+            }
+
+            /// The same of calls on a [`Yard`].
+            pub fn from_number_at_a_yard(number: u32) -> Option<Refusal> {
+                match number {
+                    $($yard_number => Some(Refusal::$yard),)+
+                    _ => Refusal::from_number(number),
                 }
             }
         }
@@ -173,6 +187,7 @@ macro_rules! refusals {
             fn fmt(&self, f: &mut fmt::Formatter<'_>) -> fmt::Result {
                 match self {
                     $(Refusal::$name => f.write_str(concat!($reason, " (refusal ", $number, ")")),)+
+                    $(Refusal::$yard => f.write_str(concat!($yard_reason, " (refusal ", $yard_number, ")")),)+
                     Refusal::UnknownStatus(status) => write!(f, "the library answered the unknown status {status}"),
                     Refusal::UnknownRule(rule) => write!(f, "the library read the word by the unknown rule {rule}"),
                     Refusal::OtherChunks(rule) => {
@@ -195,7 +210,7 @@ macro_rules! refusals {
     };
 }
 
-refusals! {
+refusals! {{
     CardLength = 1: "the card has not 512 bytes",
     CardCheck = 2: "the card's check differs from its bytes",
     CardLimits = 3: "the card's n is outside 1 to 64, or its k outside 1 to 12 or above n",
@@ -215,11 +230,12 @@ refusals! {
     ParityDiffers = 17: "a separator of the received word contradicts the parity of its codeword's number",
     TramCount = 18: "there are more than 64 trams",
     StretchLimits = 19: "a stretch or pair of marks has low above high, or a high or mark is above the last position",
+} {
     NoSuchTrack = 20: "the track's number is above 15",
     WrongTram = 21: "the requesting tram already holds or waits for a track, or the releasing tram is not the holder",
     WaitingFull = 22: "the track is held, and 32 trams already wait",
     YardUnsound = 26: "the yard has a tram twice, a tram waiting for a free track, or more than 32 waiting",
-}
+}}
 
 impl std::error::Error for Refusal {}
 
@@ -399,7 +415,7 @@ mod exported {
 }
 
 /// The status of a call as a result. A status without a name here is an error too. (100 is one: it says that too few or too many
-/// numbers, floats, answers, or bytes for a card were lent, and the calls below, and those of a yard, lend exactly enough.)
+/// numbers, floats, answers, or bytes for a card were lent, and the calls below lend exactly enough.)
 fn served(status: u32) -> Result<(), Refusal> {
     match status {
         0 => Ok(()),
@@ -681,7 +697,7 @@ mod tests {
         for refusal in Refusal::ALL {
             assert_eq!(served(refusal.number().unwrap()), Err(*refusal));
         }
-        for status in [23, 24, 25, 27, 99, 100, 101, u32::MAX] {
+        for status in [20, 99, 100, 101, u32::MAX] {
             assert_eq!(served(status), Err(Refusal::UnknownStatus(status)));
             assert_eq!(Refusal::UnknownStatus(status).number(), None);
         }

@@ -1,5 +1,5 @@
 //! The yard: sixteen tracks, who holds each of them, and who waits. A request and a release change it, by the library's calls.
-use crate::{exported, served, Refusal};
+use crate::{exported, Refusal};
 
 /// The numbers of a yard.
 pub const YARD_NUMBERS: usize = 97;
@@ -50,6 +50,14 @@ pub enum Released {
     Freed,
     /// It was accepted: this tram, the first of the track's queue, holds it.
     HandedTo(u16),
+}
+
+/// The status of a call as a result, as of the calls on a card. (Both calls lend exactly the numbers that 100 would miss.)
+fn served(status: u32) -> Result<(), Refusal> {
+    match status {
+        0 => Ok(()),
+        _ => Err(Refusal::from_number_at_a_yard(status).unwrap_or(Refusal::UnknownStatus(status))),
+    }
 }
 
 /// The value of a request as its answer. Any other number is an error.
@@ -170,7 +178,18 @@ impl Yard {
 
 #[cfg(test)]
 mod tests {
-    use super::{released, requested, track_of, Refusal, Released, Requested};
+    use super::{released, requested, served, track_of, Refusal, Released, Requested};
+
+    #[test]
+    fn an_unknown_status_is_an_error() {
+        assert_eq!(served(0), Ok(()));
+        for refusal in Refusal::ALL.iter().chain(Refusal::OF_A_YARD) {
+            assert_eq!(served(refusal.number().unwrap()), Err(*refusal));
+        }
+        for status in [23, 24, 25, 27, 99, 100, 101, u32::MAX] {
+            assert_eq!(served(status), Err(Refusal::UnknownStatus(status)));
+        }
+    }
 
     #[test]
     fn an_unknown_answer_is_an_error() {

@@ -19,7 +19,7 @@ fn one_version() {
 
 #[test]
 fn one_table_of_refusals() {
-    for refusal in Refusal::ALL {
+    for refusal in Refusal::ALL.iter().chain(Refusal::OF_A_YARD) {
         let number = refusal.number().unwrap();
         let text = refusal.to_string().replace(&format!(" (refusal {number})"), "");
         let named = HEADER.split(&format!(" = {number},")).next().and_then(|before| before.split_whitespace().last());
@@ -71,13 +71,25 @@ fn no_tram() {
 
 #[test]
 fn refusals_have_the_documents_numbers() {
-    let numbers: Vec<u32> = (1..=22).chain([26]).collect();
-    assert_eq!(Refusal::ALL.len(), numbers.len());
-    for (&number, refusal) in numbers.iter().zip(Refusal::ALL) {
+    assert_eq!(Refusal::ALL.len(), 19);
+    for (number, refusal) in (1..).zip(Refusal::ALL) {
         assert_eq!(refusal.number(), Some(number));
         assert_eq!(Refusal::from_number(number), Some(*refusal));
     }
+    assert_eq!(Refusal::from_number(0), None);
+    assert_eq!(Refusal::from_number(20), None);
+    assert_eq!(Refusal::from_number(100), None);
+}
+
+#[test]
+fn refusals_at_a_yard_have_the_documents_numbers() {
+    let numbers = [20, 21, 22, 26];
+    assert_eq!(Refusal::OF_A_YARD.len(), numbers.len());
+    for (number, refusal) in (1..).zip(Refusal::ALL).chain(numbers.into_iter().zip(Refusal::OF_A_YARD)) {
+        assert_eq!(refusal.number(), Some(number));
+        assert_eq!(Refusal::from_number_at_a_yard(number), Some(*refusal));
+    }
     for number in [0, 23, 24, 25, 27, 100] {
-        assert_eq!(Refusal::from_number(number), None);
+        assert_eq!(Refusal::from_number_at_a_yard(number), None);
     }
 }

@@ -9,7 +9,8 @@
 
 #include "dunnavish.h"
 
-#define KNOWN 25
+#define KNOWN 21
+#define YARD_KNOWN 25
 
 static int failed = 0;
 
@@ -24,8 +25,7 @@ static void expect(int holds, const char *what, unsigned long number)
 /* Every status has a text of its own, and every other number the same one, which is none of them. */
 static void status_texts(void)
 {
-    static const uint32_t known[KNOWN] = {0,  1,  2,  3,  4,  5,  6,  7,  8,  9,  10, 11, 12,
-                                          13, 14, 15, 16, 17, 18, 19, 20, 21, 22, 26, 100};
+    static const uint32_t known[KNOWN] = {0, 1, 2, 3, 4, 5, 6, 7, 8, 9, 10, 11, 12, 13, 14, 15, 16, 17, 18, 19, 100};
     const char *unknown = dunnavish_status_text(UINT32_MAX);
     uint32_t status;
     int i, j;
@@ -37,9 +37,30 @@ static void status_texts(void)
         for (j = 0; j < i; j++)
             expect(strcmp(text, dunnavish_status_text(known[j])) != 0, "the text of another for status", known[i]);
     }
+    for (status = 20; status < 100000; status++)
+        if (status != 100)
+            expect(strcmp(dunnavish_status_text(status), unknown) == 0, "a text for the unknown status", status);
+}
+
+/* The same of the calls on a yard, which have four statuses more. */
+static void yard_status_texts(void)
+{
+    static const uint32_t known[YARD_KNOWN] = {0,  1,  2,  3,  4,  5,  6,  7,  8,  9,  10, 11, 12,
+                                               13, 14, 15, 16, 17, 18, 19, 20, 21, 22, 26, 100};
+    const char *unknown = dunnavish_status_text(UINT32_MAX);
+    uint32_t status;
+    int i, j;
+
+    for (i = 0; i < YARD_KNOWN; i++) {
+        const char *text = dunnavish_yard_status_text(known[i]);
+
+        expect(strcmp(text, unknown) != 0, "no text at a yard for status", known[i]);
+        for (j = 0; j < i; j++)
+            expect(strcmp(text, dunnavish_yard_status_text(known[j])) != 0, "the text of another at a yard for status", known[i]);
+    }
     for (status = 23; status < 100000; status++)
         if (status != 26 && status != 100)
-            expect(strcmp(dunnavish_status_text(status), unknown) == 0, "a text for the unknown status", status);
+            expect(strcmp(dunnavish_yard_status_text(status), unknown) == 0, "a text at a yard for the unknown status", status);
 }
 
 /* Reads a card's file. Answers whether that went well. */
@@ -485,6 +506,7 @@ int main(int argc, char **argv)
     snprintf(version, sizeof version, "%d.%d.%d", DUNNAVISH_VERSION_MAJOR, DUNNAVISH_VERSION_MINOR, DUNNAVISH_VERSION_PATCH);
     expect(strcmp(version, DUNNAVISH_VERSION) == 0, "the version's string is not its numbers", 0);
     status_texts();
+    yard_status_texts();
     read_indices();
     if (!read_card(argc > 1 ? argv[1] : "examples/cardB", card_b))
         return 1;
