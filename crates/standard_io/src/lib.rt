@@ -35,7 +35,7 @@ impl Received {
 
 // Writes some bytes to standard error. Where that fails, nothing is left to say so on.
 fn put_error(rt: &HostRuntime, bytes: &[u8]) {
-    let _ = rt.stderr().write_all(bytes);
+    let _ = Write::write_all(&mut rt.stderr(), bytes);
 }
 
 // Writes a line to standard error: the message, a colon and the reason. std puts the error's number behind a reason of the system's, in
@@ -120,11 +120,12 @@ pub fn receive_all(rt: &HostRuntime, buffer: &mut [u8], message: &[u8]) -> Recei
     }
 }
 
-// Writes the first `end` bytes of the buffer, and answers whether all of them were taken.
+// Writes the first `end` bytes of the buffer, and answers whether all of them were taken. (The method that std's printing has under that
+// name gives up after some interruptions.)
 pub fn put_all(rt: &HostRuntime, buffer: &[u8], end: usize, message: &[u8]) -> bool
     requires { end ≤ length buffer.now }
 {
-    match rt.stdout().write_all(&buffer[..end]) {
+    match Write::write_all(&mut rt.stdout(), &buffer[..end]) {
         Ok(()) => true,
         Err(error) => {
             print_failure(rt, message, error);
