@@ -42,7 +42,7 @@ use Rattle.dunnavish.specs.Decoding.{card_left, write_left, bits_left, read_left
 use Rattle.dunnavish.specs.Decoding.{place_left, nearest_left}
 use Rattle.dunnavish.specs.Crossing.{number_count}
 use Rattle.dunnavish.specs.YardNumbers.{yard_lent, requested_left, released_left}
-use Rattle.dunnavish.specs.LosslessDecoding.{Kept, LosslessDecoding}
+use Rattle.dunnavish.specs.LosslessDecoding.{Kept, LosslessDecoding, LosslessYards}
 use Rattle.dunnavish.proofs.YardNumbers.{numbers_back}
 
 -- decoding keeps status and numbers where it keeps those of what is served
@@ -167,15 +167,20 @@ lossless_decoding =
           (λ left is. place_kept (get_or left 0 0) ∙ all_entries 0 1 left is);
       each_status = each_status_kept;
       each_tram = flags_kept;
-      request_status_lem = request_status_kept;
-      request_value = request_value_kept;
-      release_status_lem = release_status_kept;
-      release_value = release_value_kept;
-      yard_numbers_lem = numbers_back;
       write = λ s. (status_and_values write_status write_values s [] WriteRefused Written (λ n. refl) (λ n. refl) refl refl).0;
       written = refl;
       by_rule_1 = refl;
       by_rule_2 = refl;
       last_place = refl;
       no_place = refl;
+    }
+
+pub lossless_yards : LosslessYards
+lossless_yards =
+    record {
+      requested = request_status_kept;
+      request_value = request_value_kept;
+      released = release_status_kept;
+      release_value = release_value_kept;
+      numbers = numbers_back;
     }

@@ -28,7 +28,7 @@ use Rattle.tram_theory.proofs.TramPromises.{served}
 use Rattle.dunnavish.specs.Crossing.{number_count, wrong_count, trams_lent, status_for, left_by, UnchangedUnlessZero}
 use Rattle.dunnavish.specs.Decoding.{each_tram_left, place_left, nearest_left}
 use Rattle.dunnavish.proofs.Inherited.{Contract}
-use Rattle.dunnavish.proofs.Lent.{wrong_count_crosses, refusal_crosses, values_cross, status_lent, unchanged_by}
+use Rattle.dunnavish.proofs.Lent.{wrong_count_crosses, status_lent, unchanged_by}
 
 -- ---- answers as bytes, and back
 

@@ -1,7 +1,7 @@
 -- The laws for both calls on the yard, one for each way out: a wrong count of what is lent, a refusal, and what is left where the call is
 -- served. Where what is returned and left decodes to the library's answer, whatever is promised of that holds of what is decoded. Assumes
 -- nothing.
-use mathlib.Core.Path.{◌≡◌, refl, sym, ap, subst, ◌∙◌}
+use mathlib.Core.Path.{◌≡◌, refl, sym, subst, ◌∙◌}
 use mathlib.Core.Bool.{Bool, false}
 use mathlib.Core.List.{List, []}
 use Prim.Native.Nat.{ℕ}
@@ -10,7 +10,7 @@ use lib.ListN.{length}
 use Rattle.model.specs.declared.Yard.{Yard}
 use Rattle.dunnavish.specs.Crossing.{number_count, wrong_count, status_for, left_by, UnchangedUnlessZero}
 use Rattle.dunnavish.specs.YardNumbers.{yard_count, yard_left_by}
-use Rattle.dunnavish.proofs.Lent.{wrong_count_crosses, values_cross, status_lent, unchanged_by}
+use Rattle.dunnavish.proofs.Lent.{wrong_count_crosses, status_lent}
 
 -- of the definition's answer: its status, its values and the yard that it leaves
 module _ {R : Type 0} (status : ℕ) (values : List ℕ) (after : Yard) (decoded : (s : ℕ) (values yard : List ℕ) → R)

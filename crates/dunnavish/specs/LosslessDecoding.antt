@@ -1,9 +1,9 @@
 -- Decoding loses nothing: the answer that a status and the numbers left stand for has that status and, where the call was served, those
 -- numbers for its values. So what is promised of the decoded answer is promised of just what a caller in C was left. No two answers have
--- the same status and values, with five exceptions: a write that is done has the status of a refusal by 0, a chunk that was not read has
--- a number that could be a count, and no tram one that could be a place; of these three, rows say which is meant. The answers for trams
--- past the count, or beside a refusal, which are all no, do not cross. And the tram that a track is handed to is no value of a release: it
--- is the holder in the yard that is left. Assumes nothing.
+-- the same status and values, with four exceptions: a write that is done has the status of a refusal by 0, a chunk that was not read has
+-- a number that could be a count, and no tram one that could be a place; of these three, rows say which is meant. And the answers for
+-- trams past the count, or beside a refusal, which are all no, do not cross. Of the calls on the yard, `LosslessYards` says the same; the
+-- tram that a track is handed to is no value of a release: it is the holder in the yard that is left. Assumes nothing.
 use Rattle.std.specs.Prelude.{◌≡◌, List, [], ◌∷◌, ℕ, ◌≤◌, ◌<◌, length, get_or}
 use Rattle.model.specs.Reading.{not_read}
 use Rattle.model.specs.CheckCard.{card_status, card_values}
@@ -40,15 +40,6 @@ pub record LosslessDecoding : Type 0 where
   pub each_status : (s : ℕ) (left : List ℕ) → (each_tram_left s left).refusal ≡ s
   pub each_tram : (left : List ℕ) → length left ≤ most_trams → ((i : ℕ) → get_or left i 0 < 2)
       → yes_values (length left) (each_tram_left 0 left) ≡ left
-  -- of a request and of a release: every status; where it is 0, every value that stands for an answer; and the 97 numbers of every yard
-  -- that is left, whose flags are 0 and 1
-  pub request_status_lem : (s : ℕ) (left yard : List ℕ) → request_status (requested_left s left yard).answer ≡ s
-  pub request_value : (left yard : List ℕ) → length left ≡ number_count → get_or left 0 0 < 2 → request_values (requested_left 0 left yard).answer ≡ left
-  pub release_status_lem : (track s : ℕ) (left yard : List ℕ) → release_status (released_left track s left yard).answer ≡ s
-  pub release_value : (track : ℕ) (left yard : List ℕ) → length left ≡ number_count → get_or left 0 0 < 3
-      → release_values (released_left track 0 left yard).answer ≡ left
-  pub yard_numbers_lem : (yard : List ℕ) → length yard ≡ yard_count → ((track : ℕ) → track < track_count → get_or yard track 0 < 2)
-      → yard_numbers (yard_lent yard) ≡ yard
   pub write : (s : ℕ) → write_status (write_left s) ≡ s
   pub written : write_left 0 ≡ Written
   pub by_rule_1 : read_left 0 (7 ∷ 3 ∷ 1 ∷ 2 ∷ not_read ∷ [])
@@ -57,3 +48,15 @@ pub record LosslessDecoding : Type 0 where
       ≡ At (record { position = 7; residual = 3; rule = 2; chunk1 = NotRead; chunk2 = Differing 0 })
   pub last_place : nearest_left 0 (63 ∷ []) ≡ Tram 63
   pub no_place : nearest_left 0 (no_tram ∷ []) ≡ NoTram
+
+-- of a request and of a release: every status; where it is 0, every value that stands for an answer; and the 97 numbers of every yard
+-- that is left, whose flags are 0 and 1
+pub record LosslessYards : Type 0 where
+  pub requested : (s : ℕ) (left yard : List ℕ) → request_status (requested_left s left yard).answer ≡ s
+  pub request_value : (left yard : List ℕ) → length left ≡ number_count → get_or left 0 0 < 2
+      → request_values (requested_left 0 left yard).answer ≡ left
+  pub released : (track s : ℕ) (left yard : List ℕ) → release_status (released_left track s left yard).answer ≡ s
+  pub release_value : (track : ℕ) (left yard : List ℕ) → length left ≡ number_count → get_or left 0 0 < 3
+      → release_values (released_left track 0 left yard).answer ≡ left
+  pub numbers : (yard : List ℕ) → length yard ≡ yard_count → ((track : ℕ) → track < track_count → get_or yard track 0 < 2)
+      → yard_numbers (yard_lent yard) ≡ yard

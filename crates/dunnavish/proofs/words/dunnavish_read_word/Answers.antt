@@ -1,0 +1,32 @@
+-- `dunnavish::words::dunnavish_read_word` meets its contract: the count of the lent numbers, then the library's answer. Assumes nothing.
+use mathlib.Core.Path.{refl}
+use Rattle.model.specs.ReadWord.{read_status, read_values, read_expected}
+use Rattle.model.specs.declared.ReadAnswer.TheVariants.{Refused}
+use Rattle.dunnavish.specs.Decoding.{read_left}
+use Rattle.dunnavish.proofs.Inherited.{wrong_count_lem, refused, served}
+use Rattle.dunnavish.proofs.ReadsDecode.{read_decodes}
+use Rattle.dunnavish.proofs.ReadsCross.{PromisedOfRead, read_crosses}
+use Rattle.dunnavish.proofs.words.dunnavish_read_word.Goals as goal
+
+pub returns-then-values-ne5 : goal.returns-then-values-ne5
+returns-then-values-ne5 c =
+    let all = read_crosses _ _ _ _ _ (wrong_count_lem read_status read_values Refused read_left (PromisedOfRead _ _) _ _ c.if-values-ne5.true) in
+    record { status = all.0; left = all.1.0; unchanged = all.1.1.0; bounded = all.1.1.1.0; sharper = all.1.1.1.1.0; promises = all.1.1.1.1.1 }
+
+pub returns-in-Refused : goal.returns-in-Refused
+unfolding read_status read_values read_expected read_left
+returns-in-Refused c =
+    let all = read_crosses _ _ _ _ _
+    (refused read_status read_values Refused read_left (PromisedOfRead _ _) _ _ c.if-values-ne5.false _ (c.read_word-answer.ensures.answer, (c.read_word-answer.ensures.status, (c.read_word-answer.ensures.values, (c.read_word-answer.ensures.bounded, (c.read_word-answer.ensures.sharper, c.read_word-answer.ensures.promises))))) refl _
+    c.in-Refused.is refl refl _ refl) in
+    record { status = all.0; left = all.1.0; unchanged = all.1.1.0; bounded = all.1.1.1.0; sharper = all.1.1.1.1.0; promises = all.1.1.1.1.1 }
+
+pub returns-in-At : goal.returns-in-At
+unfolding read_status
+returns-in-At c =
+    let all = let given = c.in-At.is in
+    let is = c.read_word-answer.ensures.answer in
+    read_crosses _ _ _ _ _
+    (served read_status read_values Refused read_left (PromisedOfRead _ _) _ _ c.if-values-ne5.false _ (c.read_word-answer.ensures.answer, (c.read_word-answer.ensures.status, (c.read_word-answer.ensures.values, (c.read_word-answer.ensures.bounded, (c.read_word-answer.ensures.sharper, c.read_word-answer.ensures.promises))))) _ _
+    given refl c.put_reading.ensures (read_decodes _ _ given _ is c.read_word-answer.ensures.promises.bits)) in
+    record { status = all.0; left = all.1.0; unchanged = all.1.1.0; bounded = all.1.1.1.0; sharper = all.1.1.1.1.0; promises = all.1.1.1.1.1 }
