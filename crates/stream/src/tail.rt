@@ -4,8 +4,8 @@ ghost use Rattle.std.specs.Prelude.{◌≡◌, ◌-◌, ◌≤◌, length, take,
 // Moves the bytes from place `from` up to `end` to the front of the buffer, and answers how many they are.
 pub fn keep_tail(buffer: &mut [u8], from: usize, end: usize) -> usize
     requires { (from ≤ end) × (end ≤ length buffer.old) }
-    ensures value { result ≡ end - from }
-    ensures buffer_after { take result buffer.new ≡ take (end - from) (drop from buffer.old) }
+    ensures count { result ≡ end - from }
+    ensures moved { take result buffer.new ≡ take (end - from) (drop from buffer.old) }
 {
     let mut kept: usize = 0;
     while from + kept < end {

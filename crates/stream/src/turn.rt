@@ -51,9 +51,9 @@ pub fn take_in(
     before: Progress,
 ) -> Taken
     requires sound { Sound (meaning code) }
-    requires held_le_n { (before.held ≤ n) × (start + n ≤ length input.old) × (before.read ≤ before.met) }
-    requires line_room_in_bounds { n / word_length (meaning code) * line_room ≤ length out.old }
-    requires code_bound { before.met + n / word_length (meaning code) < 2 ^ 64 }
+    requires within { (before.held ≤ n) × (start + n ≤ length input.old) × (before.read ≤ before.met) }
+    requires room { n / word_length (meaning code) * line_room ≤ length out.old }
+    requires met_fits { before.met + n / word_length (meaning code) < 2 ^ 64 }
     ensures taken { TakenIn (meaning code) (take n (drop start input.old)) before
         (drop start input.new) out.old out.new result }
     ensures follows { Follows (meaning code) (drop start input.old) n before
@@ -81,7 +81,7 @@ pub fn put_end(out: &mut [u8], progress: Progress) -> usize
     ensures put { Puts out.old 0 (short_line progress.held ++ last_line progress.met progress.read)
         out.new result }
     ensures room { result ≤ 2 * line_room }
-    ensures whole { Completes progress (take result out.new) }
+    ensures completes { Completes progress (take result out.new) }
 {
     let last_at = lines::put_short_line(out, 0, progress.held as u64);
     lines::put_last_line(out, last_at, progress.met, progress.read)

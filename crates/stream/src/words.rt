@@ -42,12 +42,12 @@ pub fn put_words(
     words: usize,
 ) -> WordsPut
     requires sound { Sound (meaning code) }
-    requires code_in_bounds { (start + words * word_length (meaning code) ≤ length bytes.now) × (at + words * line_room ≤ length out.old)
+    requires fits { (start + words * word_length (meaning code) ≤ length bytes.now) × (at + words * line_room ≤ length out.old)
         × (met + words < 2 ^ 64) }
     ensures puts { Puts out.old at (word_lines (meaning code) (drop start bytes.now) met words)
         out.new result.next }
-    ensures next_bound { result.next ≤ at + words * line_room }
-    ensures read_value { (result.read ≡ words_read (meaning code) (drop start bytes.now) words) × (result.read ≤ words) }
+    ensures room { result.next ≤ at + words * line_room }
+    ensures counted { (result.read ≡ words_read (meaning code) (drop start bytes.now) words) × (result.read ≤ words) }
 {
     let w = layout::word_length(code);
     let mut next = at;
