@@ -89,10 +89,12 @@ module _ (track r m : List ℕ) where
   -- what the contract says of the answer
   abbrev Meets : Answer → Type 0
   Meets a =
-      (a ≡ request_answer track r m)
-      × ((request_status a ≡ request_refusal track r m)
-      × ((request_values a ≡ if_served (request_status a) (request_card track r m))
-      × (a.outcome ≡ Made → IsReedMullerCard (number_in track) (number_in r) (number_in m) a.card)))
+      record {
+        answer : a ≡ request_answer track r m;
+        status : request_status a ≡ request_refusal track r m;
+        values : request_values a ≡ if_served (request_status a) (request_card track r m);
+        made : a.outcome ≡ Made → IsReedMullerCard (number_in track) (number_in r) (number_in m) a.card;
+      }
 
   request_answered : StatusAndValues request_status request_values (request_refusal track r m) (request_card track r m) (request_answer track r m)
   unfolding request_answer outcome_status outcome_values
@@ -100,7 +102,8 @@ module _ (track r m : List ℕ) where
       status_and_values request_status request_values _ (request_card track r m) no_card _ (λ number. refl) (λ number. refl) refl refl
 
   meets : {a : Answer} → a ≡ request_answer track r m → Meets a
-  meets e = let (status, values) = request_answered in rw e (refl, (status, (values, made_card)))
+  meets e =
+      let (status, values) = request_answered in rw e record { answer = refl; status = status; values = values; made = made_card }
 
   pub no_track_lem : NoNumber ≡ number_text greatest_track track → {a : Answer} → a ≡ no_card no_track → Meets a
   unfolding request_answer request_refusal first_refusal unless_refused
