@@ -81,7 +81,7 @@ pub fn put_end(out: &mut [u8], progress: Progress) -> usize
     ensures put { Puts out.old 0 (short_line progress.held ++ last_line progress.met progress.read)
         out.new result }
     ensures room { result ≤ 2 * line_room }
-    ensures completes { Completes progress (take result out.new) }
+    ensures whole { Completes progress (take result out.new) }
 {
     let last_at = lines::put_short_line(out, 0, progress.held as u64);
     lines::put_last_line(out, last_at, progress.met, progress.read)

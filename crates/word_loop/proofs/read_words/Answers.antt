@@ -73,7 +73,7 @@ returns-then-count-eq0 c =
         record {
           came = reached.all;
           text = reached.text;
-          whole = c.put_end.ensures.completes _ reached.all reached.text _ reached.streamed;
+          whole = c.put_end.ensures.whole _ reached.all reached.text _ reached.streamed;
         },
       );
       ended = (omega arith, sym c.failed.ensures ∙ c.if-failed.false);

@@ -7,4 +7,4 @@ use Rattle.stream.proofs.turn.put_end.Goals as goal
 pub returns : goal.returns
 returns c =
     let put = puts_then (omega arith) c.put_short_line-last_at.ensures.puts c.put_last_line.ensures.puts in
-    record { put = put; room = omega (arith, c.put_short_line-last_at.ensures.upper_bound); completes = completes _ put }
+    record { put = put; room = omega (arith, c.put_short_line-last_at.ensures.upper_bound); whole = completes _ put }
