@@ -111,7 +111,11 @@ put_out-requires c =
     let reached = reached_again at.After-receive_words-came in
     let streamed = c.take_in-taken.ensures.follows reached.all reached.text reached.streamed in
     let next = (turned _ _ _ _ _ _ _ _ c.take_in-taken.ensures.taken (inside at.After-count-count) (few at.After-count-count)).1 in
-    record { end_in_bounds = omega (arith, next, c.take_in-taken.auto.out, c.loop-turns.invariant.1); part_of_report = turn_lines_part _ c.requires.from_card reached.text _ streamed }
+    record {
+      end_in_bounds = omega (arith, next, c.take_in-taken.auto.out, c.loop-turns.invariant.1);
+      part_of_report = turn_lines_part _
+          c.requires.from_card reached.text _ streamed;
+    }
 
 pub returns-then-not-put_out : goal.returns-then-not-put_out
 unfolding LastPart OnlyAtEnd

@@ -13,7 +13,8 @@ use Rattle.card_reader.proofs.CardDecoding.{least, least_of_card, refusal_4, ref
 use Rattle.card_reader.proofs.CardDecoding.{refused_from, decoded_from}
 use Rattle.card_reader.proofs.SplitRows.{Narrow}
 use Rattle.card_reader.proofs.CardRefusals.{refusal_1, refusal_2, refusal_3, misplaced_of_card}
-use Rattle.card_reader.proofs.decode.decode.Goals.{After-has_misplaced, After-least_weight-distance, After-offset_is_outside, After-offset_of-offset, After-within_limits, Else-not-within_limits, Else-stored_check-computed_check}
+use Rattle.card_reader.proofs.decode.decode.Goals.{After-has_misplaced, After-least_weight-distance, After-offset_is_outside}
+use Rattle.card_reader.proofs.decode.decode.Goals.{After-offset_of-offset, After-within_limits, Else-not-within_limits, Else-stored_check-computed_check}
 use Rattle.card_reader.proofs.decode.decode.Goals as goal
 
 -- past the second test: the two checks are equal

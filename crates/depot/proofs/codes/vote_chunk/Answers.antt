@@ -23,7 +23,8 @@ all_positions-requires c = (order_limits_of_test _ _ (within c)).1
 
 pub returns-then-all_positions-chunk : goal.returns-then-all_positions-chunk
 returns-then-all_positions-chunk c =
-    let all = vote_too_wide _ _ _ (within (goal.at.returns-then-all_positions-chunk c).Else-not-order_within_limits) _ c.all_positions.ensures c.if-all_positions-chunk.true in
+    let all = vote_too_wide _ _ _ (within (goal.at.returns-then-all_positions-chunk c).Else-not-order_within_limits) _ c.all_positions.ensures
+    c.if-all_positions-chunk.true in
     record { answer = all.0; status = all.1.0; values = all.1.1.0; promises = all.1.1.1 }
 
 -- a chunk of n bits
@@ -35,10 +36,12 @@ vote-read-requires c = (within (goal.at.vote-read-requires c).Else-not-order_wit
 
 pub returns-in-Unreadable : goal.returns-in-Unreadable
 returns-in-Unreadable c =
-    let all = vote_unreadable _ _ _ (within (goal.at.returns-in-Unreadable c).Else-not-order_within_limits) (narrow (goal.at.returns-in-Unreadable c).Else-all_positions-chunk) _ c.vote-read.ensures c.in-Unreadable.is in
+    let all = vote_unreadable _ _ _ (within (goal.at.returns-in-Unreadable c).Else-not-order_within_limits) (narrow
+    (goal.at.returns-in-Unreadable c).Else-all_positions-chunk) _ c.vote-read.ensures c.in-Unreadable.is in
     record { answer = all.0; status = all.1.0; values = all.1.1.0; promises = all.1.1.1 }
 
 pub returns-in-Codeword : goal.returns-in-Codeword
 returns-in-Codeword c =
-    let all = vote_read _ _ _ (within (goal.at.returns-in-Codeword c).Else-not-order_within_limits) (narrow (goal.at.returns-in-Codeword c).Else-all_positions-chunk) _ c.vote-read.ensures _ _ c.in-Codeword.is in
+    let all = vote_read _ _ _ (within (goal.at.returns-in-Codeword c).Else-not-order_within_limits) (narrow
+    (goal.at.returns-in-Codeword c).Else-all_positions-chunk) _ c.vote-read.ensures _ _ c.in-Codeword.is in
     record { answer = all.0; status = all.1.0; values = all.1.1.0; promises = all.1.1.1 }

@@ -7,7 +7,14 @@ use Rattle.depot.proofs.level_words.read_levels.Goals as goal
 pub returns-then-decoded-ne0 : goal.returns-then-decoded-ne0
 returns-then-decoded-ne0 c =
     let all = levels_card_refused _ c.args.levels.now _ c.decode-decoded.ensures c.if-decoded-ne0.true in
-    record { answer = all.0; status = all.1.0; values = all.1.1.0; strength = all.1.1.1.0; bounded = all.1.1.1.1.0; promises = all.1.1.1.1.1 }
+    record {
+      answer = all.0;
+      status = all.1.0;
+      values = all.1.1.0;
+      strength = all.1.1.1.0;
+      bounded = all.1.1.1.1.0;
+      promises = all.1.1.1.1.1;
+    }
 
 pub read_level_word-requires : goal.read_level_word-requires
 read_level_word-requires c = c.decode-decoded.ensures.sound c.if-decoded-ne0.false
@@ -15,4 +22,11 @@ read_level_word-requires c = c.decode-decoded.ensures.sound c.if-decoded-ne0.fal
 pub returns : goal.returns
 returns c =
     let all = levels_read _ c.args.levels.now _ c.decode-decoded.ensures c.if-decoded-ne0.false _ c.read_level_word.ensures in
-    record { answer = all.0; status = all.1.0; values = all.1.1.0; strength = all.1.1.1.0; bounded = all.1.1.1.1.0; promises = all.1.1.1.1.1 }
+    record {
+      answer = all.0;
+      status = all.1.0;
+      values = all.1.1.0;
+      strength = all.1.1.1.0;
+      bounded = all.1.1.1.1.0;
+      promises = all.1.1.1.1.1;
+    }

@@ -45,5 +45,6 @@ from_face-requires c = (
 pub returns : goal.returns
 returns c =
     let all = millimetres_within _ _ c.decode-decoded.ensures c.if-decoded-ne0.false _ _ c.last_position.ensures
-    c.if-last_position-position.false _ (to_z-of_z {w = w32} (record { sfits = c.from_face.type_inv }) ∙ rw (is_offset (goal.at.returns c).Else-last_position-position) at c.from_face.ensures) in
+    c.if-last_position-position.false _ (to_z-of_z {w = w32} (record { sfits = c.from_face.type_inv }) ∙ rw (is_offset
+    (goal.at.returns c).Else-last_position-position) at c.from_face.ensures) in
     record { answer = all.0; status = all.1.0; values = all.1.1.0; promises = all.1.1.1 }

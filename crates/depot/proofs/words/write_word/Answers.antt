@@ -33,32 +33,70 @@ on_track c = rw c.last_position.ensures at c.if-last_position-position.false
 pub returns-then-decoded-ne0 : goal.returns-then-decoded-ne0
 returns-then-decoded-ne0 c =
     let all = write_card_refused _ c.args.position c.args.word.now _ c.decode-decoded.ensures c.if-decoded-ne0.true in
-    record { answer = all.0; status = all.1.0; values = all.1.1.0; left = all.1.1.1.0; neighbours = all.1.1.1.1.0; alone = all.1.1.1.1.1.0; promises = all.1.1.1.1.1.1 }
+    record {
+      answer = all.0;
+      status = all.1.0;
+      values = all.1.1.0;
+      left = all.1.1.1.0;
+      neighbours = all.1.1.1.1.0;
+      alone = all.1.1.1.1.1.0;
+      promises = all.1.1.1.1.1.1;
+    }
 
 pub word_length-requires : goal.word_length-requires
 word_length-requires c = sound (goal.at.word_length-requires c).Else-decoded-ne0
 
 pub returns-then-word-word_length : goal.returns-then-word-word_length
 returns-then-word-word_length c =
-    let all = refused_6 (passed (goal.at.returns-then-word-word_length c).Else-decoded-ne0) _ _ (λ e. c.if-word-word_length.true (e ∙ sym c.word_length.ensures.0)) in
-    record { answer = all.0; status = all.1.0; values = all.1.1.0; left = all.1.1.1.0; neighbours = all.1.1.1.1.0; alone = all.1.1.1.1.1.0; promises = all.1.1.1.1.1.1 }
+    let all = refused_6 (passed (goal.at.returns-then-word-word_length c).Else-decoded-ne0) _ _ (λ e. c.if-word-word_length.true
+    (e ∙ sym c.word_length.ensures.0)) in
+    record {
+      answer = all.0;
+      status = all.1.0;
+      values = all.1.1.0;
+      left = all.1.1.1.0;
+      neighbours = all.1.1.1.1.0;
+      alone = all.1.1.1.1.1.0;
+      promises = all.1.1.1.1.1.1;
+    }
 
 pub last_position-requires : goal.last_position-requires
 last_position-requires c = sound (goal.at.last_position-requires c).Else-decoded-ne0
 
 pub returns-then-last_position-position : goal.returns-then-last_position-position
 returns-then-last_position-position c =
-    let all = refused_7 (passed (goal.at.returns-then-last_position-position c).Else-decoded-ne0) _ _ (whole (goal.at.returns-then-last_position-position c).Else-word-word_length)
+    let all = refused_7 (passed (goal.at.returns-then-last_position-position c).Else-decoded-ne0) _ _ (whole
+    (goal.at.returns-then-last_position-position c).Else-word-word_length)
     (rw c.last_position.ensures at c.if-last_position-position.true) in
-    record { answer = all.0; status = all.1.0; values = all.1.1.0; left = all.1.1.1.0; neighbours = all.1.1.1.1.0; alone = all.1.1.1.1.1.0; promises = all.1.1.1.1.1.1 }
+    record {
+      answer = all.0;
+      status = all.1.0;
+      values = all.1.1.0;
+      left = all.1.1.1.0;
+      neighbours = all.1.1.1.1.0;
+      alone = all.1.1.1.1.1.0;
+      promises = all.1.1.1.1.1.1;
+    }
 
 pub write-requires : goal.write-requires
 write-requires c =
     let at = goal.at.write-requires c in
-    record { sound = (sound at.Else-decoded-ne0, on_track at.Else-last_position-position); lent_len = whole at.Else-word-word_length }
+    record {
+      sound = (sound at.Else-decoded-ne0, on_track at.Else-last_position-position);
+      lent_len = whole at.Else-word-word_length;
+    }
 
 pub returns : goal.returns
 returns c =
-    let all = written (passed (goal.at.returns c).Else-decoded-ne0) _ _ (whole (goal.at.returns c).Else-word-word_length) (on_track (goal.at.returns c).Else-last_position-position) _
+    let all = written (passed (goal.at.returns c).Else-decoded-ne0) _ _ (whole (goal.at.returns c).Else-word-word_length) (on_track
+    (goal.at.returns c).Else-last_position-position) _
     c.write.ensures in
-    record { answer = all.0; status = all.1.0; values = all.1.1.0; left = all.1.1.1.0; neighbours = all.1.1.1.1.0; alone = all.1.1.1.1.1.0; promises = all.1.1.1.1.1.1 }
+    record {
+      answer = all.0;
+      status = all.1.0;
+      values = all.1.1.0;
+      left = all.1.1.1.0;
+      neighbours = all.1.1.1.1.0;
+      alone = all.1.1.1.1.1.0;
+      promises = all.1.1.1.1.1.1;
+    }

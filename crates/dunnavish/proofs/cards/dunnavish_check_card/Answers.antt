@@ -15,13 +15,27 @@ returns-then-values-ne7 c =
 pub returns-in-Refused : goal.returns-in-Refused
 unfolding card_status card_values card_expected card_left
 returns-in-Refused c =
-    let all = refused card_status card_values Refused card_left (CheckPromises _) _ _ c.if-values-ne7.false _ (c.check_card-answer.ensures.answer, (c.check_card-answer.ensures.status, (c.check_card-answer.ensures.values, c.check_card-answer.ensures.promises))) refl _
+    let met = c.check_card-answer.ensures in
+    let all = refused card_status card_values Refused card_left (CheckPromises _) _ _ c.if-values-ne7.false _ (
+      met.answer,
+      (
+        met.status,
+        (met.values, met.promises),
+      ),
+    ) refl _
     c.in-Refused.is refl refl _ refl in
     record { status = all.0; left = all.1.0; unchanged = all.1.1.0; promises = all.1.1.1 }
 
 pub returns-in-Sound : goal.returns-in-Sound
 unfolding card_status card_values card_left
 returns-in-Sound c =
-    let all = stored card_status card_values Refused card_left (CheckPromises _) _ _ c.if-values-ne7.false _ (c.check_card-answer.ensures.answer, (c.check_card-answer.ensures.status, (c.check_card-answer.ensures.values, c.check_card-answer.ensures.promises))) _
+    let met = c.check_card-answer.ensures in
+    let all = stored card_status card_values Refused card_left (CheckPromises _) _ _ c.if-values-ne7.false _ (
+      met.answer,
+      (
+        met.status,
+        (met.values, met.promises),
+      ),
+    ) _
     c.in-Sound.is refl refl refl in
     record { status = all.0; left = all.1.0; unchanged = all.1.1.0; promises = all.1.1.1 }

@@ -10,15 +10,18 @@ returns-then-card-ne512 c =
 
 pub returns-then-made-ne0 : goal.returns-then-made-ne0
 returns-then-made-ne0 c =
-    let all = make_refused _ _ _ _ c.if-card-ne512.false _ (c.make_card-made.ensures.answer, (c.make_card-made.ensures.status, c.make_card-made.ensures.made)) c.if-made-ne0.true in
+    let met = c.make_card-made.ensures in
+    let all = make_refused _ _ _ _ c.if-card-ne512.false _ (met.answer, (met.status, met.made)) c.if-made-ne0.true in
     record { status = all.0; left = all.1.0; unchanged = all.1.1.0; made = all.1.1.1 }
 
 pub put_card-requires : goal.put_card-requires
 put_card-requires c =
-    (whole_card _ _ _ _ (c.make_card-made.ensures.answer, (c.make_card-made.ensures.status, c.make_card-made.ensures.made)) c.if-made-ne0.false, c.if-card-ne512.false)
+    let met = c.make_card-made.ensures in
+    (whole_card _ _ _ _ (met.answer, (met.status, met.made)) c.if-made-ne0.false, c.if-card-ne512.false)
 
 pub returns : goal.returns
 returns c =
+    let met = c.make_card-made.ensures in
     let all = make_put _ _ _ _ c.if-card-ne512.false _
-    (c.make_card-made.ensures.answer, (c.make_card-made.ensures.status, c.make_card-made.ensures.made)) c.if-made-ne0.false in
+    (met.answer, (met.status, met.made)) c.if-made-ne0.false in
     rw c.put_card.ensures (record { status = all.0; left = all.1.0; unchanged = all.1.1.0; made = all.1.1.1 })

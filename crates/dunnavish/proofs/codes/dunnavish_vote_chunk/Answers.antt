@@ -15,13 +15,27 @@ returns-then-values-ne2 c =
 pub returns-in-Refused : goal.returns-in-Refused
 unfolding vote_status vote_values vote_expected vote_left
 returns-in-Refused c =
-    let all = refused vote_status vote_values Refused vote_left (VotePromises _ _ _) _ _ c.if-values-ne2.false _ (c.vote_chunk-answer.ensures.answer, (c.vote_chunk-answer.ensures.status, (c.vote_chunk-answer.ensures.values, c.vote_chunk-answer.ensures.promises))) refl _
+    let met = c.vote_chunk-answer.ensures in
+    let all = refused vote_status vote_values Refused vote_left (VotePromises _ _ _) _ _ c.if-values-ne2.false _ (
+      met.answer,
+      (
+        met.status,
+        (met.values, met.promises),
+      ),
+    ) refl _
     c.in-Refused.is refl refl _ refl in
     record { status = all.0; left = all.1.0; unchanged = all.1.1.0; promises = all.1.1.1 }
 
 pub returns-in-Voted : goal.returns-in-Voted
 unfolding vote_status vote_values vote_left
 returns-in-Voted c =
-    let all = stored vote_status vote_values Refused vote_left (VotePromises _ _ _) _ _ c.if-values-ne2.false _ (c.vote_chunk-answer.ensures.answer, (c.vote_chunk-answer.ensures.status, (c.vote_chunk-answer.ensures.values, c.vote_chunk-answer.ensures.promises))) _
+    let met = c.vote_chunk-answer.ensures in
+    let all = stored vote_status vote_values Refused vote_left (VotePromises _ _ _) _ _ c.if-values-ne2.false _ (
+      met.answer,
+      (
+        met.status,
+        (met.values, met.promises),
+      ),
+    ) _
     c.in-Voted.is refl refl refl in
     record { status = all.0; left = all.1.0; unchanged = all.1.1.0; promises = all.1.1.1 }

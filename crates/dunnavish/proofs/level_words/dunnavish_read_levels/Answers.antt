@@ -19,14 +19,30 @@ use Rattle.dunnavish.proofs.level_words.dunnavish_read_levels.Goals as goal
 pub returns-then-values-ne5 : goal.returns-then-values-ne5
 returns-then-values-ne5 c =
     let all = levels_miscounted _ _ _ _ (wrong_count_crosses read_count _ c.if-values-ne5.true _ []).0 (λ five _. c.if-values-ne5.true five) in
-    record { status = all.0; left = all.1.0; strength_left = all.1.1.0; unchanged = all.1.1.1.0; strength_unchanged = all.1.1.1.1.0; bounded = all.1.1.1.1.1.0; promises = all.1.1.1.1.1.1 }
+    record {
+      status = all.0;
+      left = all.1.0;
+      strength_left = all.1.1.0;
+      unchanged = all.1.1.1.0;
+      strength_unchanged = all.1.1.1.1.0;
+      bounded = all.1.1.1.1.1.0;
+      promises = all.1.1.1.1.1.1;
+    }
 
 pub returns-then-strength-ne2 : goal.returns-then-strength-ne2
 returns-then-strength-ne2 c =
     let all = levels_miscounted _ _ _ _
     ((wrong_count_crosses strength_count _ c.if-strength-ne2.true _ []).0 ∙ sym (status_lent read_count _ c.if-values-ne5.false _))
     (λ _ two. c.if-strength-ne2.true two) in
-    record { status = all.0; left = all.1.0; strength_left = all.1.1.0; unchanged = all.1.1.1.0; strength_unchanged = all.1.1.1.1.0; bounded = all.1.1.1.1.1.0; promises = all.1.1.1.1.1.1 }
+    record {
+      status = all.0;
+      left = all.1.0;
+      strength_left = all.1.1.0;
+      unchanged = all.1.1.1.0;
+      strength_unchanged = all.1.1.1.1.0;
+      bounded = all.1.1.1.1.1.0;
+      promises = all.1.1.1.1.1.1;
+    }
 
 pub bounds-strength-0 : goal.bounds-strength-0
 bounds-strength-0 c = omega (arith, c.if-strength-ne2.false)
@@ -37,13 +53,22 @@ bounds-strength-1 c = simp length-set (omega (arith, c.if-strength-ne2.false))
 pub returns-in-Refused : goal.returns-in-Refused
 unfolding position_answer read_status read_values levels_expected read_left left_by
 returns-in-Refused c =
-    let all = let is = c.read_levels-answer.ensures.answer in let number = c.read_levels-answer.ensures.status in let serves = c.read_levels-answer.ensures.values in
+    let all = let is = c.read_levels-answer.ensures.answer in let number = c.read_levels-answer.ensures.status in let serves =
+    c.read_levels-answer.ensures.values in
     let given = ap position_answer c.in-Refused.is in
     levels_cross _ _ _ _ _ _ _ c.if-strength-ne2.false
     (refused read_status read_values Refused read_left (PromisedOfLevels _ _) _ _ c.if-values-ne5.false _
     (ap position_answer is, (number, (serves, (c.read_levels-answer.ensures.bounded, c.read_levels-answer.ensures.promises)))) refl _ given refl refl _ refl)
     (rw (ne_eqb _ 0 (refused_nonzero read_status read_values _ (serves, refl) given refl))) in
-    record { status = all.0; left = all.1.0; strength_left = all.1.1.0; unchanged = all.1.1.1.0; strength_unchanged = all.1.1.1.1.0; bounded = all.1.1.1.1.1.0; promises = all.1.1.1.1.1.1 }
+    record {
+      status = all.0;
+      left = all.1.0;
+      strength_left = all.1.1.0;
+      unchanged = all.1.1.1.0;
+      strength_unchanged = all.1.1.1.1.0;
+      bounded = all.1.1.1.1.1.0;
+      promises = all.1.1.1.1.1.1;
+    }
 
 pub returns-in-At : goal.returns-in-At
 unfolding position_answer read_status strength_values left_by
@@ -54,7 +79,16 @@ returns-in-At c =
     let given = ap position_answer read in
     levels_cross _ _ _ _ _ _ _ floats
     (served read_status read_values Refused read_left (PromisedOfLevels _ _) _ _ c.if-values-ne5.false _
-    (ap position_answer is, (number, (serves, (c.read_levels-answer.ensures.bounded, c.read_levels-answer.ensures.promises)))) _ _ given refl c.put_reading.ensures
+    (ap position_answer is, (number, (serves, (c.read_levels-answer.ensures.bounded, c.read_levels-answer.ensures.promises)))) _ _ given refl
+    c.put_reading.ensures
     (levels_decode _ _ given _ (ap position_answer is) c.read_levels-answer.ensures.promises.bits))
     (rw (sym is ∙ read, all_stored (_ ∷ _ ∷ []) _ floats)) in
-    record { status = all.0; left = all.1.0; strength_left = all.1.1.0; unchanged = all.1.1.1.0; strength_unchanged = all.1.1.1.1.0; bounded = all.1.1.1.1.1.0; promises = all.1.1.1.1.1.1 }
+    record {
+      status = all.0;
+      left = all.1.0;
+      strength_left = all.1.1.0;
+      unchanged = all.1.1.1.0;
+      strength_unchanged = all.1.1.1.1.0;
+      bounded = all.1.1.1.1.1.0;
+      promises = all.1.1.1.1.1.1;
+    }

@@ -24,20 +24,32 @@ returns-then-values-ne1 c =
 pub returns-in-Refused : goal.returns-in-Refused
 unfolding nearest_status nearest_values nearest_left
 returns-in-Refused c =
+    let met = c.nearest_tram-answer.ensures in
     let all = let a = c.args in
     nearest_crosses a.card.now a.lows.now a.highs.now a.values.now a.mark c.if-highs-lows.false _ _
-    (refused nearest_status nearest_values Refused nearest_left (NearestPromises _ _ _) _ _ c.if-values-ne1.false _
-    (rw c.trams_lent.ensures at c.nearest_tram-answer.ensures.answer, (rw c.trams_lent.ensures at c.nearest_tram-answer.ensures.status, (rw c.trams_lent.ensures at c.nearest_tram-answer.ensures.values, rw c.trams_lent.ensures at c.nearest_tram-answer.ensures.promises)))
+    (refused nearest_status nearest_values Refused nearest_left (NearestPromises _ _ _) _ _ c.if-values-ne1.false _ (
+      rw c.trams_lent.ensures at met.answer,
+      (
+        rw c.trams_lent.ensures at met.status,
+        (rw c.trams_lent.ensures at met.values, rw c.trams_lent.ensures at met.promises),
+      ),
+    )
     (some_value a.card.now a.lows.now a.highs.now a.values.now a.mark) _ c.in-Refused.is refl refl _ refl) in
     record { status = all.0; left = all.1.0; unchanged = all.1.1.0; promises = all.1.1.1 }
 
 pub returns-in-NoTram : goal.returns-in-NoTram
 unfolding nearest_status nearest_values nearest_left place_left
 returns-in-NoTram c =
+    let met = c.nearest_tram-answer.ensures in
     let all = let a = c.args in
     nearest_crosses a.card.now a.lows.now a.highs.now a.values.now a.mark c.if-highs-lows.false _ _
-    (stored nearest_status nearest_values Refused nearest_left (NearestPromises _ _ _) _ _ c.if-values-ne1.false _
-    (rw c.trams_lent.ensures at c.nearest_tram-answer.ensures.answer, (rw c.trams_lent.ensures at c.nearest_tram-answer.ensures.status, (rw c.trams_lent.ensures at c.nearest_tram-answer.ensures.values, rw c.trams_lent.ensures at c.nearest_tram-answer.ensures.promises))) NoTram c.in-NoTram.is refl refl refl) in
+    (stored nearest_status nearest_values Refused nearest_left (NearestPromises _ _ _) _ _ c.if-values-ne1.false _ (
+      rw c.trams_lent.ensures at met.answer,
+      (
+        rw c.trams_lent.ensures at met.status,
+        (rw c.trams_lent.ensures at met.values, rw c.trams_lent.ensures at met.promises),
+      ),
+    ) NoTram c.in-NoTram.is refl refl refl) in
     record { status = all.0; left = all.1.0; unchanged = all.1.1.0; promises = all.1.1.1 }
 
 pub returns-in-Tram : goal.returns-in-Tram

@@ -21,15 +21,18 @@ returns-then-yes-lows c =
 
 pub put_answer-requires : goal.put_answer-requires
 put_answer-requires c =
+    let met = c.trams_crossing.ensures in
     let a = c.args in
     few_lent (crosses a.mark) a.card.now a.lows.now a.highs.now a.yes.now a.mark a.mark
     (CrossingPromises _ _ a.mark) c.if-highs-lows.false c.if-yes-lows.false _
-    (rw c.trams_lent.ensures at c.trams_crossing.ensures.answer, (rw c.trams_lent.ensures at c.trams_crossing.ensures.status, rw c.trams_lent.ensures at c.trams_crossing.ensures.promises))
+    (rw c.trams_lent.ensures at met.answer, (rw c.trams_lent.ensures at met.status, rw c.trams_lent.ensures at met.promises))
 
 pub returns : goal.returns
 returns c =
+    let met = c.trams_crossing.ensures in
     let all = let a = c.args in
     answered_search (crosses a.mark) a.card.now a.lows.now a.highs.now a.yes.now a.mark a.mark
     (CrossingPromises _ _ a.mark) c.if-highs-lows.false c.if-yes-lows.false _
-    (rw c.trams_lent.ensures at c.trams_crossing.ensures.answer, (rw c.trams_lent.ensures at c.trams_crossing.ensures.status, rw c.trams_lent.ensures at c.trams_crossing.ensures.promises)) _ _ c.put_answer.ensures.status c.put_answer.ensures.left in
+    (rw c.trams_lent.ensures at met.answer, (rw c.trams_lent.ensures at met.status, rw c.trams_lent.ensures at met.promises)) _ _
+    c.put_answer.ensures.status c.put_answer.ensures.left in
     record { status = all.0; left = all.1.0; unchanged = all.1.1.0; promises = all.1.1.1 }

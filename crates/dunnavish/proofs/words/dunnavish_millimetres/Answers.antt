@@ -20,15 +20,18 @@ returns-then-values-ne1 c =
 pub returns-in-Refused : goal.returns-in-Refused
 unfolding millimetres_status millimetres_values millimetres_left
 returns-in-Refused c =
+    let met = c.millimetres-answer.ensures in
     let all = refused millimetres_status millimetres_values Refused millimetres_left (MillimetresPromises _ _) _ _ c.if-values-ne1.false _
-    (c.millimetres-answer.ensures.answer, (c.millimetres-answer.ensures.status, (c.millimetres-answer.ensures.values, c.millimetres-answer.ensures.promises))) refl _ c.in-Refused.is refl refl _ refl in
+    (met.answer, (met.status, (met.values, met.promises))) refl _ c.in-Refused.is refl refl _ refl in
     record { status = all.0; left = all.1.0; unchanged = all.1.1.0; promises = all.1.1.1 }
 
 pub returns-in-Millimetres : goal.returns-in-Millimetres
 unfolding millimetres_status millimetres_values millimetres_left
 returns-in-Millimetres c =
-    let number : to_z w32 (of_z w32 c.in-Millimetres.distance) ≡ c.in-Millimetres.distance = to_z-of_z {w = w32} {z = c.in-Millimetres.distance} (search rules) in
+    let met = c.millimetres-answer.ensures in
+    let number : to_z w32 (of_z w32 c.in-Millimetres.distance) ≡ c.in-Millimetres.distance = to_z-of_z {w = w32} {z = c.in-Millimetres.distance}
+    (search rules) in
     let all = stored millimetres_status millimetres_values Refused millimetres_left (MillimetresPromises _ _) _ _ c.if-values-ne1.false _
-    (c.millimetres-answer.ensures.answer, (c.millimetres-answer.ensures.status, (c.millimetres-answer.ensures.values, c.millimetres-answer.ensures.promises)))
+    (met.answer, (met.status, (met.values, met.promises)))
     _ c.in-Millimetres.is refl refl refl in
     rw number (record { status = all.0; left = all.1.0; unchanged = all.1.1.0; promises = all.1.1.1 })

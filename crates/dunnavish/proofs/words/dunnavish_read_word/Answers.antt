@@ -11,22 +11,63 @@ use Rattle.dunnavish.proofs.words.dunnavish_read_word.Goals as goal
 pub returns-then-values-ne5 : goal.returns-then-values-ne5
 returns-then-values-ne5 c =
     let all = read_crosses _ _ _ _ _ (wrong_count_lem read_status read_values Refused read_left (PromisedOfRead _ _) _ _ c.if-values-ne5.true) in
-    record { status = all.0; left = all.1.0; unchanged = all.1.1.0; bounded = all.1.1.1.0; sharper = all.1.1.1.1.0; promises = all.1.1.1.1.1 }
+    record {
+      status = all.0;
+      left = all.1.0;
+      unchanged = all.1.1.0;
+      bounded = all.1.1.1.0;
+      sharper = all.1.1.1.1.0;
+      promises = all.1.1.1.1.1;
+    }
 
 pub returns-in-Refused : goal.returns-in-Refused
 unfolding read_status read_values read_expected read_left
 returns-in-Refused c =
+    let met = c.read_word-answer.ensures in
     let all = read_crosses _ _ _ _ _
-    (refused read_status read_values Refused read_left (PromisedOfRead _ _) _ _ c.if-values-ne5.false _ (c.read_word-answer.ensures.answer, (c.read_word-answer.ensures.status, (c.read_word-answer.ensures.values, (c.read_word-answer.ensures.bounded, (c.read_word-answer.ensures.sharper, c.read_word-answer.ensures.promises))))) refl _
+    (refused read_status read_values Refused read_left (PromisedOfRead _ _) _ _ c.if-values-ne5.false _ (
+      met.answer,
+      (
+        met.status,
+        (
+          met.values,
+          (met.bounded, (met.sharper, met.promises)),
+        ),
+      ),
+    ) refl _
     c.in-Refused.is refl refl _ refl) in
-    record { status = all.0; left = all.1.0; unchanged = all.1.1.0; bounded = all.1.1.1.0; sharper = all.1.1.1.1.0; promises = all.1.1.1.1.1 }
+    record {
+      status = all.0;
+      left = all.1.0;
+      unchanged = all.1.1.0;
+      bounded = all.1.1.1.0;
+      sharper = all.1.1.1.1.0;
+      promises = all.1.1.1.1.1;
+    }
 
 pub returns-in-At : goal.returns-in-At
 unfolding read_status
 returns-in-At c =
+    let met = c.read_word-answer.ensures in
     let all = let given = c.in-At.is in
-    let is = c.read_word-answer.ensures.answer in
+    let is = met.answer in
     read_crosses _ _ _ _ _
-    (served read_status read_values Refused read_left (PromisedOfRead _ _) _ _ c.if-values-ne5.false _ (c.read_word-answer.ensures.answer, (c.read_word-answer.ensures.status, (c.read_word-answer.ensures.values, (c.read_word-answer.ensures.bounded, (c.read_word-answer.ensures.sharper, c.read_word-answer.ensures.promises))))) _ _
-    given refl c.put_reading.ensures (read_decodes _ _ given _ is c.read_word-answer.ensures.promises.bits)) in
-    record { status = all.0; left = all.1.0; unchanged = all.1.1.0; bounded = all.1.1.1.0; sharper = all.1.1.1.1.0; promises = all.1.1.1.1.1 }
+    (served read_status read_values Refused read_left (PromisedOfRead _ _) _ _ c.if-values-ne5.false _ (
+      met.answer,
+      (
+        met.status,
+        (
+          met.values,
+          (met.bounded, (met.sharper, met.promises)),
+        ),
+      ),
+    ) _ _
+    given refl c.put_reading.ensures (read_decodes _ _ given _ is met.promises.bits)) in
+    record {
+      status = all.0;
+      left = all.1.0;
+      unchanged = all.1.1.0;
+      bounded = all.1.1.1.0;
+      sharper = all.1.1.1.1.0;
+      promises = all.1.1.1.1.1;
+    }

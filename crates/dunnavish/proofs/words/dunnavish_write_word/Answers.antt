@@ -7,11 +7,29 @@ use Rattle.dunnavish.proofs.words.dunnavish_write_word.Goals as goal
 pub returns-in-Refused : goal.returns-in-Refused
 unfolding write_status
 returns-in-Refused c =
-    let all = write_crosses _ _ _ _ _ _ (c.write_word-answer.ensures.answer, (c.write_word-answer.ensures.status, (c.write_word-answer.ensures.values, (c.write_word-answer.ensures.left, (c.write_word-answer.ensures.neighbours, (c.write_word-answer.ensures.alone, c.write_word-answer.ensures.promises)))))) (rw c.in-Refused.is) in
-    record { status = all.0; left = all.1.0; unchanged = all.1.1.0; neighbours = all.1.1.1.0; alone = all.1.1.1.1.0; promises = all.1.1.1.1.1 }
+    let met = c.write_word-answer.ensures in
+    let all = write_crosses _ _ _ _ _ _ (met.answer, (met.status, (met.values, (met.left, (met.neighbours, (met.alone, met.promises))))))
+    (rw c.in-Refused.is) in
+    record {
+      status = all.0;
+      left = all.1.0;
+      unchanged = all.1.1.0;
+      neighbours = all.1.1.1.0;
+      alone = all.1.1.1.1.0;
+      promises = all.1.1.1.1.1;
+    }
 
 pub returns-in-Written : goal.returns-in-Written
 unfolding write_status
 returns-in-Written c =
-    let all = write_crosses _ _ _ _ _ _ (c.write_word-answer.ensures.answer, (c.write_word-answer.ensures.status, (c.write_word-answer.ensures.values, (c.write_word-answer.ensures.left, (c.write_word-answer.ensures.neighbours, (c.write_word-answer.ensures.alone, c.write_word-answer.ensures.promises)))))) (rw c.in-Written.is) in
-    record { status = all.0; left = all.1.0; unchanged = all.1.1.0; neighbours = all.1.1.1.0; alone = all.1.1.1.1.0; promises = all.1.1.1.1.1 }
+    let met = c.write_word-answer.ensures in
+    let all = write_crosses _ _ _ _ _ _ (met.answer, (met.status, (met.values, (met.left, (met.neighbours, (met.alone, met.promises))))))
+    (rw c.in-Written.is) in
+    record {
+      status = all.0;
+      left = all.1.0;
+      unchanged = all.1.1.0;
+      neighbours = all.1.1.1.0;
+      alone = all.1.1.1.1.0;
+      promises = all.1.1.1.1.1;
+    }

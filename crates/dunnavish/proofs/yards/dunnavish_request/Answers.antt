@@ -22,39 +22,81 @@ returns-then-values-ne1 c =
 pub put_yard-requires : goal.put_yard-requires
 unfolding request_status
 put_yard-requires c =
+    let met = c.request-requested.ensures in
     let a = c.args in (
-      few_wait a.yard.now a.values.now a.tram a.track c.if-yard-ne97.false c.if-values-ne1.false _
-          (rw c.yard_lent.ensures at c.request-requested.ensures.answer, (rw c.yard_lent.ensures at c.request-requested.ensures.status, (rw c.yard_lent.ensures at c.request-requested.ensures.values, rw c.yard_lent.ensures at c.request-requested.ensures.promises))) (ap request_status c.in-Holds.is),
+      few_wait a.yard.now a.values.now a.tram a.track c.if-yard-ne97.false c.if-values-ne1.false _ (
+        rw c.yard_lent.ensures at met.answer,
+        (
+          rw c.yard_lent.ensures at met.status,
+          (rw c.yard_lent.ensures at met.values, rw c.yard_lent.ensures at met.promises),
+        ),
+      ) (ap request_status c.in-Holds.is),
       c.if-yard-ne97.false,
     )
 
 pub put_yard-requires-in-Waits : goal.put_yard-requires-in-Waits
 unfolding request_status
 put_yard-requires-in-Waits c =
+    let met = c.request-requested.ensures in
     let a = c.args in (
-      few_wait a.yard.now a.values.now a.tram a.track c.if-yard-ne97.false c.if-values-ne1.false _
-          (rw c.yard_lent.ensures at c.request-requested.ensures.answer, (rw c.yard_lent.ensures at c.request-requested.ensures.status, (rw c.yard_lent.ensures at c.request-requested.ensures.values, rw c.yard_lent.ensures at c.request-requested.ensures.promises))) (ap request_status c.in-Waits.is),
+      few_wait a.yard.now a.values.now a.tram a.track c.if-yard-ne97.false c.if-values-ne1.false _ (
+        rw c.yard_lent.ensures at met.answer,
+        (
+          rw c.yard_lent.ensures at met.status,
+          (rw c.yard_lent.ensures at met.values, rw c.yard_lent.ensures at met.promises),
+        ),
+      ) (ap request_status c.in-Waits.is),
       c.if-yard-ne97.false,
     )
 
 pub returns-in-Refused : goal.returns-in-Refused
 returns-in-Refused c =
+    let met = c.request-requested.ensures in
     let a = c.args in
     let all =
-    request_refused_crosses a.yard.now a.values.now a.tram a.track c.if-yard-ne97.false c.if-values-ne1.false _
-    (rw c.yard_lent.ensures at c.request-requested.ensures.answer, (rw c.yard_lent.ensures at c.request-requested.ensures.status, (rw c.yard_lent.ensures at c.request-requested.ensures.values, rw c.yard_lent.ensures at c.request-requested.ensures.promises))) _ c.in-Refused.is in
+    request_refused_crosses a.yard.now a.values.now a.tram a.track c.if-yard-ne97.false c.if-values-ne1.false _ (
+      rw c.yard_lent.ensures at met.answer,
+      (
+        rw c.yard_lent.ensures at met.status,
+        (rw c.yard_lent.ensures at met.values, rw c.yard_lent.ensures at met.promises),
+      ),
+    ) _ c.in-Refused.is in
     record { status = all.0; left = all.1.0; yard_left = all.1.1.0; unchanged = all.1.1.1.0; promises = all.1.1.1.1 }
 
 pub returns-in-Holds : goal.returns-in-Holds
 returns-in-Holds c =
+    let met = c.request-requested.ensures in
     let a = c.args in
-    let all = holds_crosses a.yard.now a.values.now a.tram a.track c.if-yard-ne97.false c.if-values-ne1.false _
-    (rw c.yard_lent.ensures at c.request-requested.ensures.answer, (rw c.yard_lent.ensures at c.request-requested.ensures.status, (rw c.yard_lent.ensures at c.request-requested.ensures.values, rw c.yard_lent.ensures at c.request-requested.ensures.promises))) c.in-Holds.is in
-    rw c.put_yard.ensures (record { status = all.0; left = all.1.0; yard_left = all.1.1.0; unchanged = all.1.1.1.0; promises = all.1.1.1.1 })
+    let all = holds_crosses a.yard.now a.values.now a.tram a.track c.if-yard-ne97.false c.if-values-ne1.false _ (
+      rw c.yard_lent.ensures at met.answer,
+      (
+        rw c.yard_lent.ensures at met.status,
+        (rw c.yard_lent.ensures at met.values, rw c.yard_lent.ensures at met.promises),
+      ),
+    ) c.in-Holds.is in
+    rw c.put_yard.ensures (record {
+      status = all.0;
+      left = all.1.0;
+      yard_left = all.1.1.0;
+      unchanged = all.1.1.1.0;
+      promises = all.1.1.1.1;
+    })
 
 pub returns-in-Waits : goal.returns-in-Waits
 returns-in-Waits c =
+    let met = c.request-requested.ensures in
     let a = c.args in
-    let all = waits_crosses a.yard.now a.values.now a.tram a.track c.if-yard-ne97.false c.if-values-ne1.false _
-    (rw c.yard_lent.ensures at c.request-requested.ensures.answer, (rw c.yard_lent.ensures at c.request-requested.ensures.status, (rw c.yard_lent.ensures at c.request-requested.ensures.values, rw c.yard_lent.ensures at c.request-requested.ensures.promises))) c.in-Waits.is in
-    rw c.put_yard-in-Waits.ensures (record { status = all.0; left = all.1.0; yard_left = all.1.1.0; unchanged = all.1.1.1.0; promises = all.1.1.1.1 })
+    let all = waits_crosses a.yard.now a.values.now a.tram a.track c.if-yard-ne97.false c.if-values-ne1.false _ (
+      rw c.yard_lent.ensures at met.answer,
+      (
+        rw c.yard_lent.ensures at met.status,
+        (rw c.yard_lent.ensures at met.values, rw c.yard_lent.ensures at met.promises),
+      ),
+    ) c.in-Waits.is in
+    rw c.put_yard-in-Waits.ensures (record {
+      status = all.0;
+      left = all.1.0;
+      yard_left = all.1.1.0;
+      unchanged = all.1.1.1.0;
+      promises = all.1.1.1.1;
+    })

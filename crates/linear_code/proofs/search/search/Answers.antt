@@ -65,7 +65,9 @@ bounds-rows-z c = row c
 
 pub loop-differing-preserved : goal.loop-differing-preserved
 loop-differing-preserved c =
-    search_goes_on _ _ _ _ _ _ _ c.loop-differing.invariant c.requires.0 (omega (arith, c.loop-differing.invariant.at.within, c.if-i-size.false, c.two_to-size.ensures, pow_pos c.args.k)) (far (goal.at.loop-differing-preserved c).Left-bits c.if-differing-limit.false)
+    search_goes_on _ _ _ _ _ _ _ c.loop-differing.invariant c.requires.0 (omega
+    (arith, c.loop-differing.invariant.at.within, c.if-i-size.false, c.two_to-size.ensures, pow_pos c.args.k)) (far
+    (goal.at.loop-differing-preserved c).Left-bits c.if-differing-limit.false)
 
 pub returns-then-differing-limit : goal.returns-then-differing-limit
 unfolding first_within
@@ -77,4 +79,5 @@ returns-then-differing-limit c =
 pub returns-then-i-size : goal.returns-then-i-size
 unfolding first_within
 returns-then-i-size c =
-    search_failed _ _ _ _ _ _ _ c.loop-differing.invariant _ (omega (arith, c.if-i-size.true)) (far (goal.at.returns-then-i-size c).Left-bits c.if-differing-limit.false)
+    search_failed _ _ _ _ _ _ _ c.loop-differing.invariant _ (omega (arith, c.if-i-size.true)) (far
+    (goal.at.returns-then-i-size c).Left-bits c.if-differing-limit.false)

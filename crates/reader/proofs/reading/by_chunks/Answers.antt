@@ -29,7 +29,8 @@ separator_tested c s separator =
 
 pub returns-then-contradicts : goal.returns-then-contradicts
 returns-then-contradicts c s as_read separator =
-    contradicted _ s _ _ _ as_read (block (goal.at.returns-then-contradicts c).Else-no_block) (separator_tested (goal.at.returns-then-contradicts c).After-contradicts s separator ∙ c.if-contradicts.true)
+    contradicted _ s _ _ _ as_read (block (goal.at.returns-then-contradicts c).Else-no_block) (separator_tested
+    (goal.at.returns-then-contradicts c).After-contradicts s separator ∙ c.if-contradicts.true)
 
 pub nearest_by-s-requires : goal.nearest_by-s-requires
 nearest_by-s-requires c =
@@ -39,5 +40,6 @@ nearest_by-s-requires c =
 pub returns : goal.returns
 returns c s as_read separator =
     c.found.ensures
-    ∙ answered _ s _ _ _ as_read (block (goal.at.returns c).Else-no_block) (separator_tested (goal.at.returns c).After-contradicts s separator ∙ c.if-contradicts.false) _
+    ∙ answered _ s _ _ _ as_read (block (goal.at.returns c).Else-no_block) (separator_tested
+    (goal.at.returns c).After-contradicts s separator ∙ c.if-contradicts.false) _
     c.nearest_by-s.ensures
