@@ -15,8 +15,11 @@ none_too_wide : (c : Else-row_too_wide) → let asked = c.args in row_too_wide a
 none_too_wide c = sym c.row_too_wide.ensures ∙ c.if-row_too_wide.false
 
 pub returns-then-unused_row_set : goal.returns-then-unused_row_set
-returns-then-unused_row_set c = rw (none_too_wide (goal.at.returns-then-unused_row_set c).Else-row_too_wide, sym c.unused_row_set.ensures ∙
-    c.if-unused_row_set.true)
+returns-then-unused_row_set c = rw (
+  none_too_wide (goal.at.returns-then-unused_row_set c).Else-row_too_wide,
+  sym c.unused_row_set.ensures ∙
+      c.if-unused_row_set.true,
+)
 
 pub returns : goal.returns
 returns c = rw (none_too_wide (goal.at.returns c).Else-row_too_wide, sym c.unused_row_set.ensures ∙ c.if-unused_row_set.false)
