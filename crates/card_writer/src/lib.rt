@@ -23,7 +23,9 @@ fn put_high_first(bytes: &mut [u8], at: usize, m: usize, number: u64)
 }
 
 // The card with these fields: n, k, the track number and the twelve rows, then zeros, then the check. The check is computed last,
-// from the fields that stand by then; `false` says that no unused byte is set.
+// from the fields that stand by then; `false` says that no unused byte is set. A call of its own: put into its callers, it makes the
+// compiler keep the bytes four times, which is more stack than a call for C may take.
+#[inline(never)]
 pub fn write_card(n: u32, k: u32, track: u16, rows: [u64; 12]) -> [u8; 512]
     requires { (n < 256) × (k < 256) }
     ensures { result ≡ card_of n k track (λ z. get_or rows z 0) }
