@@ -67,9 +67,9 @@ extern "C" {
 
 /* The version of this header and its archive. */
 #define DUNNAVISH_VERSION_MAJOR 0
-#define DUNNAVISH_VERSION_MINOR 7
+#define DUNNAVISH_VERSION_MINOR 6
 #define DUNNAVISH_VERSION_PATCH 0
-#define DUNNAVISH_VERSION "0.7.0"
+#define DUNNAVISH_VERSION "0.6.0"
 
 /* The bytes of a card, and of the widest word. */
 #define DUNNAVISH_CARD_BYTES 512
