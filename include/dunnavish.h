@@ -5,8 +5,8 @@
  * start of a block, give the distance of a position in millimetres, of the trams on the track tell which cross a mark, which stand
  * within two marks, and which is the nearest to a mark, and release the track in a yard of sixteen tracks. Two calls on a Reed-Muller
  * code, which are given no card: make its card, and read a chunk of it by majority votes. One call on a yard alone: request a track of
- * it. docs/FORMAT.md says what the bytes of a card and of a word are, how a word is read, which card is made, what stands at a mark, who
- * holds a track and who waits, and what each refusal means. The archive is target/staticlib/libdunnavish.a, for x86-64 Linux;
+ * it. docs/FORMAT.md says what the bytes of a card and of a word are, how a word is read, which card is made, what stands at a mark, and
+ * what each refusal by a card, a code, a word or a list of trams means; what a yard is stands below. The archive is target/staticlib/libdunnavish.a, for x86-64 Linux;
  * `tools/build dunnavish` builds it. From the repository's root, link it as   cc -Iinclude program.c -Ltarget/staticlib -ldunnavish
  * (it needs memcpy and memset, and nothing else). The header is C99 or later, or C++.
  *

@@ -10,9 +10,9 @@
 //! but [`trams_crossing`] and [`trams_within`], which do for their answer.
 //!
 //! `docs/FORMAT.md` of the repository says what a card and a word are, byte by byte, how a word is read, which card is made, what
-//! stands at a mark, who holds a track and who waits, and what each refusal means. The archive that is linked, `libdunnavish.a`,
-//! is the one that `tools/build dunnavish` puts into `target/staticlib` there; the environment variable `DUNNAVISH_LIB_DIR`
-//! names another folder, and a relative one is taken from where cargo is started.
+//! stands at a mark, and what each refusal means but those of a [`Yard`]. The archive that is linked, `libdunnavish.a`, is the one
+//! that `tools/build dunnavish` puts into `target/staticlib` there; the environment variable `DUNNAVISH_LIB_DIR` names another
+//! folder, and a relative one is taken from where cargo is started.
 //!
 //! ```
 //! // Card B, the example of docs/FORMAT.md: n 3, k 1, track 14, row 0 = 7, check 145.
@@ -113,7 +113,7 @@ pub const WIDEST_WORD_BYTES: usize = 40;
 pub const MOST_TRAMS: usize = 64;
 
 /// Defines [`Refusal`] by two tables, of calls on a card or a code, and of those that only a call on a yard answers besides: a name, the
-/// number in docs/FORMAT.md, and the reason, which is its documentation and text.
+/// number, and the reason, which is its documentation and text.
 macro_rules! refusals {
     ({ $($name:ident = $number:literal: $reason:literal,)+ } { $($yard:ident = $yard_number:literal: $yard_reason:literal,)+ }) => {
         /// Why a call was refused. A call reports the first reason that holds, in the order of their numbers, but
@@ -155,7 +155,7 @@ macro_rules! refusals {
             /// Those that only calls on a [`Yard`] answer, in the order of their numbers.
             pub const OF_A_YARD: &'static [Refusal] = &[$(Refusal::$yard,)+];
 
-            /// Its number in `docs/FORMAT.md`, 1 to 22 or 26; none where the library and this crate are of different versions.
+            /// Its number, 1 to 22 or 26; none where the library and this crate are of different versions.
             pub fn number(self) -> Option<u32> {
                 match self {
                     $(Refusal::$name => Some($number),)+

@@ -9,6 +9,9 @@ ghost use Rattle.dunnavish.specs.Demands.{ServedWithinTwiceWrongAndErased};
 use super::{WRONG_COUNT, words};
 use model::LevelsAnswer;
 
+// How many floats a strength is: the sum and the greatest.
+const STRENGTH_VALUES: usize = 2;
+
 // Reads a word of levels: the numbers of a plain read, over the bits that aren't erased, into five numbers, and the receiver's strength,
 // the sum of the magnitudes and the greatest, into two floats. Where five numbers and two floats are lent: of d levels of 1, -1 and 0
 // that have, against the word of any position on the track, 2 × wrong + erased below D in every chunk, the status is 0, and the position
@@ -36,7 +39,7 @@ pub extern "C" fn dunnavish_read_levels(
     if values.len() != 5 {
         return WRONG_COUNT;
     }
-    if strength.len() != 2 {
+    if strength.len() != STRENGTH_VALUES {
         return WRONG_COUNT;
     }
     let answer = depot::read_levels(card, levels);

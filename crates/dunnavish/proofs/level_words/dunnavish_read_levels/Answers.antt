@@ -29,11 +29,11 @@ returns-then-values-ne5 c =
       promises = all.1.1.1.1.1.1;
     }
 
-pub returns-then-strength-ne2 : goal.returns-then-strength-ne2
-returns-then-strength-ne2 c =
+pub returns-then-strength-ne-STRENGTH_VALUES : goal.returns-then-strength-ne-STRENGTH_VALUES
+returns-then-strength-ne-STRENGTH_VALUES c =
     let all = levels_miscounted _ _ _ _
-    ((wrong_count_crosses strength_count _ c.if-strength-ne2.true _ []).0 ∙ sym (status_lent read_count _ c.if-values-ne5.false _))
-    (λ _ two. c.if-strength-ne2.true two) in
+    ((wrong_count_crosses strength_count _ c.if-strength-ne-STRENGTH_VALUES.true _ []).0 ∙ sym (status_lent read_count _ c.if-values-ne5.false _))
+    (λ _ two. c.if-strength-ne-STRENGTH_VALUES.true two) in
     record {
       status = all.0;
       left = all.1.0;
@@ -45,10 +45,10 @@ returns-then-strength-ne2 c =
     }
 
 pub bounds-strength-0 : goal.bounds-strength-0
-bounds-strength-0 c = omega (arith, c.if-strength-ne2.false)
+bounds-strength-0 c = omega (arith, c.if-strength-ne-STRENGTH_VALUES.false)
 
 pub bounds-strength-1 : goal.bounds-strength-1
-bounds-strength-1 c = simp length-set (omega (arith, c.if-strength-ne2.false))
+bounds-strength-1 c = simp length-set (omega (arith, c.if-strength-ne-STRENGTH_VALUES.false))
 
 pub returns-in-Refused : goal.returns-in-Refused
 unfolding position_answer read_status read_values levels_expected read_left left_by
@@ -56,7 +56,7 @@ returns-in-Refused c =
     let all = let is = c.read_levels-answer.ensures.answer in let number = c.read_levels-answer.ensures.status in let serves =
     c.read_levels-answer.ensures.values in
     let given = ap position_answer c.in-Refused.is in
-    levels_cross _ _ _ _ _ _ _ c.if-strength-ne2.false
+    levels_cross _ _ _ _ _ _ _ c.if-strength-ne-STRENGTH_VALUES.false
     (refused read_status read_values Refused read_left (PromisedOfLevels _ _) _ _ c.if-values-ne5.false _
     (ap position_answer is, (number, (serves, (c.read_levels-answer.ensures.bounded, c.read_levels-answer.ensures.promises)))) refl _ given refl refl _ refl)
     (rw (ne_eqb _ 0 (refused_nonzero read_status read_values _ (serves, refl) given refl))) in
@@ -73,7 +73,7 @@ returns-in-Refused c =
 pub returns-in-At : goal.returns-in-At
 unfolding position_answer read_status strength_values left_by
 returns-in-At c =
-    let all = let floats = c.if-strength-ne2.false in
+    let all = let floats = c.if-strength-ne-STRENGTH_VALUES.false in
     let is = c.read_levels-answer.ensures.answer in let number = c.read_levels-answer.ensures.status in let serves = c.read_levels-answer.ensures.values in
     let read = c.in-At.is in
     let given = ap position_answer read in
