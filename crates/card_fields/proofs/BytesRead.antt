@@ -1,17 +1,22 @@
 -- The bytes of a card: numbers read from them high byte first; the sum that the check is made of, to which zero bytes add nothing, so
 -- that it ends at the last used byte where no unused byte is set; and bytes joined by or, which is 0 just where all are.
 -- Assumes nothing.
-use Prim.Native.Nat.{ℕ, ◌+◌, ◌*◌, ◌^◌, ◌≤◌, ◌<◌}
-use mathlib.Core.Path.{◌≡◌}
+use Prim.Native.Nat.{ℕ, zero, suc, ◌+◌, ◌*◌, ◌^◌, ◌≤◌, ◌<◌}
+use mathlib.Core.Path.{◌≡◌, refl, ◌∙◌}
 use mathlib.Core.Bool.{false, not, ◌||◌}
-use mathlib.Core.List.{List}
+use mathlib.Core.List.{List, ◌++◌}
 use mathlib.Core.Logic.{⊎_elim}
 use borrow.Author.Tests.{eqb-true, ne_eqb, not-false}
-use native.Mathlib.Nat.{pow-suc, pow-le-pow_right, mul-zero, mul-le-mul, le_of_suc-le-suc}
+use native.Mathlib.Nat.{add-zero, zero-add, add-suc, pow-suc, mul-zero, mul-le-mul, le_of_suc-le-suc}
 use native.Mathlib.Numerals.{add-one}
 use native.Mathlib.Omega.{arith}
 use lib.Bits.{bit_or, or_add_and, or_zero_l, and_le_r}
 use lib.Dec.{eqb}
+use lib.ListN.{length, take, drop, replicate, length-take, length-drop, get_or-append}
+use Rattle.std.proofs.lemmas.List.{get_or-take, get_or-drop, get_or-append-add}
+use Rattle.bits.proofs.ByteLists.{zero_byte}
+use Rattle.std.specs.Int.{w64, from_be_bytes}
+use borrow.Rule.Slice.PartMut.{put_mid, post_of}
 use Rattle.bits.specs.Sums.{sum_below, from_place}
 use Rattle.bits.specs.Searches.{any_below}
 use Rattle.bits.proofs.Numbers.{eq_or_ne}
@@ -21,19 +26,49 @@ use Rattle.model.specs.Card.{high_first, byte, check_share, unused_byte_set}
 
 -- ---- numbers, high byte first
 
--- one byte more
-pub high_first_more : (b : List ℕ) (at j : ℕ) → high_first b at (j + 1) ≡ high_first b at j * 256 + byte b (at + j)
+-- the same bytes make the same number, wherever they stand
+same_bytes : (b c : List ℕ) (i j m : ℕ) → ((q : ℕ) → q < m → byte b (i + q) ≡ byte c (j + q)) → high_first b i m ≡ high_first c j m
 unfolding high_first
-high_first_more b at j = rw add-one
+same_bytes b c i j zero same = refl
+same_bytes b c i j (suc m) same = rw (same_bytes b c i j m (λ q l. same q (omega arith)), same m (omega arith))
 
--- j bytes make a number below 256^j
-pub byte_more : (v d j : ℕ) → v < 256 ^ j → d < 256 → v * 256 + d < 256 ^ (j + 1)
-byte_more v d j h k = rw (add-one j, pow-suc 256 j) (omega arith)
+-- zero bytes before a number leave it as it is
+zeros_before : (b : List ℕ) (z m : ℕ) → ((q : ℕ) → q < z → byte b q ≡ 0) → high_first b 0 (z + m) ≡ high_first b z m
+unfolding high_first
+zeros_before b zero zero none = refl
+zeros_before b (suc z) zero none =
+    let before : high_first b 0 z ≡ 0 = rw add-zero at (zeros_before b z zero (λ q l. none q (omega arith))) in
+    let last : byte b (0 + z) ≡ 0 = rw zero-add (none z (omega arith)) in
+    rw (add-zero (suc z), before, last) refl
+zeros_before b z (suc m) none = rw (add-suc z m, zero-add (z + m), zeros_before b z m none)
 
--- eight bytes fit 64 bits
-pub bytes_fit : (v d j : ℕ) → v < 256 ^ j → d < 256 → j < 8 → v * 256 + d < 2 ^ 64
-bytes_fit v d j h k l =
-    let most : 256 ^ j ≤ 256 ^ 7 = pow-le-pow_right {n = 256} (omega arith) (le_of_suc-le-suc l) in omega arith
+-- the library's method reads eight bytes high byte first
+eight_bytes : (b : List ℕ) → from_be_bytes w64 b ≡ high_first b 0 8
+unfolding high_first
+eight_bytes b = omega arith
+
+-- m bytes make a number below 256^m
+pub number_below : (b : List ℕ) (at m : ℕ) → ((i : ℕ) → byte b i < 256) → high_first b at m < 256 ^ m
+unfolding high_first
+number_below b at zero small = omega arith
+number_below b at (suc m) small = rw (pow-suc 256 m) (omega (arith, number_below b at m small, small (at + m)))
+
+-- m bytes, written behind z zeros into the last of eight, make the same number as where they stood
+pub written_last : (b part : List ℕ) (at m z k : ℕ) → z + m ≡ 8 → at + m ≤ length b → part ≡ take m (drop at b)
+    → from_be_bytes w64 (put_mid z k (replicate {A = ℕ} 8 0) part) ≡ high_first b at m
+written_last b part at m z k eight inside is_part =
+    let zeros = take z (replicate {A = ℕ} 8 0) in
+    let bytes = put_mid z k (replicate {A = ℕ} 8 0) part in
+    let zeros_length : length zeros ≡ z = omega (arith, length-take z (replicate {A = ℕ} 8 0)) in
+    let part_length : length part ≡ m = rw is_part (omega (arith, length-take m (drop at b), length-drop at b)) in
+    let before : (q : ℕ) → q < z → byte bytes q ≡ 0 =
+    λ q l. get_or-append zeros _ 0 q (omega arith) ∙ get_or-take z (replicate {A = ℕ} 8 0) q 0 l ∙ zero_byte 8 q in
+    let behind : (q : ℕ) → q < m → byte bytes (z + q) ≡ byte b (at + q) =
+    λ q l.
+    rw zeros_length at (get_or-append-add zeros (part ++ post_of z k (replicate {A = ℕ} 8 0)) q 0)
+    ∙ get_or-append part _ 0 q (omega arith)
+    ∙ rw is_part (get_or-take m (drop at b) q 0 l ∙ get_or-drop at b q 0) in
+    eight_bytes bytes ∙ (rw eight at (zeros_before bytes z m before)) ∙ same_bytes bytes b z at m behind
 
 -- ---- the check's sum
 
@@ -41,16 +76,15 @@ bytes_fit v d j h k l =
 pub share_most : (p d : ℕ) → p < 510 → d < 256 → (p + 1) * d ≤ 130050
 share_most p d h k = mul-le-mul {n₁ = p + 1} {n₂ = 510} {m₂ = 255} (omega arith) (le_of_suc-le-suc k)
 
--- where no unused byte is set, the sum over all places ends with that over the offset's
-pub ends_at_used : (b : List ℕ) → unused_byte_set b ≡ false
-    → sum_below (check_share b) 510 ≡ sum_below (check_share b) 100 + sum_below (from_place 100 (check_share b)) 4
+-- where no unused byte is set, the sum over all places ends with the last used one
+pub ends_at_used : (b : List ℕ) → unused_byte_set b ≡ false → sum_below (check_share b) 510 ≡ sum_below (check_share b) 104
 unfolding unused_byte_set
 ends_at_used b none =
     let zero : (p : ℕ) → p < 406 → byte b (104 + p) ≡ 0 =
     λ p h. eqb-true (byte b (104 + p)) 0 (not-false _ (none_of_any (λ i. not (eqb (byte b (104 + i)) 0)) 406 none p h)) in
     let past : sum_below (from_place 104 (check_share b)) 406 ≡ 0 =
     sum_zero {f = from_place 104 (check_share b)} 406 (λ p h. rw (zero p h) (mul-zero _)) in
-    omega (arith, past, sum_split (check_share b) 104 406, sum_split (check_share b) 100 4)
+    omega (arith, past, sum_split (check_share b) 104 406)
 
 -- ---- bytes joined by or
 

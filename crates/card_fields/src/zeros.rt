@@ -2,42 +2,27 @@
 ghost use Rattle.std.specs.Prelude.{◌≡◌, ◌||◌, ◌^◌, leb, length, get_or};
 ghost use Rattle.model.specs.Card.{row_too_wide, unused_row_set, unused_byte_set};
 
+use super::fields::{CHECK_AT, UNUSED_AT};
+
 // Has a row a bit at n or above? No number of 64 bits has one at 64 or above.
 fn too_wide(n: u32, row: u64) -> bool
     ensures { result ≡ leb (2 ^ n) row }
 {
-    if 64 <= n {
-        return false;
-    }
-    row >> n != 0
+    n < 64 && row >> n != 0
 }
 
 // Has some row a bit at n or above?
 fn row_too_wide(n: u32, rows: [u64; 12]) -> bool
     ensures { result ≡ row_too_wide n (λ z. get_or rows z 0) }
 {
-    let mut z: usize = 0;
-    while z < 12 {
-        if too_wide(n, rows[z]) {
-            return true;
-        }
-        z += 1;
-    }
-    false
+    rows.iter().any(|row| too_wide(n, *row))
 }
 
 // Is some unused row, one of the rows k to 11, not zero?
 fn unused_row_set(k: u32, rows: [u64; 12]) -> bool
     ensures { result ≡ unused_row_set k (λ z. get_or rows z 0) }
 {
-    let mut z = k as usize;
-    while z < 12 {
-        if rows[z] != 0 {
-            return true;
-        }
-        z += 1;
-    }
-    false
+    rows.iter().skip(k as usize).any(|row| *row != 0)
 }
 
 // Is some byte from 104 to 509 not zero? The bytes are joined and tested once, so that many are taken in one step.
@@ -45,11 +30,9 @@ pub fn unused_byte_set(card: &[u8]) -> bool
     requires { length card.now ≡ 512 }
     ensures { result ≡ unused_byte_set card.now }
 {
-    let mut joined: u8 = 0;
-    let mut i: usize = 0;
-    while i < 406 {
-        joined |= card[104 + i];
-        i += 1;
+    let mut joined = 0;
+    for byte in &card[UNUSED_AT..CHECK_AT] {
+        joined |= *byte;
     }
     joined != 0
 }
@@ -58,11 +41,5 @@ pub fn unused_byte_set(card: &[u8]) -> bool
 pub fn has_misplaced(n: u32, k: u32, rows: [u64; 12], unused_set: bool) -> bool
     ensures { result ≡ (row_too_wide n (λ z. get_or rows z 0) || unused_row_set k (λ z. get_or rows z 0) || unused_set) }
 {
-    if row_too_wide(n, rows) {
-        return true;
-    }
-    if unused_row_set(k, rows) {
-        return true;
-    }
-    unused_set
+    row_too_wide(n, rows) || unused_row_set(k, rows) || unused_set
 }

@@ -1,7 +1,7 @@
 -- What decoding a card shows past refusals 1 to 3. What is misplaced is refusal 4, and then an offset outside its range is 14. Where no
 -- row is too wide, the least weight of the sets of rows is 0 if the rows are dependent, which is refusal 5, and the code's least distance
 -- if they are not. Assumes nothing.
-use mathlib.Core.Path.{◌≡◌, sym, ◌∙◌}
+use mathlib.Core.Path.{◌≡◌}
 use mathlib.Core.Bool.{true, false, cond}
 use mathlib.Core.List.{List}
 use mathlib.Core.Logic.{⊎_elim}
@@ -14,11 +14,11 @@ use Rattle.bits.proofs.Numbers.{eq_or_ne, or_false_left}
 use Rattle.model.specs.Card.{length_of, row_count_of, row_of, code_of, track_of, offset_of, stored_check, computed_check}
 use Rattle.model.specs.Card.{within_limits, row_too_wide, misplaced, offset_outside, dependent, card_refusal, SoundCard}
 use Rattle.model.specs.Decoded.{meaning}
-use Rattle.model.specs.declared.Decoded.{Decoded}
+use Rattle.model.specs.declared.DecodedCard.{DecodedCard}
 use Rattle.code_theory.specs.LeastOfSets.{least_of_sets}
 use Rattle.code_theory.proofs.LeastOfSets.{least_if_independent, independent_of_least, dependent_of_least}
 use Rattle.code_theory.proofs.SoundCard.{limits_of_test, narrow_of_test, card_tests, sound_card}
-use Rattle.card_reader.specs.DecodedFrom.{DecodedFrom}
+use Rattle.card_reader.specs.DecodedFrom.{DecodedCardOf}
 use Rattle.card_reader.proofs.SplitRows.{Narrow}
 use Rattle.card_reader.proofs.CardRefusals.{refusal_4_14_5_or_0}
 
@@ -82,27 +82,14 @@ code_of_least b sound n k distance rows is_n is_k is-rows is_least =
     let fit = narrow_rows b tests.limits tests.rows_within_lem in
     rw (is_n, is_k, is-rows, is_least fit, least_if_independent (length_of b) (row_count_of b) (row_of b) tests.rows_independent)
 
--- a refusal handed back alone
-pub refused_from : (b : List ℕ) (r : Decoded) (refusal : ℕ) → r.refusal ≡ refusal → card_refusal b ≡ refusal
-    → (refusal ≡ 0 → ⊥) → DecodedFrom b r
-refused_from b r refusal e is ne =
-    let never : r.refusal ≡ 0 → ⊥ = λ z. ne (sym e ∙ z) in
-    record {
-      refusal = e ∙ sym is;
-      track = λ z. absurd (never z);
-      offset = λ z. absurd (never z);
-      code = λ z. absurd (never z);
-      sound = λ z. absurd (never z);
-    }
-
 -- a sound card, with its track, its offset and its code
-pub decoded_from : (b : List ℕ) (r : Decoded) → SoundCard b → r.refusal ≡ 0 → r.track ≡ track_of b → r.offset ≡ offset_of b
-    → meaning r.code ≡ code_of b → DecodedFrom b r
-decoded_from b r sound none track offset code =
+pub decoded_from : (b : List ℕ) (decoded : DecodedCard) → SoundCard b → decoded.track ≡ track_of b → decoded.offset ≡ offset_of b
+    → meaning decoded.code ≡ code_of b → DecodedCardOf b decoded
+decoded_from b decoded sound track offset code =
     record {
-      refusal = none ∙ sym sound;
-      track = λ z. track;
-      offset = λ z. offset;
-      code = λ z. code;
-      sound = λ z. rw code (sound_card b sound);
+      sound_card = sound;
+      track = track;
+      offset = offset;
+      code = code;
+      sound = rw code (sound_card b sound);
     }

@@ -1,8 +1,8 @@
--- The least of some numbers and a start: with no number it is the start, one number more takes one minimum more, and functions with the
--- same values have the same least. Assumes nothing.
+-- The least of some numbers and a start: with no number it is the start, one number more takes one minimum more, and it is the same of a
+-- function that has the same values from some place on. Assumes nothing.
 use mathlib.Core.Path.{◌≡◌}
 use mathlib.Core.Logic.{⊎_elim}
-use Prim.Native.Nat.{ℕ, ◌+◌, ◌≤◌, ◌<◌, min}
+use Prim.Native.Nat.{ℕ, ◌+◌, ◌-◌, ◌≤◌, ◌<◌, min}
 use native.Mathlib.Omega.{arith}
 use Rattle.bits.proofs.Numbers.{eq_or_ne}
 use Rattle.card_reader.specs.LeastOf.{LeastOf}
@@ -25,10 +25,14 @@ module _ (f : ℕ → ℕ) (from : ℕ) where
         omega arith,
   )
 
-  pub least_of_same : (g : ℕ → ℕ) (end start least : ℕ) → ((j : ℕ) → j < end → f j ≡ g j) → LeastOf f from end start least
-      → LeastOf g from end start least
-  least_of_same g end start least same (high, le, greatest) = (
-    high,
-    λ j lo hi. rw (← (same j hi)) (le j lo hi),
-    λ b hi all. greatest b hi (λ j lo m. rw (same j m) (all j lo m)),
-  )
+-- m numbers of f are those of g from place `from` on
+pub least_of_part : (f g : ℕ → ℕ) (from m end start least : ℕ) → from + m ≡ end → ((j : ℕ) → j < m → f j ≡ g (from + j))
+    → LeastOf f 0 m start least → LeastOf g from end start least
+least_of_part f g from m end start least is_end same (high, le, greatest) = (
+  high,
+  λ j lo hi.
+      let place : from + (j - from) ≡ j = omega arith in
+      let here : f (j - from) ≡ g j = rw place at (same (j - from) (omega arith)) in
+      rw (← here) (le (j - from) (omega arith) (omega arith)),
+  λ b hi all. greatest b hi (λ j lo m. rw (same j m) (all (from + j) (omega arith) (omega arith))),
+)

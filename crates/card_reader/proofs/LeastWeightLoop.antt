@@ -2,7 +2,7 @@
 -- rows behind them, whose sums the loop steps through; both go in Gray order, and so meet each set once. The least that is kept is
 -- the greatest number that is at most n and each weight met: that fixes it, in whichever order the sets are met.
 -- Assumes nothing.
-use mathlib.Core.Path.{◌≡◌, sym, ap, ◌∙◌}
+use mathlib.Core.Path.{◌≡◌, refl, sym, ap, ◌∙◌}
 use mathlib.Core.List.{List}
 use mathlib.Core.Logic.{⊎_elim}
 use Prim.Native.Nat.{ℕ, suc, ◌+◌, ◌-◌, ◌*◌, ◌/◌, ◌%◌, ◌^◌, ◌≤◌, ◌<◌}
@@ -10,6 +10,8 @@ use native.Mathlib.Nat.{eq-zero-or-pos, add_comm, zero-mul, mod-lt, mul-pos, mul
 use native.Mathlib.Omega.{arith}
 use lib.Bits.{bit_xor}
 use lib.Count.{count_trailing_zeros, ones}
+use lib.ListN.{length, drop, length-drop}
+use Rattle.std.proofs.lemmas.List.{get_or-drop}
 use lib.Pow as pow
 use lib.Pow.{pow_pos, pow-add, shr_lt, le_ones, lt_of_le_ones}
 use Rattle.bits.specs.Places.{weight}
@@ -23,7 +25,7 @@ use Rattle.code_theory.proofs.Gray.{gray_zero, gray_below, gray_positive, gray_o
 use Rattle.code_theory.proofs.LeastOfSets.{AtMostEach, least_in_any_order}
 use Rattle.code_theory.proofs.GrayStep.{AtSet, set_start, row_below, set_next}
 use Rattle.card_reader.specs.LeastOf.{LeastOf, ones_with}
-use Rattle.card_reader.proofs.LeastOf.{least_of_same}
+use Rattle.card_reader.proofs.LeastOf.{least_of_part}
 use Rattle.card_reader.proofs.LowSums.{Table}
 use Rattle.card_reader.proofs.SplitRows.{Narrow, behind, rows_split}
 
@@ -35,21 +37,24 @@ both low high row h j = bit_xor (sum_of_rows row low (gray j)) (sum_of_rows (beh
 abbrev AtMostMet : (low high : ℕ) (row : ℕ → ℕ) (h b : ℕ) → Type 0
 AtMostMet low high row h b = (i j : ℕ) → i ≤ h → j < 2 ^ low → 0 < i + j → b ≤ ones (both low high row i j)
 
--- the loop stands at set h of last of the rows behind, whose sum is in word, and least is the least of n and the weights met
-pub record AtBehind (n low high : ℕ) (row : ℕ → ℕ) (last word least h : ℕ) : Type 0 where
-  pub at : AtSet high (behind low row) last word h
+-- the loop stands at set h of the rows behind, whose sum is in word, and least is the least of n and the weights met
+pub record AtBehind (n low high : ℕ) (row : ℕ → ℕ) (word least h : ℕ) : Type 0 where
+  pub at : AtSet high (behind low row) (2 ^ high - 1) word h
   pub at_most_n : least ≤ n
   pub at_most_met : AtMostMet low high row h least
   pub greatest : (b : ℕ) → b ≤ n → AtMostMet low high row h b → b ≤ least
 
 module _ (low high : ℕ) (row : ℕ → ℕ) where
-  -- what the inner loop finds in the table, said of the sums of rows
-  of_table : (sums : List ℕ) (h word from start least : ℕ) → Table low row sums → word ≡ sum_of_rows (behind low row) high (gray h)
-      → LeastOf (ones_with sums word) from (2 ^ low) start least
+  -- what the inner loop finds in the table from entry `from` on, said of the sums of rows
+  of_table : (sums : List ℕ) (h word from start least : ℕ) → from ≤ 2 ^ low → length sums ≡ 2 ^ low → Table low row sums
+      → word ≡ sum_of_rows (behind low row) high (gray h)
+      → LeastOf (ones_with (drop from sums) word) 0 (length (drop from sums)) start least
       → LeastOf (λ j. ones (both low high row h j)) from (2 ^ low) start least
-  of_table sums h word from start least table is_IsWord =
-      least_of_same (ones_with sums word) from (λ j. ones (both low high row h j)) (2 ^ low) start least
-      (λ j l. rw (table j l, is_IsWord))
+  of_table sums h word from start least inside all table is_IsWord =
+      let behind_from : from + length (drop from sums) ≡ 2 ^ low = omega (arith, length-drop from sums) in
+      least_of_part (ones_with (drop from sums) word) (λ j. ones (both low high row h j)) from (length (drop from sums)) (2 ^ low) start least
+      behind_from
+      (λ j l. rw (get_or-drop from sums j 0, table (from + j) (omega arith), is_IsWord))
 
 module _ (n low high : ℕ) (row : ℕ → ℕ) (narrow : Narrow n (low + high) row) where
   -- the weight of set g of all rows, by its two parts
@@ -100,11 +105,12 @@ module _ (n low high : ℕ) (row : ℕ → ℕ) (narrow : Narrow n (low + high) 
 
 module _ {n low high : ℕ} {row : ℕ → ℕ} where
   -- before the first turn: the sets of low rows alone
-  pub at_start : (sums : List ℕ) {two size least : ℕ} → Table low row sums → two ≡ 2 ^ high → size ≡ 2 ^ low
-      → LeastOf (ones_with sums 0) 1 size n least → AtBehind n low high row (two - 1) 0 least 0
-  at_start sums {least = least} table is-two is-size found =
-      let none : AtSet high (behind low row) _ 0 0 = set_start is-two in
-      let (at_most, at-most-each, greatest) = of_table low high row sums 0 0 1 n least table none.current (rw (← is-size) found) in
+  pub at_start : (sums : List ℕ) {least : ℕ} → length sums ≡ 2 ^ low → Table low row sums
+      → LeastOf (ones_with (drop 1 sums) 0) 0 (length (drop 1 sums)) n least → AtBehind n low high row 0 least 0
+  at_start sums {least = least} all table found =
+      let none : AtSet high (behind low row) (2 ^ high - 1) 0 0 = set_start refl in
+      let (at_most, at-most-each, greatest) =
+      of_table low high row sums 0 0 1 n least (pow_pos low) all table none.current found in
       record {
         at = none;
         at_most_n = at_most;
@@ -113,19 +119,21 @@ module _ {n low high : ℕ} {row : ℕ → ℕ} where
       }
 
   -- the row that is added is one of the twelve
-  pub row_behind : low + high ≤ 12 → {last word least h : ℕ} → AtBehind n low high row last word least h → h < last
-      → low + count_trailing_zeros 32 (h + 1) < 12
-  row_behind twelve stand more = omega (arith, row_below (omega arith) stand.at more)
+  pub row_behind : low + high ≤ 12 → {word least h j : ℕ} → AtBehind n low high row word least h → j ≡ h + 1 → j < 2 ^ high
+      → low + count_trailing_zeros 32 j < 12
+  row_behind twelve stand is_next more = rw is_next (omega (arith, row_below (omega arith) stand.at (omega arith)))
 
   -- a turn
-  pub at_next : high ≤ 12 → (sums : List ℕ) {size last word least h least' : ℕ} → Table low row sums → size ≡ 2 ^ low
-      → AtBehind n low high row last word least h → h < last
-      → let next = bit_xor word (row (low + count_trailing_zeros 32 (h + 1))) in
-      LeastOf (ones_with sums next) 0 size least least' → AtBehind n low high row last next least' (h + 1)
-  at_next twelve sums {least = least} {h = h} {least' = least'} table is-size stand more found =
-      let next = set_next twelve stand.at more in
+  pub at_next : high ≤ 12 → (sums : List ℕ) {word least h j least' : ℕ} → length sums ≡ 2 ^ low → Table low row sums
+      → AtBehind n low high row word least h → j ≡ h + 1 → j < 2 ^ high
+      → let next = bit_xor word (row (low + count_trailing_zeros 32 j)) in
+      LeastOf (ones_with sums next) 0 (length sums) least least' → AtBehind n low high row next least' j
+  at_next twelve sums {least = least} {h = h} {least' = least'} all table stand is_next more =
+      let next = set_next twelve stand.at (omega arith) in
+      rw is_next
+      (λ found.
       let (at_most, at-most-each, greatest) =
-      of_table low high row sums (h + 1) _ 0 least least' table next.current (rw (← is-size) found) in
+      of_table low high row sums (h + 1) _ 0 least least' (omega arith) all table next.current found in
       record {
         at = next;
         at_most_n = omega arith;
@@ -138,13 +146,13 @@ module _ {n low high : ℕ} {row : ℕ → ℕ} where
             λ b hi all.
             greatest b (stand.greatest b hi (λ i j l m pos. all i j (omega arith) m pos))
             (λ j lo m. all (h + 1) j (omega arith) m (omega arith));
-      }
+      })
 
   -- at the end all nonempty sets are met
-  pub at_end : {k last word least h : ℕ} → low + high ≡ k → AtBehind n low high row last word least h → last ≤ h
+  pub at_end : {k word least h : ℕ} → low + high ≡ k → AtBehind n low high row word least h → 2 ^ high ≤ h + 1
       → Narrow n k row → least ≡ least_of_sets n k row (2 ^ k - 1)
   at_end {least = least} {h = h} is_k stand done =
-      let all : h ≡ 2 ^ high - 1 = omega arith in
+      let all : h ≡ 2 ^ high - 1 = omega (arith, stand.at.within) in
       rw (← is_k)
       (λ narrow.
       least_in_any_order n (low + high) row least stand.at_most_n

@@ -1,7 +1,7 @@
 // The least weight of a code, by going through the sums of its rows.
 // A set of rows is a set of the first rows, the low ones, and a set of the rows behind them. The sums of the low rows stand in a
 // table. To each sum of the rows behind, the table's sums are added in one plain loop, which the compiler takes many at a time.
-ghost use Rattle.std.specs.Prelude.{◌≡◌, ℕ, ◌-◌, ◌^◌, ◌≤◌, ◌<◌, get_or};
+ghost use Rattle.std.specs.Prelude.{◌≡◌, ℕ, ◌-◌, ◌^◌, ◌≤◌, ◌<◌, length, get_or};
 ghost use Rattle.std.specs.Int.Count.{ones};
 ghost use Rattle.model.specs.Card.{sum_of_rows};
 ghost use Rattle.model.specs.Order.{gray};
@@ -15,10 +15,7 @@ use bit_arithmetic::powers;
 fn low_rows(k: u32) -> u32
     ensures { (result ≤ 5) × (result ≤ k) }
 {
-    if k < 5 {
-        return k;
-    }
-    5
+    k.min(5)
 }
 
 // The sums of the first `low` rows: entry j is the sum of the rows whose bits are set in Gray(j).
@@ -27,15 +24,14 @@ fn low_sums(low: u32, rows: [u64; 12]) -> [u64; 32]
     requires { low ≤ 5 }
     ensures { (j : ℕ) → j < 2 ^ low → get_or result j 0 ≡ sum_of_rows (λ z. get_or rows z 0) low (gray j) }
 {
-    let mut sums = [0u64; 32];
-    let last = powers::two_to(low) - 1;
-    let mut sum: u64 = 0;
-    let mut i: u32 = 0;
-    while i < last {
-        i += 1;
-        let z = u32::trailing_zeros(i) as usize;
+    let mut sums = [0; 32];
+    let mut sum = 0;
+    // Each turn takes the entry behind i: of a range that ends at a power of two itself the compiler tests every step by a shift.
+    for i in 0..powers::two_to(low) - 1 {
+        let j = i + 1;
+        let z = j.trailing_zeros() as usize;
         sum ^= rows[z];
-        sums[i as usize] = sum;
+        sums[j as usize] = sum;
     }
     sums
 }
@@ -44,22 +40,16 @@ fn low_sums(low: u32, rows: [u64; 12]) -> [u64; 32]
 fn ones_of(word: u64) -> u8
     ensures { result ≡ ones word }
 {
-    u64::count_ones(word) as u8
+    word.count_ones() as u8
 }
 
-// The least of `start` and of the weights of the sums `from` to `size` - 1, each with `word` added.
-fn least_of(sums: &[u64; 32], from: usize, size: usize, word: u64, start: u8) -> u8
-    requires { (from ≤ size) × (size ≤ 32) }
-    ensures { LeastOf (ones_with sums.now word) from size start result }
+// The least of `start` and of the weights of the sums, each with `word` added.
+fn least_of(sums: &[u64], word: u64, start: u8) -> u8
+    ensures { LeastOf (ones_with sums.now word) 0 (length sums.now) start result }
 {
     let mut least = start;
-    let mut j = from;
-    while j < size {
-        let weight = ones_of(sums[j] ^ word);
-        if weight < least {
-            least = weight;
-        }
-        j += 1;
+    for sum in sums {
+        least = least.min(ones_of(*sum ^ word));
     }
     least
 }
@@ -71,17 +61,14 @@ pub fn least_weight(n: u32, k: u32, rows: [u64; 12]) -> u32
     ensures { ((z : ℕ) → z < k → get_or rows z 0 < 2 ^ n) → result ≡ least_of_sets n k (λ z. get_or rows z 0) (2 ^ k - 1) }
 {
     let low = low_rows(k);
-    let size = powers::two_to(low) as usize;
-    let sums = low_sums(low, rows);
-    let mut least = least_of(&sums, 1, size, 0, n as u8);
-    let last = powers::two_to(k - low) - 1;
-    let mut word: u64 = 0;
-    let mut set: u32 = 0;
-    while set < last {
-        set += 1;
-        let z = (low + u32::trailing_zeros(set)) as usize;
+    let table = low_sums(low, rows);
+    let sums = &table[..powers::two_to(low) as usize];
+    let mut least = least_of(&sums[1..], 0, n as u8);
+    let mut word = 0;
+    for set in 1..powers::two_to(k - low) {
+        let z = (low + set.trailing_zeros()) as usize;
         word ^= rows[z];
-        least = least_of(&sums, 0, size, word, least);
+        least = least_of(sums, word, least);
     }
-    least as u32
+    u32::from(least)
 }

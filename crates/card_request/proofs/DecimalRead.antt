@@ -1,19 +1,12 @@
 -- A number typed in decimal, as the programs print it, reads as that number: a tenth of it, by its digits but the last, and then the last
 -- digit. So `number_in` is the number that a text is in decimal. Assumes nothing.
-use mathlib.Core.Path.{◌≡◌, refl}
-use mathlib.Core.Bool.{true}
-use mathlib.Core.List.{List, [], ◌∷◌, ◌++◌}
-use mathlib.Core.Logic.{⊎_elim}
-use Prim.Native.Nat.{ℕ, zero, suc, ◌/◌, ◌%◌, ◌≤◌, ◌<◌}
-use native.Mathlib.Omega.{arith}
-use borrow.Author.Tests.{le-leb, ne_eqb}
-use lib.ListN.{length}
+use Rattle.std.proofs.Common.{◌≡◌, refl, true, List, [], ◌∷◌, ◌++◌, ⊎_elim, ℕ, zero, suc, ◌/◌, ◌%◌, ◌≤◌, ◌<◌, Some, arith}
+use Rattle.std.proofs.lemmas.Bool.Decides.{nat_tests}
 use Rattle.bits.proofs.Numbers.{lt_or_le, and_true_left, and_true_right}
 use Rattle.report.specs.Text.{digit, decimal}
 use Rattle.report.proofs.Decimal.{decimal_below_ten, decimal_more, has_digit}
 use Rattle.card_request.specs.Request.{is_digit, all_digits, number_after, number_in, is_number, number_text}
-use Rattle.card_request.specs.declared.NumberText.TheVariants.{Number}
-use Rattle.card_request.proofs.Digits.{further, among_digits}
+use Rattle.card_request.proofs.Digits.{further}
 
 -- one digit more at the end
 number_more : (before : ℕ) (text : List ℕ) (b : ℕ) → number_after before (text ++ (b ∷ [])) ≡ further (number_after before text) b
@@ -28,7 +21,8 @@ digits_more (a ∷ text) b last all =
     rw (and_true_left (is_digit a) _ all) (digits_more text b last (and_true_right (is_digit a) _ all))
 
 digit_byte : (d : ℕ) → d < 10 → is_digit (digit d) ≡ true
-digit_byte d h = among_digits (digit d) (omega arith) (omega arith)
+unfolding is_digit
+digit_byte d h = grind (arith, nat_tests)
 
 -- m is any number above x
 digits_of : (m x : ℕ) → x < m → (number_in (decimal x) ≡ x) × (all_digits (decimal x) ≡ true)
@@ -45,8 +39,7 @@ digits_of (suc m) x h =
     ))
     (lt_or_le x 10)
 
-pub decimal_read : (most x : ℕ) → x ≤ most → number_text most (decimal x) ≡ Number x
+pub decimal_read : (most x : ℕ) → x ≤ most → number_text most (decimal x) ≡ Some x
 unfolding number_text is_number
 decimal_read most x fits =
-    let (number, digits) = digits_of (suc x) x (omega arith) in
-    rw (ne_eqb (length (decimal x)) 0 (λ e. omega (arith, has_digit x)), digits, number, le-leb x most fits)
+    let (number, digits) = digits_of (suc x) x (omega arith) in grind (arith, nat_tests, has_digit x)

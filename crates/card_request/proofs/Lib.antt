@@ -1,3 +1,3 @@
 pub mod Digits
-pub mod Answers
 pub mod DecimalRead
+pub mod Answers

@@ -1,13 +1,10 @@
 -- What a request for a card means, three texts in decimal as they are typed: the number in a text, the answer, and what an answer stands
 -- for, a status and values. A text is a list of bytes. Assumes nothing.
-use Rattle.std.specs.Prelude.{Bool, true, cond, not, ◌&&◌, List, [], ◌∷◌, ℕ, ◌+◌, ◌-◌, ◌*◌, leb, eqb, length, replicate}
-use Rattle.model.specs.Refusals.{refuses, first_refusal, unless_refused}
+use Rattle.std.specs.Prelude.{Bool, true, not, codes, ◌&&◌, if◌then◌else◌, Option, Some, None, Result, Ok, Err, List, [], ◌∷◌, ℕ, ◌+◌, ◌-◌, ◌*◌, leb, eqb, length}
+use Rattle.model.specs.Refusals.{refuses, first_refusal}
 use Rattle.model.specs.ReedMuller.{reed_muller_card, order_within_limits}
-use Rattle.card_request.specs.declared.NumberText.{NumberText}
-use Rattle.card_request.specs.declared.NumberText.TheVariants.{Number, NoNumber}
-use Rattle.card_request.specs.declared.Outcome.{Outcome}
-use Rattle.card_request.specs.declared.Outcome.TheVariants.{Made, Refused}
-use Rattle.card_request.specs.declared.Answer.{Answer}
+use Rattle.card_request.specs.declared.RequestRefusal.{RequestRefusal}
+use Rattle.card_request.specs.declared.RequestRefusal.TheVariants.{NotATrack, NotAnOrder, NotVariables, OutsideLimits}
 
 -- ---- a number
 
@@ -33,8 +30,8 @@ number_in text = number_after 0 text
 unfoldable pub is_number : (most : ℕ) → List ℕ → Bool
 is_number most text = not (eqb (length text) 0) && all_digits text && leb (number_in text) most
 
-unfoldable pub number_text : (most : ℕ) → List ℕ → NumberText
-number_text most text = cond (is_number most text) (Number (number_in text)) NoNumber
+unfoldable pub number_text : (most : ℕ) → List ℕ → Option ℕ
+number_text most text = if is_number most text then Some (number_in text) else None
 
 -- ---- a request
 
@@ -69,27 +66,37 @@ request_refusal track r m =
 abbrev pub request_card : (track r m : List ℕ) → List ℕ
 request_card track r m = reed_muller_card (number_in track) (number_in r) (number_in m)
 
--- no card is made: the outcome is the refusal, and all bytes are zero
-abbrev pub no_card : (refusal : ℕ) → Answer
-no_card refusal = record { outcome = Refused refusal; card = replicate 512 0 }
-
-unfoldable pub request_answer : (track r m : List ℕ) → Answer
-request_answer track r m = unless_refused (request_refusal track r m) no_card (record { outcome = Made; card = request_card track r m })
+-- the answer: the first of these tests that fails, or the card
+unfoldable pub request_answer : (track r m : List ℕ) → Result (List ℕ) RequestRefusal
+request_answer track r m =
+    if not (is_number greatest_track track) then Err NotATrack
+    else if not (is_number greatest_number r) then Err NotAnOrder
+    else if not (is_number greatest_number m) then Err NotVariables
+    else if not (order_within_limits (number_in r) (number_in m)) then Err OutsideLimits
+    else Ok (request_card track r m)
 
 -- ---- what an answer stands for, for every outcome
 
--- its status: 0 where the card is made, and the refusal's number otherwise
-unfoldable pub outcome_status : Outcome → ℕ
-outcome_status Made = 0
-outcome_status (Refused refusal) = refusal
+-- the number of each refusal
+unfoldable pub refusal_number : RequestRefusal → ℕ
+refusal_number NotATrack = no_track
+refusal_number NotAnOrder = no_order
+refusal_number NotVariables = no_variables
+refusal_number OutsideLimits = 13
 
-abbrev pub request_status : Answer → ℕ
-request_status a = outcome_status a.outcome
+-- the text of each refusal: what is wrong
+abbrev pub refusal_text : RequestRefusal → List ℕ
+refusal_text NotATrack = codes "TRACK is not a number from 0 to 65535"
+refusal_text NotAnOrder = codes "R is not a number from 0 to 4294967295"
+refusal_text NotVariables = codes "M is not a number from 0 to 4294967295"
+refusal_text OutsideLimits = codes "refused 13: M is not 1 to 6, R is above M, or k is above 12"
 
--- its values: the card's bytes, and none of a refusal
-unfoldable pub outcome_values : Outcome → (card : List ℕ) → List ℕ
-outcome_values Made card = card
-outcome_values (Refused refusal) card = []
+-- an answer's status: 0 where the card is made, and the refusal's number otherwise
+unfoldable pub request_status : Result (List ℕ) RequestRefusal → ℕ
+request_status (Ok card) = 0
+request_status (Err refusal) = refusal_number refusal
 
-abbrev pub request_values : Answer → List ℕ
-request_values a = outcome_values a.outcome a.card
+-- and its values: the card's bytes, and none of a refusal
+unfoldable pub request_values : Result (List ℕ) RequestRefusal → List ℕ
+request_values (Ok card) = card
+request_values (Err refusal) = []

@@ -1,112 +1,71 @@
 // A request for a card, as radio staff type it: the track number, the order r and the number of variables m, three texts in decimal.
-// It is answered with the card, or with the number of the first thing that is wrong with it; specs/Request.antt says which.
+// It is answered with the card, or with the first thing that is wrong with it; specs/Request.antt says which.
 #![tactic(auto)]
 
-ghost use Rattle.std.specs.Prelude.{◌≡◌};
+ghost use Rattle.std.specs.Prelude.{◌≡◌, Some, IfOk};
 ghost use Rattle.model.specs.Refusals.{if_served};
 ghost use Rattle.reed_muller_theory.specs.MadeCards.{IsReedMullerCard};
-ghost use Rattle.card_request.specs.Request.{number_in, number_text, no_card, request_refusal, request_card, request_answer};
-ghost use Rattle.card_request.specs.Request.{request_status, request_values};
-ghost use Rattle.card_request.specs.declared.Outcome.TheVariants.{Made};
+ghost use Rattle.card_request.specs.Request.{number_in, number_text, request_refusal, request_card, request_answer};
+ghost use Rattle.card_request.specs.Request.{refusal_text, request_status, request_values};
 
-// The greatest track number, and the greatest r and m that a call of the library can be given.
-const GREATEST_TRACK: u32 = 65535;
+use std::error::Error;
+use std::fmt;
 
-const GREATEST_NUMBER: u32 = 4294967295;
-
-// The refusals of a text that is no number, or one that does not fit: for the track number, for r and for m.
-pub const NO_TRACK: u32 = 101;
-
-pub const NO_ORDER: u32 = 102;
-
-pub const NO_VARIABLES: u32 = 103;
-
-// What a text reads as: a number in decimal, or none.
-#[derive(Clone, Copy)]
-pub enum NumberText {
-    Number(u32),
-    NoNumber,
+// Why no card is made: a text is no number, or one that does not fit, or the code is outside the limits. Each has a number: 101, 102 and
+// 103 for the texts, and 13 of document 02.
+#[derive(Clone, Copy, Debug, PartialEq, Eq)]
+pub enum RequestRefusal {
+    NotATrack,
+    NotAnOrder,
+    NotVariables,
+    OutsideLimits,
 }
 
-// The outcome of a request: that the card is made, or the number of the refusal, 13 for a code outside the limits, or that of a text.
-#[derive(Clone, Copy)]
-pub enum Outcome {
-    Made,
-    Refused(u32),
+impl fmt::Display for RequestRefusal {
+    ghost output = { λ refusal. Some (refusal_text refusal) };
+
+    fn fmt<W: fmt::Write>(&self, f: &mut fmt::Formatter<W>) -> fmt::Result {
+        match self {
+            RequestRefusal::NotATrack => f.write_str("TRACK is not a number from 0 to 65535"),
+            RequestRefusal::NotAnOrder => f.write_str("R is not a number from 0 to 4294967295"),
+            RequestRefusal::NotVariables => f.write_str("M is not a number from 0 to 4294967295"),
+            RequestRefusal::OutsideLimits => {
+                f.write_str("refused 13: M is not 1 to 6, R is above M, or k is above 12")
+            }
+        }
+    }
 }
 
-// The answer to a request: its outcome, and the card's bytes, all zero where none is made.
-#[derive(Clone, Copy)]
-pub struct Answer {
-    pub outcome: Outcome,
-    pub card: [u8; 512],
-}
+impl Error for RequestRefusal {}
 
-// The number in a text, at most `most`. Once it is above that, no further digit brings it back.
-pub fn number_in(text: &[u8], most: u32) -> NumberText
+// The number in a text, at most `most`. Once it is past 32 bits, no further digit brings it back.
+pub fn number_in(text: &[u8], most: u32) -> Option<u32>
     ensures { result ≡ number_text most text.now }
 {
-    if text.len() == 0 {
-        return NumberText::NoNumber;
+    if text.is_empty() {
+        return None;
     }
-    let mut number: u64 = 0;
-    let mut i: usize = 0;
-    while i < text.len() {
-        let byte = text[i];
-        if byte < b'0' {
-            return NumberText::NoNumber;
+    let mut number: u32 = 0;
+    for &byte in text {
+        if !byte.is_ascii_digit() {
+            return None;
         }
-        if b'9' < byte {
-            return NumberText::NoNumber;
-        }
-        number = 10 * number + (byte - b'0') as u64;
-        if (most as u64) < number {
-            return NumberText::NoNumber;
-        }
-        i += 1;
+        number = number.checked_mul(10)?.checked_add(u32::from(byte - b'0'))?;
     }
-    NumberText::Number(number as u32)
+    (number <= most).then_some(number)
 }
 
-// No card: the outcome is the refusal.
-fn no_card(refusal: u32) -> Answer
-    ensures { result ≡ no_card refusal }
-{
-    Answer {
-        outcome: Outcome::Refused(refusal),
-        card: [0u8; 512],
-    }
-}
-
-// The answer to a request: the card for the track number, the order r and the number of variables m that the texts give. Refused: a text
-// that is no number or one that does not fit, by the numbers above; a code outside the limits, 13.
-pub fn card_for(track: &[u8], r: &[u8], m: &[u8]) -> Answer
+// The answer to a request: the card for the track number, the order r and the number of variables m that the texts give.
+pub fn card_for(track: &[u8], r: &[u8], m: &[u8]) -> Result<[u8; 512], RequestRefusal>
     ensures answer { result ≡ request_answer track.now r.now m.now }
     ensures status { request_status result ≡ request_refusal track.now r.now m.now }
     ensures values { request_values result
         ≡ if_served (request_status result) (request_card track.now r.now m.now) }
-    ensures made { result.outcome ≡ Made
-        → IsReedMullerCard (number_in track.now) (number_in r.now) (number_in m.now) result.card }
+    ensures made { IfOk result
+        (λ card. IsReedMullerCard (number_in track.now) (number_in r.now) (number_in m.now) card) }
 {
-    let track_number = number_in(track, GREATEST_TRACK);
-    let NumberText::Number(track) = track_number else {
-        return no_card(NO_TRACK);
-    };
-    let order = number_in(r, GREATEST_NUMBER);
-    let NumberText::Number(r) = order else {
-        return no_card(NO_ORDER);
-    };
-    let variables = number_in(m, GREATEST_NUMBER);
-    let NumberText::Number(m) = variables else {
-        return no_card(NO_VARIABLES);
-    };
-    let made = depot::make_card(track as u16, r, m);
-    if made.refusal != 0 {
-        return no_card(made.refusal);
-    }
-    let card = made.bytes;
-    Answer {
-        outcome: Outcome::Made,
-        card,
-    }
+    let track = number_in(track, u32::from(u16::MAX)).ok_or(RequestRefusal::NotATrack)?;
+    let r = number_in(r, u32::MAX).ok_or(RequestRefusal::NotAnOrder)?;
+    let m = number_in(m, u32::MAX).ok_or(RequestRefusal::NotVariables)?;
+    depot::make_card(track as u16, r, m).map_err(|_| RequestRefusal::OutsideLimits)
 }

@@ -1,42 +1,42 @@
--- A number put into bytes: with its lowest byte in the last of them, what is left of it is to be put into those before; and where
--- zeros stand behind used bytes, a number put there is one used field more. Assumes nothing.
-use mathlib.Core.Path.{◌≡◌, sym}
-use mathlib.Core.List.{List, ◌++◌, ◌∷◌, append_assoc}
-use Prim.Native.Nat.{ℕ, suc, ◌+◌, ◌/◌, ◌%◌, ◌<◌}
-use native.Mathlib.Nat.{add-zero}
-use native.Mathlib.Numerals.{add-one}
-use native.Mathlib.Omega.{arith}
-use lib.ListN.{length, drop, set, replicate, length-set, take-append-drop, replicate-append-replicate}
-use lib.Seq.{take-set-le, drop-set-lt, drop-cons, get_or-set_same, take_at, drop_at}
+-- A number put into bytes: its lowest m bytes are the last m of the eight that the library writes it in; and where zeros stand behind
+-- used bytes, a number put there is one used field more. Assumes nothing.
+use mathlib.Core.Path.{◌≡◌, refl, sym, ◌∙◌}
+use mathlib.Core.List.{List, [], ◌++◌, ◌∷◌, append_assoc}
+use Prim.Native.Nat.{ℕ, zero, suc, ◌+◌, ◌/◌, ◌%◌, ◌^◌, ◌≤◌}
+use native.Mathlib.Nat.{zero-add, suc-add, mul_comm, pow-suc, div-div-eq-div-mul}
+use lib.ListN.{length, take, drop, replicate, replicate-append-replicate}
+use lib.Seq.{take_at, drop_at}
+use Rattle.std.specs.Int.{w64, byte_at, bytes_high_first, to_be_bytes}
+use Rattle.std.proofs.lemmas.List.{take_all}
 use Rattle.model.specs.CardBytes.{bytes_of}
-use Rattle.code_theory.proofs.CardFields.{last_byte, length_padded}
+use Rattle.code_theory.proofs.CardFields.{length_bytes, length_padded}
 use Rattle.card_writer.specs.WithNumber.{with_number}
 
--- ---- byte by byte, the last one first
+-- ---- the last m of eight bytes
 
--- from a store on, the list starts with what is stored
-drop_stored : (l : List ℕ) (i x : ℕ) → i < length l → drop i (set l i x) ≡ x ∷ drop (suc i) l
-drop_stored l i x h =
-    let inside : i < length (set l i x) = rw (length-set l i x) h in
-    rw (drop-cons (set l i x) i 0 inside, get_or-set_same l i x 0 h, drop-set-lt (suc i) l i x (omega arith))
+-- a byte of a number is the one before it of the number's 256th part
+byte_before : (m x : ℕ) → byte_at (suc m) x ≡ byte_at m (x / 256)
+byte_before zero x = refl
+byte_before (suc m) x =
+    rw (div-div-eq-div-mul x 256 (256 ^ suc m), mul_comm 256 (256 ^ suc m), ← pow-suc 256 (suc m))
 
-pub last_byte_put : (l : List ℕ) (at j x i : ℕ) → i ≡ at + j → i < length l
-    → with_number (set l i (x % 256)) at j (x / 256) ≡ with_number l at (j + 1) x
-unfolding with_number
-last_byte_put l at j x i last h =
-    let ends : at + (j + 1) ≡ suc i = omega arith in
-    rw (
-      ← last,
-      take-set-le at l i (x % 256) (omega arith),
-      drop_stored l i (x % 256) h,
-      ends,
-      add-one j,
-      last_byte j x (drop (suc i) l),
-    )
+lowest_last : (m x : ℕ) → bytes_high_first (suc m) x ≡ bytes_high_first m (x / 256) ++ (x % 256 ∷ [])
+lowest_last zero x = refl
+lowest_last (suc m) x = rw (byte_before m x, lowest_last m x)
 
-pub all_bytes_put : (l : List ℕ) (at x : ℕ) → with_number l at 0 x ≡ l
-unfolding with_number bytes_of
-all_bytes_put l at x = rw (add-zero at) (take-append-drop at l)
+lowest_bytes : (m x : ℕ) → bytes_high_first m x ≡ bytes_of m x
+unfolding bytes_of
+lowest_bytes zero x = refl
+lowest_bytes (suc m) x = lowest_last m x ∙ rw (lowest_bytes m (x / 256))
+
+behind_first : (k m x : ℕ) → drop k (bytes_high_first (k + m) x) ≡ bytes_high_first m x
+behind_first zero m x = rw (zero-add m)
+behind_first (suc k) m x = rw (suc-add k m) (behind_first k m x)
+
+pub last_bytes : (k m n x : ℕ) → k + m ≡ 8 → m ≤ n → take n (drop k (to_be_bytes w64 x)) ≡ bytes_of m x
+last_bytes k m n x eight enough =
+    let last : drop k (to_be_bytes w64 x) ≡ bytes_of m x = (rw eight at (behind_first k m x)) ∙ lowest_bytes m x in
+    rw last (take_all n (bytes_of m x) (rw (length_bytes m x) enough))
 
 -- ---- field by field
 

@@ -2,7 +2,7 @@
 -- passed over the codewords before p and finds p near has read the chunk. The reading of a chunk depends on its n places alone, and
 -- its status and values are those that the definitions expect. Assumes nothing.
 use mathlib.Core.Path.{◌≡◌, refl, sym, ap, ap₂, fun_ext, ◌∙◌}
-use mathlib.Core.Bool.{Bool, true, false, cond, not}
+use mathlib.Core.Bool.{Bool, true, false, cond, not, false≢true}
 use mathlib.Core.Logic.{⊎_elim}
 use Prim.Native.Nat.{ℕ, ◌+◌, ◌-◌, ◌*◌, ◌/◌, ◌^◌, ◌<◌, ◌≤◌}
 use native.Mathlib.Omega.{arith}
@@ -19,8 +19,7 @@ use Rattle.model.specs.Card.{Code, radius}
 use Rattle.model.specs.Reading.{chunk_distance, within_radius, read_first, chunk_reading, chunk_refusal, chunk_expected, chunk_status, chunk_values}
 use Rattle.model.specs.Order.{codeword}
 use Rattle.model.specs.Levels.{chunk_wrong, within_erasures, erasure_reading}
-use Rattle.model.specs.declared.Chunk.{Chunk}
-use Rattle.model.specs.declared.Chunk.TheVariants.{Codeword, Unreadable}
+use Rattle.model.specs.Reading.{Chunk, Codeword, Unreadable, number_read, differing_read, unreadable}
 
 module _ (near : ℕ → Bool) (count : ℕ → ℕ) (many : ℕ) where
   abbrev found : ℕ
@@ -48,16 +47,17 @@ module _ (near : ℕ → Bool) (count : ℕ → ℕ) (many : ℕ) where
 
   -- what is read is near
   pub reading_near : (p e : ℕ) → read_first near count many ≡ Codeword p e → (p < many) × (near p ≡ true) × (e ≡ count p)
+  unfolding number_read differing_read unreadable
   reading_near p e r =
       ⊎_elim
       (λ (l : found < many).
       let same : Codeword p e ≡ Codeword found (count found) = sym r ∙ reading_found l in
-      let is_p : p ≡ found = cc in
-      let is_e : e ≡ count found = cc in
+      let is_p : p ≡ found = ap number_read same in
+      let is_e : e ≡ count found = ap differing_read same in
       (rw is_p l, rw is_p (first_holds near many l), rw is_p is_e))
       (λ (l : many ≤ found).
       let clash : Codeword p e ≡ Unreadable = sym r ∙ reading_none l in
-      let no : ◌≡◌ {A = ℕ} 0 1 = cc in absurd (omega arith))
+      let no : ◌≡◌ {A = Bool} false true = ap unreadable clash in absurd (false≢true no))
       (lt_or_le found many)
 
 -- chunks that below n have the same unerased places and the same bits read alike

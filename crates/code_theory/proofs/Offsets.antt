@@ -27,11 +27,11 @@ use Rattle.model.specs.Trams.{trams_refusal, each_tram_answer}
 use Rattle.model.specs.NearestTram.{nearest_answer}
 use Rattle.model.specs.ReleaseTrack.{refusal_ahead_of_word, release_answer}
 use Rattle.model.specs.Millimetres.{millimetres_refusal, millimetres_answer}
-use Rattle.model.specs.declared.NumberAnswer.TheVariants.{Number, Refused as NumberRefused}
-use Rattle.model.specs.declared.MillimetresAnswer.TheVariants.{Millimetres, Refused as MillimetresRefused}
 use Rattle.code_theory.specs.Offsets.{OldCard, old_misplaced, old_card_refusal, old_card_answer, old_millimetres_answer, as_signed}
 use Rattle.code_theory.specs.Offsets.{CheckedAsBefore, DistanceAsBefore, CheckPromises, MillimetresPromises}
 use Rattle.code_theory.specs.Offsets.{SameButOffset, AnsweredAlike, ReleasesAlike}
+use Rattle.std.specs.Prelude.{Ok}
+use Rattle.model.specs.Refusals.{Refused}
 
 -- ---- old cards
 
@@ -57,7 +57,7 @@ checked_as_before card old = rw (old_refusal card old)
 
 -- an answer with a number, made signed, is the answer with the signed number
 signed_unless_refused : (refusal distance : ℕ)
-    → unless_refused refusal MillimetresRefused (Millimetres (pos distance)) ≡ as_signed (unless_refused refusal NumberRefused (Number distance))
+    → unless_refused refusal Refused (Ok (pos distance)) ≡ as_signed (unless_refused refusal Refused (Ok distance))
 unfolding unless_refused as_signed
 signed_unless_refused refusal distance =
     ⊎_elim (λ e. rw (eq-eqb refusal 0 e)) (λ ne. rw (ne_eqb refusal 0 ne)) (eq_or_ne refusal 0)

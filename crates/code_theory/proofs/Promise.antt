@@ -11,15 +11,16 @@ use Rattle.bits.specs.Sums.{everywhere}
 use Rattle.bits.proofs.Numbers.{not-true}
 use Rattle.model.specs.Card.{Code}
 use Rattle.model.specs.Order.{last_codeword}
+use Rattle.std.specs.Prelude.{Some, None}
 use Rattle.model.specs.Reading.{within_radius, read_first, chunk_reading}
 use Rattle.model.specs.Levels.{within_erasures, erasure_reading}
-use Rattle.model.specs.declared.Chunk.{Chunk}
-use Rattle.model.specs.declared.Chunk.TheVariants.{Codeword, Unreadable}
 use Rattle.code_theory.specs.Promise.{Sound, ReadsNear, ReadsWithErasures, ReadsChunks, ChunkPromise}
 use Rattle.code_theory.proofs.Codewords.{step_distance}
 use Rattle.code_theory.proofs.LeastDistance.{D-low, one_within_erasures, one_within_radius}
 use Rattle.code_theory.proofs.Starts.{start_zero, start_next}
 use Rattle.code_theory.proofs.ChunkReading.{reading_first, reading_near, plain_count, plain_near}
+use Rattle.std.specs.Prelude.{Some, None}
+use Rattle.model.specs.Reading.{Chunk}
 
 -- Where no chunk has two codewords near to it, the first one is the one, and the search keeps the promise.
 pub first_reads : {X : Type 0} {last : ℕ} {near : X → ℕ → Bool} {count : X → ℕ → ℕ}
@@ -74,11 +75,11 @@ pub readers_agree : {X : Type 0} {last : ℕ} {near : X → ℕ → Bool} {count
 readers_agree f g F G x = by_answer (f x) refl (g x) refl
   where
     by_answer : (a : Chunk) → f x ≡ a → (b : Chunk) → g x ≡ b → f x ≡ g x
-    by_answer (Codeword p e) h b k =
-        let is = F.within x p e h in h ∙ rw is.2 (sym (G.reads x p is.0 is.1))
-    by_answer Unreadable h (Codeword p e) k =
-        let is = G.within x p e k in F.reads x p is.0 is.1 ∙ rw (← is.2) (sym k)
-    by_answer Unreadable h Unreadable k = h ∙ sym k
+    by_answer (Some read) h b k =
+        let is = F.within x read.number read.differing h in h ∙ rw is.2 (sym (G.reads x read.number is.0 is.1))
+    by_answer None h (Some read) k =
+        let is = G.within x read.number read.differing k in F.reads x read.number is.0 is.1 ∙ rw (← is.2) (sym k)
+    by_answer None h None k = h ∙ sym k
 
 -- where no place is erased, a reader that promises to read plain chunks promises just what one over the unerased places does
 pub plain_as_unerased : (C : Code) → 1 ≤ C.D → {read : (ℕ → ℕ) → Chunk} → ReadsChunks C read → ReadsWithErasures C everywhere read

@@ -1,7 +1,7 @@
 -- Rows of the table of refusals, for every call: where no row holds there is no refusal, the first row that holds is the answer, and
 -- where there is no refusal no row holds, since no row has the number 0. A call whose refusal is 0 is served, and one with any other
 -- is answered by it. Assumes nothing.
-use mathlib.Core.Path.{◌≡◌, refl}
+use mathlib.Core.Path.{◌≡◌, refl, sym}
 use mathlib.Core.Bool.{Bool, true, false, cond, false≢true}
 use mathlib.Core.List.{List, [], ◌∷◌, ◌++◌}
 use mathlib.Core.Logic.{⊎_elim}
@@ -9,7 +9,12 @@ use Prim.Native.Nat.{ℕ}
 use borrow.Author.Tests.{eq-eqb, ne_eqb}
 use lib.Dec.{eqb}
 use Rattle.bits.proofs.Numbers.{eq_or_ne}
-use Rattle.model.specs.Refusals.{Row, refused_as, first_refusal, unless_refused}
+use Rattle.std.specs.Prelude.{Result, Ok, Err}
+use Rattle.model.specs.Refusals.{Refused, status_of, values_by}
+use Rattle.model.specs.Refusals.{Row, refused_as, first_refusal, unless_refused, if_served}
+use Rattle.model.specs.declared.Refusal.{Refusal}
+use Rattle.code_theory.specs.Promise.{RefusalOf}
+use Rattle.model.specs.Card.{card_refusal}
 
 -- none of the rows holds
 unfoldable pub NoneHolds : List Row → Type 0
@@ -93,3 +98,20 @@ unfolding first_refusal
 none_past_card card rows none =
     ⊎_elim (λ (e : card ≡ 0). (e, rw (eq-eqb card 0 e) at none))
     (λ (ne : card ≡ 0 → ⊥). absurd (ne (rw (ne_eqb card 0 ne) at none))) (eq_or_ne card 0)
+
+-- ---- answers
+
+-- the status of a call's answer is the refusal's number; its values are those of what is served, where that is 0
+pub status_and_values : {A B : Type 0} (values : A → List B) (refusal : ℕ) (served : A)
+    → let answer : Result A Refusal = unless_refused refusal Refused (Ok served) in
+    (status_of answer ≡ refusal) × (values_by values answer ≡ if_served (status_of answer) (values served))
+unfolding status_of values_by if_served
+status_and_values values refusal served =
+    ⊎_elim (λ (e : refusal ≡ 0). rw (served_if_none refusal Refused (Ok served) e) (sym e, refl))
+    (λ (ne : refusal ≡ 0 → ⊥). rw (refused_if_some refusal Refused (Ok served) ne) (refl, rw (ne_eqb refusal 0 ne)))
+    (eq_or_ne refusal 0)
+
+-- a call with a card that is refused is answered by the card's refusal
+pub err_by_card : {A : Type 0} (card : List ℕ) (refusal : Refusal) (rows : List Row) (served : A) → RefusalOf card refusal
+    → Err refusal ≡ unless_refused (first_refusal (refused_as (card_refusal card) ∷ rows)) Refused (Ok served)
+err_by_card card refusal rows served is = rw is.number (sym (refused_by_card refusal.number rows Refused (Ok served) is.not_zero))

@@ -5,11 +5,11 @@ use Rattle.std.specs.Prelude.{◌≡◌, List, ℕ, pos, take, set}
 use Rattle.model.specs.CardBytes.{sealed}
 use Rattle.model.specs.CardsToTry.{card_b}
 use Rattle.model.specs.declared.CardSummary.{CardSummary}
-use Rattle.model.specs.declared.CardAnswer.{CardAnswer}
-use Rattle.model.specs.declared.CardAnswer.TheVariants.{Sound, Refused as CardRefused}
-use Rattle.model.specs.declared.MillimetresAnswer.{MillimetresAnswer}
-use Rattle.model.specs.declared.MillimetresAnswer.TheVariants.{Millimetres, Refused as MillimetresRefused}
 use Rattle.code_theory.specs.Offsets.{CheckedAsBefore, DistanceAsBefore}
+use Rattle.model.specs.CheckCard.{CardAnswer}
+use Rattle.std.specs.Prelude.{Ok}
+use Rattle.model.specs.Refusals.{Refused}
+use Rattle.model.specs.Millimetres.{MillimetresAnswer}
 
 -- card B's n, k, track, D, t, d and last position
 abbrev pub summary_b : CardSummary
@@ -20,7 +20,7 @@ abbrev pub byte104_set : List ℕ
 byte104_set = sealed (set (take 510 card_b) 104 1)
 
 pub record OldCardsWitnessed : Type 0 where
-  pub sound : (answer : CardAnswer) → CheckedAsBefore card_b answer → answer ≡ Sound summary_b
-  pub refused_by_4 : (answer : CardAnswer) → CheckedAsBefore byte104_set answer → answer ≡ CardRefused 4
-  pub at_last : (answer : MillimetresAnswer) → DistanceAsBefore card_b 15 answer → answer ≡ Millimetres (pos 750)
-  pub past_last : (answer : MillimetresAnswer) → DistanceAsBefore card_b 16 answer → answer ≡ MillimetresRefused 7
+  pub sound : (answer : CardAnswer) → CheckedAsBefore card_b answer → answer ≡ Ok summary_b
+  pub refused_by_4 : (answer : CardAnswer) → CheckedAsBefore byte104_set answer → answer ≡ Refused 4
+  pub at_last : (answer : MillimetresAnswer) → DistanceAsBefore card_b 15 answer → answer ≡ Ok (pos 750)
+  pub past_last : (answer : MillimetresAnswer) → DistanceAsBefore card_b 16 answer → answer ≡ Refused 7

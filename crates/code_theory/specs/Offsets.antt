@@ -16,14 +16,13 @@ use Rattle.model.specs.TramsCrossing.{crossing_answer}
 use Rattle.model.specs.TramsWithin.{within_answer}
 use Rattle.model.specs.NearestTram.{nearest_answer}
 use Rattle.model.specs.ReleaseTrack.{release_answer}
-use Rattle.model.specs.declared.Trams.{Trams}
 use Rattle.model.specs.declared.Yard.{Yard}
-use Rattle.model.specs.declared.CardAnswer.{CardAnswer}
-use Rattle.model.specs.declared.CardAnswer.TheVariants.{Sound, Refused as CardRefused}
-use Rattle.model.specs.declared.NumberAnswer.{NumberAnswer}
-use Rattle.model.specs.declared.NumberAnswer.TheVariants.{Number, Refused as NumberRefused}
-use Rattle.model.specs.declared.MillimetresAnswer.{MillimetresAnswer}
-use Rattle.model.specs.declared.MillimetresAnswer.TheVariants.{Millimetres, Refused as MillimetresRefused}
+use Rattle.model.specs.CheckCard.{CardAnswer}
+use Rattle.std.specs.Prelude.{Ok, Err}
+use Rattle.model.specs.Refusals.{Refused}
+use Rattle.model.specs.BlockStart.{NumberAnswer}
+use Rattle.model.specs.Millimetres.{MillimetresAnswer}
+use Rattle.model.specs.Trams.{Trams}
 
 -- ---- old cards
 
@@ -50,19 +49,19 @@ old_card_refusal b =
 
 -- document 01's answer to a check of a card
 unfoldable pub old_card_answer : List ℕ → CardAnswer
-old_card_answer b = unless_refused (old_card_refusal b) CardRefused (Sound (summary_of b))
+old_card_answer b = unless_refused (old_card_refusal b) Refused (Ok (summary_of b))
 
 -- document 01's distance of a position from the buffer face: 50 mm × position
 unfoldable pub old_millimetres_answer : (card : List ℕ) (position : ℕ) → NumberAnswer
 old_millimetres_answer card position =
     unless_refused
     (first_refusal (refused_as (old_card_refusal card) ∷ refuses 7 (ltb (last_position (code_of card)) position) ∷ []))
-    NumberRefused (Number (50 * position))
+    Refused (Ok (50 * position))
 
 -- that answer with its number as a signed one
 unfoldable pub as_signed : NumberAnswer → MillimetresAnswer
-as_signed (Number distance) = Millimetres (pos distance)
-as_signed (NumberRefused refusal) = MillimetresRefused refusal
+as_signed (Ok distance) = Ok (pos distance)
+as_signed (Err refusal) = Err refusal
 
 -- the answer to a check of a card, where it is an old one, is document 01's
 unfoldable pub CheckedAsBefore : (card : List ℕ) → CardAnswer → Type 0

@@ -1,13 +1,18 @@
--- What is known of a sound card's code, and the chunk promise: what the theory of words and reading may know of it.
+-- A card's refusal, what is known of a sound card's code, and the chunk promise: what the theory of words and reading may know of it.
 -- Assumes nothing.
-use Rattle.std.specs.Prelude.{◌≡◌, Bool, true, ℕ, ◌+◌, ◌^◌, ◌≤◌, ◌<◌}
-use Rattle.model.specs.Card.{Code, sum_of_rows, least_weight}
+use Rattle.std.specs.Prelude.{◌≡◌, Bool, true, List, ℕ, ◌+◌, ◌^◌, ◌≤◌, ◌<◌}
+use Rattle.model.specs.Card.{Code, sum_of_rows, least_weight, card_refusal}
 use Rattle.model.specs.Order.{last_codeword, changed_weight, block_length, start}
 use Rattle.model.specs.Reading.{chunk_distance, within_radius, chunk_reading}
 use Rattle.model.specs.Levels.{chunk_wrong, within_erasures, erasure_reading}
-use Rattle.model.specs.declared.Chunk.{Chunk}
-use Rattle.model.specs.declared.Chunk.TheVariants.{Codeword}
 use Rattle.code_theory.specs.LeastDistance.{codeword_distance}
+use Rattle.model.specs.Reading.{Chunk, Codeword}
+use Rattle.model.specs.declared.Refusal.{Refusal}
+
+-- the refusal of a card that is not sound: its number, which is not 0
+pub record RefusalOf (b : List ℕ) (refusal : Refusal) : Type 0 where
+  pub number : card_refusal b ≡ refusal.number
+  pub not_zero : refusal.number ≡ 0 → ⊥
 
 -- a code that a sound card gives, all that the card's refusals leave: within the limits, no row wider than n, unused rows zero, rows
 -- independent, and D the least weight

@@ -18,6 +18,7 @@ use Rattle.model.specs.TramsCrossing.{crosses}
 use Rattle.model.specs.NearestTram.{distance_to}
 use Rattle.model.specs.CardsToTry.{card_a, card_b}
 use Rattle.computed_cases.specs.InnerCases.{InnerCase, inner_cases, card_of_unequal_blocks, where_divided, Divisions, divided_cases}
+use Rattle.model.specs.Refusals.{status_of, values_by}
 
 pub inner_cases_lem : map (λ (f : InnerCase). f.given) inner_cases ≡ map (λ (f : InnerCase). f.expected) inner_cases
 unfolding sum_below
@@ -27,7 +28,7 @@ unfolding sum_below
     bytes_of row_bytes sealed card_of
     sum_after_row sum_before_row
     last_codeword start last_position
-    millimetres_of order_within_limits make_refusal make_answer widened crosses distance_to
+    millimetres_of order_within_limits make_refusal make_answer status_of values_by widened crosses distance_to
     card_a card_b inner_cases
 inner_cases_lem = refl
 

@@ -14,10 +14,12 @@ use Rattle.model.specs.Words.{chunk_size, places_before, five_chunks, word, bloc
 use Rattle.model.specs.Reading.{majority, chunk_distance, within_radius, read_first, chunk_reading, unreadable, number_read, seen}
 use Rattle.model.specs.Reading.{rule_of, number_by, separator_of, parity_differs, two_ends, rows_9_to_12, rows_seen, rule_named, rows_of}
 use Rattle.model.specs.Reading.{allowed, residual, nearest_in, bits_needed, nearest_reading, bits_value}
-use Rattle.model.specs.WriteWord.{write_refusal, write_answer, lent_after_write, write_status, write_values}
-use Rattle.model.specs.ReadWord.{spare_set, rows_of_word, read_refusal, read_answer, read_status, read_values}
+use Rattle.model.specs.WriteWord.{write_refusal, write_answer, lent_after_write}
+use Rattle.model.specs.ReadWord.{spare_set, rows_of_word, read_refusal, read_answer}
 use Rattle.model.specs.CardsToTry.{card_a, card_b}
 use Rattle.computed_cases.specs.StarredCases.{Case, numbers_of, codeword_places, answer_to, starred_cases}
+use Rattle.model.specs.Refusals.{status_of}
+use Rattle.model.specs.Refusals.{values_by}
 
 pub starred_cases_lem : map (λ (c : Case). answer_to c.question) starred_cases ≡ map (λ (c : Case). c.answer) starred_cases
 unfolding sum_below distance join_at
@@ -31,6 +33,6 @@ unfolding sum_below distance join_at
     majority chunk_distance within_radius read_first chunk_reading unreadable number_read seen
     rule_of number_by separator_of parity_differs two_ends rows_9_to_12 rows_seen rule_named rows_of allowed residual nearest_in bits_needed nearest_reading
     write_refusal write_answer lent_after_write spare_set rows_of_word read_refusal read_answer
-    write_status write_values bits_value read_status read_values
+    status_of values_by bits_value
     bytes_of row_bytes sealed card_of card_a card_b numbers_of codeword_places answer_to starred_cases
 starred_cases_lem = refl

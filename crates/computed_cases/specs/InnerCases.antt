@@ -1,4 +1,4 @@
--- Values of document 02's P1, P2, P4, P7 and P8 that no call answers, so that no program can try them: the bytes beside refusal 13, an
+-- Values of document 02's P1, P2, P4, P7 and P8 that no call answers, so that no program can try them: that no bytes stand beside refusal 13, an
 -- offset at the ends of the numbers of 32 bits (such a card is refused by 14), a distance at a position that no sound card reaches, the
 -- sums on the way to a block's start, widened stretches and how far they are from a mark; and at which positions each chunk is divided.
 -- That the definitions give them is computed, `inner_cases_lem` and `divided_cases_lem`. Assumes nothing.
@@ -8,12 +8,12 @@ use Rattle.bits.specs.Counting.{those}
 use Rattle.model.specs.Card.{Code, offset_of, code_of}
 use Rattle.model.specs.Order.{row_share, sum_after_row, sum_before_row, last_position}
 use Rattle.model.specs.Words.{millimetres_of, divided}
-use Rattle.model.specs.MakeCard.{make_answer}
+use Rattle.model.specs.MakeCard.{MadeCard, made_bytes, make_answer}
 use Rattle.model.specs.Trams.{margin, widened}
 use Rattle.model.specs.NearestTram.{distance_to}
 use Rattle.model.specs.CardsToTry.{card_with, card_a, card_b}
-use Rattle.model.specs.declared.MadeCard.{MadeCard}
 use Rattle.model.specs.declared.Stretch.{Stretch}
+use Rattle.model.specs.Refusals.{status_of}
 
 -- four rows, of weights 4, 3, 2 and 1, and D 1
 abbrev four_row_card : List ℕ
@@ -23,9 +23,9 @@ four_row_card = card_with 4 4 0 (0b1111 ∷ 0b0111 ∷ 0b0011 ∷ 0b0001 ∷ [])
 abbrev offset_in : List ℕ → List ℤ
 offset_in bytes = offset_of (replicate 100 0 ++ bytes) ∷ []
 
--- the refusal of a card that is to be made, and the bytes beside it
+-- the status of a card that is to be made, and its bytes, none of a refusal
 abbrev made : MadeCard → List ℤ
-made card = map pos (card.refusal ∷ card.bytes)
+made card = map pos (status_of card ∷ made_bytes card)
 
 -- the shares of rows 0 to k - 1 in the start of a block
 abbrev row_shares : (card : List ℕ) (block : ℕ) → List ℤ
@@ -58,8 +58,8 @@ inner_case given expected = signed_case given (map pos expected)
 
 unfoldable pub inner_cases : List InnerCase
 inner_cases =
-    -- P1: m 0 is 13, and all 512 bytes are zero; `make_answer` has one clause for every refusal, so they are the same whatever r and m are
-    inner_case (made (make_answer 14 0 0)) (13 ∷ replicate 512 0)
+    -- P1: m 0 is 13, and no bytes stand beside a refusal
+    inner_case (made (make_answer 14 0 0)) (13 ∷ [])
     -- P2: -2^31 and 2^31 - 1
     ∷ signed_case (offset_in (0x80 ∷ 0x00 ∷ 0x00 ∷ 0x00 ∷ [])) (neg_ℤ (pos 2147483648) ∷ [])
     ∷ inner_case (offset_in (0x7f ∷ 0xff ∷ 0xff ∷ 0xff ∷ [])) (2147483647 ∷ [])

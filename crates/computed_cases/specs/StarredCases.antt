@@ -9,8 +9,9 @@ use Rattle.model.specs.CardsToTry.{card_a, card_b}
 use Rattle.model.specs.Order.{codeword, last_position, start}
 use Rattle.model.specs.Words.{separator₁, separator₂, separator₃, word_bytes}
 use Rattle.model.specs.Reading.{not_read}
-use Rattle.model.specs.WriteWord.{write_answer, lent_after_write, write_status, write_values}
-use Rattle.model.specs.ReadWord.{read_answer, read_status, read_values}
+use Rattle.model.specs.WriteWord.{write_answer, lent_after_write, write_values}
+use Rattle.model.specs.ReadWord.{read_answer, read_values}
+use Rattle.model.specs.Refusals.{status_of}
 
 -- what may be asked of a card
 pub data Question : Type 0 where
@@ -41,8 +42,8 @@ unfoldable pub answer_to : Question → List ℕ
 answer_to (order card m) = codeword_places card m
 answer_to (starts card m) = list_of m (start (code_of card)) ++ (last_position (code_of card) ∷ [])
 answer_to (write card position lent) =
-    numbers_of write_status write_values (write_answer card position lent) ++ lent_after_write card position lent
-answer_to (read card received) = numbers_of read_status read_values (read_answer card received)
+    numbers_of status_of write_values (write_answer card position lent) ++ lent_after_write card position lent
+answer_to (read card received) = numbers_of status_of read_values (read_answer card received)
 answer_to (bits_differing card position received) = differing_bits (word_bytes (code_of card) position) received ∷ []
 answer_to (ones_of_separators card received) =
     let C : Code = code_of card in

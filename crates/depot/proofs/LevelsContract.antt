@@ -1,48 +1,71 @@
--- What a read of levels answers, one law for each way out of the code: the answer is the one that the definition gives, of which the
--- clauses of the contract are theorems. Assumes nothing.
-use mathlib.Core.Path.{◌≡◌, sym, ◌∙◌}
-use mathlib.Core.List.{List}
+-- What a read of levels answers: the card's refusal, or what the reading of the levels answers on the code of a sound card. The answer is the
+-- one that the definition gives, of which the clauses of the contract are theorems. Assumes nothing.
+use mathlib.Core.Path.{◌≡◌, refl, sym, ap, ◌∙◌}
+use mathlib.Core.List.{List, [], ◌∷◌}
 use Prim.Native.Nat.{ℕ}
 use lib.Ieee.{Float}
+use Rattle.std.specs.Prelude.{Err}
+use Rattle.model.specs.Refusals.{status_of, if_served}
+use Rattle.model.specs.Card.{Code, code_of}
 use Rattle.model.specs.Decoded.{meaning}
-use Rattle.model.specs.Refusals.{if_served}
-use Rattle.model.specs.ReadLevels.{read_levels, levels_answered, levels_answer, levels_refusal, levels_expected}
-use Rattle.model.specs.ReadLevels.{strength_expected, position_answer}
-use Rattle.model.specs.ReadLevels.{levels_status, levels_values, strength_values}
-use Rattle.model.specs.declared.Decoded.{Decoded}
-use Rattle.model.specs.declared.LevelsAnswer.{LevelsAnswer}
-use Rattle.model.specs.declared.LevelsAnswer.TheVariants.{Refused}
-use Rattle.code_theory.proofs.RefusalRows.{refused_by_card}
+use Rattle.model.specs.Words.{word_bits}
+use Rattle.model.specs.Reading.{reading_values}
+use Rattle.model.specs.Levels.{received_at, strength_of}
+use Rattle.model.specs.ReadLevels.{LevelsAnswer, reading_in_levels, read_levels, levels_answered, levels_answer, levels_refusal, levels_expected}
+use Rattle.model.specs.ReadLevels.{strength_expected, position_answer, levels_values, strength_values}
+use Rattle.model.specs.declared.DecodedCard.{DecodedCard}
+use Rattle.model.specs.declared.LevelsReading.{LevelsReading}
+use Rattle.model.specs.declared.Refusal.{Refusal}
+use Rattle.code_theory.proofs.RefusalRows.{err_by_card, status_and_values}
+use Rattle.card_reader.specs.DecodedFrom.{DecodedCardOf}
 use Rattle.level_theory.specs.LevelPromises.{OffByAtMostTwiceWrongAndErased, LevelPromises}
-use Rattle.level_theory.proofs.LevelsAnswered.{levels_sound}
+use Rattle.level_theory.proofs.LevelsAnswered.{position_answered, levels_sound}
 use Rattle.level_theory.proofs.LevelPromises.{off_by_at_most_twice_wrong_and_erased, level_promises}
-use Rattle.card_reader.specs.DecodedFrom.{DecodedFrom}
-use Rattle.depot.proofs.Contracts.{Meets, met}
-use Rattle.depot.proofs.Statuses.{levels_answered_lem, strength_answered}
+use Rattle.code_theory.specs.Promise.{RefusalOf}
 
 module _ (card : List ℕ) (levels : List Float) where
-  -- the clauses of the contract beside the equation, and that the definition's answer meets them
-  abbrev LevelsClauses : LevelsAnswer → Type 0
-  LevelsClauses answer =
-      (levels_status answer ≡ levels_refusal card levels)
-      × ((levels_values answer ≡ if_served (levels_status answer) (levels_expected card levels))
-      × ((strength_values answer ≡ if_served (levels_status answer) (strength_expected card levels))
-      × (OffByAtMostTwiceWrongAndErased card levels (position_answer answer) × LevelPromises card levels (position_answer answer))))
+  pub levels_by_card : (refusal : Refusal) → RefusalOf card refusal → Err refusal ≡ levels_answer card levels
+  unfolding levels_answer levels_answered levels_refusal
+  levels_by_card refusal is = err_by_card card refusal _ _ is
 
-  levels_clauses : LevelsClauses (levels_answer card levels)
-  levels_clauses =
-      let (status, values) = levels_answered_lem card levels in
-      let (_, strength) = strength_answered card levels in
-      (status, (values, (strength, (off_by_at_most_twice_wrong_and_erased card levels, level_promises card levels))))
+  pub levels_read : (decoded : DecodedCard) → DecodedCardOf card decoded → read_levels (meaning decoded.code) levels ≡ levels_answer card levels
+  levels_read decoded from =
+      ap (λ (C : Code). read_levels C levels) from.code ∙ sym (levels_sound card levels from.sound_card)
 
+  -- the contract, and that the definition's answer meets it
   abbrev LevelsMeet : LevelsAnswer → Type 0
-  LevelsMeet = Meets LevelsClauses (levels_answer card levels)
+  LevelsMeet a =
+      record {
+        answer : a ≡ levels_answer card levels;
+        status : status_of a ≡ levels_refusal card levels;
+        values : levels_values a ≡ if_served (status_of a) (levels_expected card levels);
+        strength : strength_values a ≡ if_served (status_of a) (strength_expected card levels);
+        bounded : OffByAtMostTwiceWrongAndErased card levels (position_answer a);
+        promises : LevelPromises card levels (position_answer a);
+      }
 
-  module _ (decoded : Decoded) (from : DecodedFrom card decoded) where
-    pub levels_card_refused : (decoded.refusal ≡ 0 → ⊥) → LevelsMeet (Refused decoded.refusal)
-    unfolding levels_answer levels_answered levels_refusal
-    levels_card_refused ne = met LevelsClauses levels_clauses (rw (← from.refusal, refused_by_card decoded.refusal _ Refused _ ne))
+  -- what is served: the reading, and the strength of all levels
+  abbrev served : LevelsReading
+  served =
+      record {
+        reading = reading_in_levels (code_of card) (received_at levels);
+        strength = strength_of (received_at levels) (word_bits (code_of card));
+      }
 
-    pub levels_read : decoded.refusal ≡ 0 → (r : LevelsAnswer) → r ≡ read_levels (meaning decoded.code) levels → LevelsMeet r
-    levels_read sound r e =
-        met LevelsClauses levels_clauses (rw (levels_sound card levels (sym from.refusal ∙ sound), ← (from.code sound)) e)
+  pub levels_answered_lem : {answer : LevelsAnswer} → answer ≡ levels_answer card levels → LevelsMeet answer
+  unfolding levels_answer levels_answered levels_expected strength_expected
+  levels_answered_lem e =
+      let (same, values) = status_and_values reading_values (levels_refusal card levels) served.reading in
+      let (status, strength) =
+      status_and_values (λ (read : LevelsReading). read.strength.sum ∷ read.strength.greatest ∷ []) (levels_refusal card levels) served in
+      rw e
+      (record {
+        answer = refl;
+        status = status;
+        values =
+            rw (position_answered (code_of card) levels (levels_refusal card levels))
+            (values ∙ ap (λ (s : ℕ). if_served s (levels_expected card levels)) (same ∙ sym status));
+        strength = strength;
+        bounded = off_by_at_most_twice_wrong_and_erased card levels;
+        promises = level_promises card levels;
+      })

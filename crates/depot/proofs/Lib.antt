@@ -1,5 +1,3 @@
-pub mod Contracts
-pub mod Statuses
 pub mod CheckContract
 pub mod StartContract
 pub mod MillimetresContract

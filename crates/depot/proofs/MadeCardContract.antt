@@ -1,19 +1,17 @@
--- What the call that makes a card answers, one law for each way out of the code; the refusal is that of the answer that the definition
--- gives, and within the limits a card is made, the one of document 02, P1. For the callers: what a refusal says of the limits. Assumes
--- nothing.
-use mathlib.Core.Path.{◌≡◌, refl, sym, ◌∙◌}
-use mathlib.Core.Bool.{Bool, true, false, cond, not, false≢true}
+-- What the call that makes a card answers, one law for each way out of the code: the answer is the one that the definition gives, and within
+-- the limits the card that is made is the one of document 02, P1. For the callers: what a refusal says of the limits. Assumes nothing.
+use mathlib.Core.Path.{◌≡◌, refl}
+use mathlib.Core.Bool.{Bool, true, false, cond, not}
 use mathlib.Core.List.{List}
+use Rattle.std.specs.Prelude.{Ok, IsOkAnd}
 use Prim.Native.Nat.{ℕ, ◌<◌}
 use native.Mathlib.Omega.{arith}
-use lib.ListN.{replicate}
-use Rattle.model.specs.Refusals.{first_refusal, unless_refused}
+use Rattle.model.specs.Refusals.{Refused, status_of, first_refusal, unless_refused}
 use Rattle.model.specs.ReedMuller.{reed_muller_card, order_within_limits}
-use Rattle.model.specs.MakeCard.{make_refusal, make_answer}
-use Rattle.model.specs.declared.MadeCard.{MadeCard}
+use Rattle.model.specs.MakeCard.{MadeCard, make_refusal, make_answer}
 use Rattle.reed_muller_theory.specs.MadeCards.{IsReedMullerCard}
 use Rattle.reed_muller_theory.proofs.MadeCards.{is_reed_muller_card}
-use Rattle.depot.proofs.Contracts.{Meets}
+use Rattle.code_theory.proofs.RefusalRows.{status_and_values}
 
 -- ---- what a refusal says of the limits
 
@@ -42,25 +40,29 @@ module _ (r m : ℕ) where
 module _ (track r m : ℕ) where
   -- what the contract says of the card: within the limits it is made, and is the code's
   abbrev pub CardIfWithinLimits : MadeCard → Type 0
-  CardIfWithinLimits answer = order_within_limits r m ≡ true → (answer.refusal ≡ 0) × IsReedMullerCard track r m answer.bytes
+  CardIfWithinLimits answer = order_within_limits r m ≡ true → IsOkAnd answer (λ card. IsReedMullerCard track r m card)
 
-  -- the clauses of the contract beside the equation
-  abbrev MakeClauses : MadeCard → Type 0
-  MakeClauses answer = (answer.refusal ≡ make_refusal r m) × CardIfWithinLimits answer
+  pub make_refused : order_within_limits r m ≡ false → Refused 13 ≡ make_answer track r m
+  unfolding make_answer make_refusal unless_refused first_refusal
+  make_refused outside = rw outside
 
+  pub card_made : order_within_limits r m ≡ true → Ok (reed_muller_card track r m) ≡ make_answer track r m
+  unfolding make_answer make_refusal unless_refused first_refusal
+  card_made within = rw within
+
+  -- the contract, and that the definition's answer meets it
   abbrev MakeMeets : MadeCard → Type 0
-  MakeMeets = Meets MakeClauses (make_answer track r m)
+  MakeMeets a =
+      record {
+        answer : a ≡ make_answer track r m;
+        status : status_of a ≡ make_refusal r m;
+        made : CardIfWithinLimits a;
+      }
 
-  pub make_refused : order_within_limits r m ≡ false → MakeMeets record { refusal = 13; bytes = replicate 512 0 }
-  unfolding make_answer make_refusal unless_refused first_refusal
-  make_refused outside = (rw outside, (rw outside, λ within. absurd (false≢true (sym outside ∙ within))))
-
-  pub card_made : track < 65536 → order_within_limits r m ≡ true → (bytes : List ℕ) → bytes ≡ reed_muller_card track r m
-      → MakeMeets record { refusal = 0; bytes = bytes }
-  unfolding make_answer make_refusal unless_refused first_refusal
-  card_made fits within bytes is = rw is (rw within, (rw within, λ _. (refl, is_reed_muller_card track r m within fits)))
-
-  -- a caller has seen no refusal
-  pub unrefused_card : {answer : MadeCard} → answer.refusal ≡ make_refusal r m → CardIfWithinLimits answer → answer.refusal ≡ 0
-      → IsReedMullerCard track r m answer.bytes
-  unrefused_card refusal made none = (made (limits_passed r m (sym refusal ∙ none))).1
+  pub make_answered : track < 65536 → {answer : MadeCard} → answer ≡ make_answer track r m → MakeMeets answer
+  unfolding make_answer
+  make_answered fits e =
+      let (status, _) = status_and_values (λ (card : List ℕ). card) (make_refusal r m) (reed_muller_card track r m) in
+      let made : CardIfWithinLimits (make_answer track r m) =
+      λ within. rw (← (card_made within)) (is_reed_muller_card track r m within fits) in
+      rw e (record { answer = refl; status = status; made = made })

@@ -1,52 +1,49 @@
--- What the call that asks for a block's start answers, one law for each way out of the code, from what decoding the card gave: the
--- answer is the one that the definition gives, of which the clauses of the contract are theorems. Assumes nothing.
-use mathlib.Core.Path.{◌≡◌, sym, ◌∙◌}
+-- What the call that asks for a block's start answers: the card's refusal, or on the code of a sound card refusal 7 or the start. The answer is
+-- the one that the definition gives, of which the clauses of the contract are theorems. Assumes nothing.
+use mathlib.Core.Path.{◌≡◌, refl}
 use mathlib.Core.List.{List, [], ◌∷◌}
 use Prim.Native.Nat.{ℕ, ◌≤◌, ◌<◌}
 use borrow.Author.Tests.{eq-eqb, lt-ltb, le-ltb}
-use Rattle.model.specs.Refusals.{first_refusal, unless_refused}
-use Rattle.model.specs.Card.{card_refusal, code_of, SoundCard}
+use Rattle.std.specs.Prelude.{Ok, Err}
+use Rattle.model.specs.Refusals.{status_of, first_refusal, unless_refused, if_served}
+use Rattle.model.specs.Card.{card_refusal, code_of}
 use Rattle.model.specs.Decoded.{meaning}
 use Rattle.model.specs.Order.{last_codeword, start}
-use Rattle.model.specs.BlockStart.{start_refusal, start_answer, number_status, number_values}
-use Rattle.model.specs.declared.Decoded.{Decoded}
-use Rattle.model.specs.declared.NumberAnswer.{NumberAnswer}
-use Rattle.model.specs.declared.NumberAnswer.TheVariants.{Number, Refused}
-use Rattle.code_theory.proofs.RefusalRows.{refused_by_card}
-use Rattle.card_reader.specs.DecodedFrom.{DecodedFrom}
-use Rattle.depot.proofs.Contracts.{Meets, met}
-use Rattle.depot.proofs.Statuses.{StatusAndValues, start_answered}
+use Rattle.model.specs.BlockStart.{NumberAnswer, start_refusal, start_answer, number_values}
+use Rattle.model.specs.declared.DecodedCard.{DecodedCard}
+use Rattle.model.specs.declared.Refusal.{Refusal}
+use Rattle.code_theory.proofs.RefusalRows.{err_by_card, status_and_values}
+use Rattle.card_reader.specs.DecodedFrom.{DecodedCardOf}
+use Rattle.code_theory.specs.Promise.{RefusalOf}
+use Rattle.model.specs.Refusals.{Refused}
 
--- the clauses of the contract beside the equation
-abbrev StartClauses : (card : List ℕ) (block : ℕ) → NumberAnswer → Type 0
-StartClauses card block = StatusAndValues number_status number_values (start_refusal card block) (start (code_of card) block ∷ [])
-
-abbrev StartMeets : (card : List ℕ) (block : ℕ) → NumberAnswer → Type 0
-StartMeets card block = Meets (StartClauses card block) (start_answer card block)
-
--- a card that is refused
-module _ (card : List ℕ) (decoded : Decoded) (from : DecodedFrom card decoded) (refused : decoded.refusal ≡ 0 → ⊥) where
-  pub start_refused : (block : ℕ) → StartMeets card block (Refused decoded.refusal)
+module _ (card : List ℕ) (block : ℕ) where
+  pub start_by_card : (refusal : Refusal) → RefusalOf card refusal → Err refusal ≡ start_answer card block
   unfolding start_answer start_refusal
-  start_refused block =
-      met (StartClauses card block) (start_answered card block)
-      (rw (← from.refusal) (sym (refused_by_card decoded.refusal _ _ _ refused)))
+  start_by_card refusal is = err_by_card card refusal _ _ is
 
--- a sound card
-module _ (card : List ℕ) (decoded : Decoded) (from : DecodedFrom card decoded) (sound : decoded.refusal ≡ 0) where
-  is_sound : SoundCard card
-  is_sound = sym from.refusal ∙ sound
+  module _ (decoded : DecodedCard) (from : DecodedCardOf card decoded) (last : ℕ) (is : last ≡ last_codeword (meaning decoded.code)) where
+    pub start_above : last < block → Refused 7 ≡ start_answer card block
+    unfolding start_answer start_refusal first_refusal unless_refused
+    start_above h = rw (eq-eqb (card_refusal card) 0 from.sound_card, ← from.code, ← is, lt-ltb last block h)
 
-  pub start_above : (last block : ℕ) → last ≡ last_codeword (meaning decoded.code) → last < block
-      → StartMeets card block (Refused 7)
-  unfolding start_answer start_refusal first_refusal unless_refused
-  start_above last block is h =
-      met (StartClauses card block) (start_answered card block)
-      (rw (eq-eqb (card_refusal card) 0 is_sound, ← (from.code sound), ← is, lt-ltb last block h))
+    pub start_within : block ≤ last → (answer : ℕ) → answer ≡ start (meaning decoded.code) block → Ok answer ≡ start_answer card block
+    unfolding start_answer start_refusal first_refusal unless_refused
+    start_within h answer e =
+        rw (eq-eqb (card_refusal card) 0 from.sound_card, ← from.code, ← is, ← e, le-ltb last block h)
 
-  pub start_within : (last block answer : ℕ) → last ≡ last_codeword (meaning decoded.code) → block ≤ last
-      → answer ≡ start (meaning decoded.code) block → StartMeets card block (Number answer)
-  unfolding start_answer start_refusal first_refusal unless_refused
-  start_within last block answer is h e =
-      met (StartClauses card block) (start_answered card block)
-      (rw (eq-eqb (card_refusal card) 0 is_sound, ← (from.code sound), ← is, ← e, le-ltb last block h))
+  -- the contract, and that the definition's answer meets it
+  abbrev StartMeets : NumberAnswer → Type 0
+  StartMeets a =
+      record {
+        answer : a ≡ start_answer card block;
+        status : status_of a ≡ start_refusal card block;
+        values : number_values a ≡ if_served (status_of a) (start (code_of card) block ∷ []);
+      }
+
+  pub start_answered : {answer : NumberAnswer} → answer ≡ start_answer card block → StartMeets answer
+  unfolding start_answer
+  start_answered e =
+      let (status, values) =
+      status_and_values (λ (number : ℕ). number ∷ []) (start_refusal card block) (start (code_of card) block) in
+      rw e (record { answer = refl; status = status; values = values })

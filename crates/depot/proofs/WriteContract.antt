@@ -1,96 +1,100 @@
--- What a write answers and what it leaves in the lent word, one law for each way out of the code: the answer is the one that the
--- definition gives, and so is what is left, of which the clauses of the contract are theorems. Assumes nothing.
-use mathlib.Core.Path.{◌≡◌, refl, ◌∙◌}
+-- What a write answers and what it leaves in the lent word: the card's refusal, or on the code of a sound card refusals 6 and 7, each with the
+-- lent word as it was, or that it is written, with the word of the position. Answer and what is left are the ones that the definition
+-- gives, of which the clauses of the contract are theorems. Assumes nothing.
+use mathlib.Core.Path.{◌≡◌, refl, sym, ◌∙◌}
 use mathlib.Core.Bool.{cond, not}
 use mathlib.Core.List.{List, []}
 use Prim.Native.Nat.{ℕ, ◌≤◌, ◌<◌}
-use borrow.Author.Tests.{eq-eqb, ne_eqb, lt-ltb, le-ltb}
 use native.Mathlib.Omega.{arith}
+use borrow.Author.Tests.{eq-eqb, ne_eqb, lt-ltb, le-ltb}
 use lib.Dec.{eqb, ltb}
 use lib.ListN.{length}
-use Rattle.model.specs.Refusals.{first_refusal, unless_refused}
-use Rattle.model.specs.Card.{code_of}
+use Rattle.std.specs.Prelude.{Ok, Err}
+use Rattle.model.specs.Refusals.{Refused, status_of, values_by, first_refusal}
+use Rattle.model.specs.Card.{card_refusal}
 use Rattle.model.specs.Decoded.{meaning}
 use Rattle.model.specs.Order.{last_position}
 use Rattle.model.specs.Words.{word_bytes, word_length}
-use Rattle.model.specs.WriteWord.{write_refusal, write_answer, lent_after_write, write_status, write_values}
-use Rattle.model.specs.declared.Decoded.{Decoded}
-use Rattle.model.specs.declared.WriteAnswer.{WriteAnswer}
-use Rattle.model.specs.declared.WriteAnswer.TheVariants.{Written, Refused}
+use Rattle.model.specs.WriteWord.{WriteAnswer, Written, write_refusal, write_answer, lent_after_write, write_values}
+use Rattle.model.specs.declared.DecodedCard.{DecodedCard}
+use Rattle.model.specs.declared.Refusal.{Refusal}
+use Rattle.code_theory.specs.Promise.{RefusalOf}
+use Rattle.code_theory.proofs.RefusalRows.{served_if_none, refused_if_some, status_and_values}
+use Rattle.card_reader.specs.DecodedFrom.{DecodedCardOf}
 use Rattle.position_theory.specs.WritePromises.{NeighboursDifferInOneBit, NoOtherPositionsWord, WritePromises}
 use Rattle.position_theory.proofs.WritePromises.{written_neighbours, written_alone, write_promises}
-use Rattle.card_reader.specs.DecodedFrom.{DecodedFrom}
-use Rattle.depot.proofs.Contracts.{Meets, met}
-use Rattle.depot.proofs.Statuses.{write_answered, no_write_values}
 
 module _ (card : List ℕ) (position : ℕ) (lent : List ℕ) where
-  -- the clauses of the contract beside the equation, of the answer and of the lent word as the write leaves it; and that the definition's
-  -- answer meets them, with what the definition leaves
-  abbrev WriteClauses : (left : List ℕ) → WriteAnswer → Type 0
-  WriteClauses left answer =
-      (write_status answer ≡ write_refusal card position lent)
-      × ((write_values answer ≡ [])
-      × ((left ≡ lent_after_write card position lent)
-      × ((answer ≡ Written → NeighboursDifferInOneBit card position left)
-      × ((answer ≡ Written → NoOtherPositionsWord card position left) × WritePromises card position lent answer left))))
+  -- the answer and what is left, as the definition has them
+  abbrev Defined : WriteAnswer → (left : List ℕ) → Type 0
+  Defined answer left = (answer ≡ write_answer card position lent) × (left ≡ lent_after_write card position lent)
 
-  write_clauses : (left : List ℕ) → left ≡ lent_after_write card position lent → WriteClauses left (write_answer card position lent)
-  write_clauses left e =
-      let (status, _) = write_answered card position lent in
-      let neighbours = written_neighbours card position lent in
-      let alone = written_alone card position lent in
-      rw e (status, (no_write_values _, (refl, (neighbours, (alone, write_promises card position lent)))))
+  refused : (number : ℕ) → write_refusal card position lent ≡ number → (number ≡ 0 → ⊥) → Defined (Refused number) lent
+  unfolding write_answer lent_after_write
+  refused number e ne =
+      (rw e (sym (refused_if_some number Refused Written ne)), rw e (sym (refused_if_some number (λ refusal. lent) _ ne)))
 
-  abbrev WriteMeets : WriteAnswer → List ℕ → Type 0
-  WriteMeets answer left = Meets (WriteClauses left) (write_answer card position lent) answer
-
-  refused : (refusal : ℕ) → write_refusal card position lent ≡ refusal → (refusal ≡ 0 → ⊥) → WriteMeets (Refused refusal) lent
-  unfolding write_answer lent_after_write unless_refused
-  refused refusal e ne = met (WriteClauses lent) (write_clauses lent (rw (e, ne_eqb refusal 0 ne))) (rw (e, ne_eqb refusal 0 ne))
-
-  -- the card's refusals
-  pub write_card_refused : (decoded : Decoded) → DecodedFrom card decoded → (decoded.refusal ≡ 0 → ⊥)
-      → WriteMeets (Refused decoded.refusal) lent
+  pub write_by_card : (refusal : Refusal) → RefusalOf card refusal → Defined (Err refusal) lent
   unfolding write_refusal first_refusal
-  write_card_refused decoded from ne = refused decoded.refusal (rw (← from.refusal, ne_eqb decoded.refusal 0 ne)) ne
+  write_by_card refusal is = refused refusal.number (rw (is.number, ne_eqb refusal.number 0 is.not_zero)) is.not_zero
 
--- a card that has passed: the code that is decoded is the card's
-pub record Passed (card : List ℕ) (decoded : Decoded) : Type 0 where
-  pub from : DecodedFrom card decoded
-  pub passed : decoded.refusal ≡ 0
+  -- a sound card
+  module _ (decoded : DecodedCard) (from : DecodedCardOf card decoded) where
+    abbrev word_size : ℕ
+    word_size = word_length (meaning decoded.code)
 
--- the length of its words, and its last position
-abbrev word_size : Decoded → ℕ
-word_size decoded = word_length (meaning decoded.code)
+    abbrev last : ℕ
+    last = last_position (meaning decoded.code)
 
-abbrev last : Decoded → ℕ
-last decoded = last_position (meaning decoded.code)
+    word_refusal : write_refusal card position lent ≡ cond (not (eqb (length lent) word_size)) 6 (cond (ltb last position) 7 0)
+    unfolding write_refusal first_refusal
+    word_refusal = rw (eq-eqb (card_refusal card) 0 from.sound_card, ← from.code)
 
-module _ {card : List ℕ} {decoded : Decoded} (card_passed : Passed card decoded) (position : ℕ) (lent : List ℕ) where
-  is_code : meaning decoded.code ≡ code_of card
-  is_code = card_passed.from.code card_passed.passed
+    pub refused_6 : (length lent ≡ word_size → ⊥) → Defined (Refused 6) lent
+    refused_6 other_length = refused 6 (word_refusal ∙ rw (ne_eqb (length lent) word_size other_length)) (λ e. omega arith)
 
-  word_refusal : write_refusal card position lent
-      ≡ cond (not (eqb (length lent) (word_size decoded))) 6 (cond (ltb (last decoded) position) 7 0)
-  unfolding write_refusal first_refusal
-  word_refusal = rw (← card_passed.from.refusal, eq-eqb decoded.refusal 0 card_passed.passed, ← is_code)
+    module _ (whole : length lent ≡ word_size) where
+      pub refused_7 : last < position → Defined (Refused 7) lent
+      refused_7 above =
+          refused 7 (word_refusal ∙ rw (eq-eqb (length lent) word_size whole, lt-ltb last position above)) (λ e. omega arith)
 
-  pub refused_6 : (length lent ≡ word_size decoded → ⊥) → WriteMeets card position lent (Refused 6) lent
-  refused_6 other_length =
-      refused card position lent 6 (word_refusal ∙ rw (ne_eqb (length lent) (word_size decoded) other_length)) (λ e. omega arith)
+      -- where neither holds, it is written
+      pub written : position ≤ last → (left : List ℕ) → left ≡ word_bytes (meaning decoded.code) position → Defined Written left
+      unfolding write_answer lent_after_write
+      written within left e =
+          let none : write_refusal card position lent ≡ 0 =
+          word_refusal ∙ rw (eq-eqb (length lent) word_size whole, le-ltb last position within) in
+          (sym (served_if_none _ Refused Written none), rw (e, from.code) (sym (served_if_none _ (λ refusal. lent) _ none)))
 
-  module _ (whole : length lent ≡ word_size decoded) where
-    pub refused_7 : last decoded < position → WriteMeets card position lent (Refused 7) lent
-    refused_7 above =
-        refused card position lent 7
-        (word_refusal ∙ rw (eq-eqb (length lent) (word_size decoded) whole, lt-ltb (last decoded) position above)) (λ e. omega arith)
+  -- the contract, and that the definition's answer meets it, with what the definition leaves
+  abbrev WriteMeets : WriteAnswer → (left : List ℕ) → Type 0
+  WriteMeets a lent_after =
+      record {
+        answer : a ≡ write_answer card position lent;
+        status : status_of a ≡ write_refusal card position lent;
+        values : write_values a ≡ [];
+        left : lent_after ≡ lent_after_write card position lent;
+        neighbours : a ≡ Written → NeighboursDifferInOneBit card position lent_after;
+        alone : a ≡ Written → NoOtherPositionsWord card position lent_after;
+        promises : WritePromises card position lent a lent_after;
+      }
 
-    -- where neither holds, it is written
-    module _ (within : position ≤ last decoded) where
-      none : write_refusal card position lent ≡ 0
-      none = word_refusal ∙ rw (eq-eqb (length lent) (word_size decoded) whole, le-ltb (last decoded) position within)
+  none_written : (answer : WriteAnswer) → write_values answer ≡ []
+  unfolding values_by
+  none_written (Ok served) = refl
+  none_written (Err refusal) = refl
 
-      pub written : (left : List ℕ) → left ≡ word_bytes (meaning decoded.code) position → WriteMeets card position lent Written left
-      unfolding write_answer lent_after_write unless_refused
-      written left e =
-          met (WriteClauses card position lent left) (write_clauses card position lent left (rw (none, ← is_code) e)) (rw none)
+  pub write_answered : {answer : WriteAnswer} {left : List ℕ} → Defined answer left → WriteMeets answer left
+  unfolding write_answer
+  write_answered (answered, leaves) =
+      let (status, _) = status_and_values {B = ℕ} (λ (served : Unit). []) (write_refusal card position lent) tt in
+      rw (answered, leaves)
+      (record {
+        answer = refl;
+        status = status;
+        values = none_written _;
+        left = refl;
+        neighbours = written_neighbours card position lent;
+        alone = written_alone card position lent;
+        promises = write_promises card position lent;
+      })

@@ -1,12 +1,12 @@
 // The call on a word from a receiver that gives levels.
 ghost use Rattle.std.specs.Prelude.{◌≡◌};
-ghost use Rattle.model.specs.Refusals.{if_served};
-ghost use Rattle.model.specs.ReadLevels.{levels_answer, levels_refusal, levels_expected, strength_expected, position_answer, levels_status};
+ghost use Rattle.model.specs.Refusals.{status_of, if_served};
+ghost use Rattle.model.specs.ReadLevels.{levels_answer, levels_refusal, levels_expected, strength_expected, position_answer};
 ghost use Rattle.model.specs.ReadLevels.{levels_values, strength_values};
 ghost use Rattle.level_theory.specs.LevelPromises.{OffByAtMostTwiceWrongAndErased, LevelPromises};
 
 use card_reader::decode;
-use model::LevelsAnswer;
+use model::{LevelsReading, Refusal};
 
 // Reads a word from a receiver that gives levels, negative for 1: what a plain read answers, over the bits that aren't erased, and beside a
 // reading the receiver's strength, the sum of the magnitudes and the greatest. A level that is zero, of either sign, is an erased bit.
@@ -18,17 +18,14 @@ use model::LevelsAnswer;
 // 2 × wrong + erased, counted over the whole word (`bounded`). The promises: of d levels of 1 and -1 it is that of the plain reading of the
 // word of these bits; of any word that is read, the nearest of the allowed positions over the bits that aren't erased, and the count of
 // each chunk's wrong places; and of separators, each read by the sum of its levels, the same as of a plain word.
-pub fn read_levels(card: &[u8], levels: &[f32]) -> LevelsAnswer
+pub fn read_levels(card: &[u8], levels: &[f32]) -> Result<LevelsReading, Refusal>
     ensures answer { result ≡ levels_answer card.now levels.now }
-    ensures status { levels_status result ≡ levels_refusal card.now levels.now }
-    ensures values { levels_values result ≡ if_served (levels_status result) (levels_expected card.now levels.now) }
-    ensures strength { strength_values result ≡ if_served (levels_status result) (strength_expected card.now levels.now) }
+    ensures status { status_of result ≡ levels_refusal card.now levels.now }
+    ensures values { levels_values result ≡ if_served (status_of result) (levels_expected card.now levels.now) }
+    ensures strength { strength_values result ≡ if_served (status_of result) (strength_expected card.now levels.now) }
     ensures bounded { OffByAtMostTwiceWrongAndErased card.now levels.now (position_answer result) }
     ensures promises { LevelPromises card.now levels.now (position_answer result) }
 {
-    let decoded = decode::decode(card);
-    if decoded.refusal != 0 {
-        return LevelsAnswer::Refused(decoded.refusal);
-    }
-    level_reader::read_level_word(decoded.code, levels)
+    let code = decode::decode(card)?.code;
+    level_reader::read_level_word(code, levels)
 }

@@ -3,13 +3,13 @@
 // and a waiting tram with q trams ahead of it in its queue holds its track after exactly q + 1 accepted releases of that track, and not
 // before, whatever other calls fall between (the theorem `served_in_turn`, yard_theory/proofs/QueueTheorem.antt).
 ghost use Rattle.std.specs.Prelude.{◌≡◌};
-ghost use Rattle.model.specs.Refusals.{if_served};
-ghost use Rattle.model.specs.RequestTrack.{request_answer, request_refusal, request_expected, request_status, request_values};
-ghost use Rattle.model.specs.ReleaseTrack.{release_answer, release_refusal, release_expected, release_status, release_values};
+ghost use Rattle.model.specs.Refusals.{status_of, if_served};
+ghost use Rattle.model.specs.RequestTrack.{request_answer, request_refusal, request_expected, request_values};
+ghost use Rattle.model.specs.ReleaseTrack.{release_answer, release_refusal, release_expected, release_values};
 ghost use Rattle.yard_theory.specs.YardPromises.{RequestPromises, ReleasePromises};
 
 use card_reader::decode;
-use model::{ReleaseAnswer, Released, Requested, Yard};
+use model::{Released, Requested, Yard};
 use slot_queue::{releases, requests};
 
 // A tram requests a track: it holds a free one, and otherwise joins the end of the track's queue. Refused, in this order: a yard with a tram
@@ -20,8 +20,8 @@ use slot_queue::{releases, requests};
 // refused by 26.
 pub fn request(yard: Yard, tram: u16, track: u32) -> Requested
     ensures answer { result ≡ request_answer yard tram track }
-    ensures status { request_status result.answer ≡ request_refusal yard tram track }
-    ensures values { request_values result.answer ≡ if_served (request_status result.answer) (request_expected yard tram track) }
+    ensures status { status_of result.answer ≡ request_refusal yard tram track }
+    ensures values { request_values result.answer ≡ if_served (status_of result.answer) (request_expected yard tram track) }
     ensures promises { RequestPromises yard tram track result }
 {
     requests::request(yard, tram, track)
@@ -37,17 +37,16 @@ pub fn request(yard: Yard, tram: u16, track: u32) -> Requested
 // release is accepted, so that a tram that is clear of its track is never kept on it (`never_kept`).
 pub fn release(yard: Yard, tram: u16, word: &[u8], mark: u32, card: &[u8]) -> Released
     ensures answer { result ≡ release_answer yard tram word.now mark card.now }
-    ensures status { release_status result.answer ≡ release_refusal yard tram word.now card.now }
+    ensures status { status_of result.answer ≡ release_refusal yard tram word.now card.now }
     ensures values { release_values result.answer
-        ≡ if_served (release_status result.answer) (release_expected yard word.now mark card.now) }
+        ≡ if_served (status_of result.answer) (release_expected yard word.now mark card.now) }
     ensures promises { ReleasePromises yard tram word.now mark card.now result }
 {
-    let decoded = decode::decode(card);
-    if decoded.refusal != 0 {
-        return Released {
-            answer: ReleaseAnswer::Refused(decoded.refusal),
+    match decode::decode(card) {
+        Ok(sound) => releases::release(sound.code, sound.track, yard, tram, word, mark),
+        Err(refusal) => Released {
+            answer: Err(refusal),
             yard,
-        };
+        },
     }
-    releases::release(decoded.code, decoded.track, yard, tram, word, mark)
 }

@@ -13,3 +13,5 @@ pub mod YardNumbers
 pub mod YardCalls
 pub mod RequestsCross
 pub mod ReleasesCross
+pub mod FromFn
+pub mod StoredRuns

@@ -7,7 +7,6 @@ use native.Mathlib.Omega.{arith}
 use lib.Ieee.{Float}
 use lib.ListN.{length}
 use Rattle.model.specs.Refusals.{unless_refused}
-use Rattle.model.specs.declared.ReadAnswer.TheVariants.{Refused}
 use Rattle.code_theory.proofs.RefusalRows.{refused_if_some}
 use Rattle.position_theory.specs.Damage.{Near, residual_of}
 use Rattle.position_theory.specs.ReadPromises.{OffByAtMostTwiceDamaged, OffByAtMostDamagedAndResidual}
@@ -16,6 +15,7 @@ use Rattle.dunnavish.specs.Crossing.{read_count, strength_count}
 use Rattle.dunnavish.specs.Decoding.{residual_left, read_left}
 use Rattle.dunnavish.specs.Demands.{ServedNear, ServedWithinTwiceDamaged, ServedWithinDamagedAndResidual}
 use Rattle.dunnavish.specs.Demands.{ServedWithinTwiceWrongAndErased}
+use Rattle.model.specs.Refusals.{Refused}
 
 refused_left : (status : ℕ) (left : List ℕ) → read_left (suc status) left ≡ Refused (suc status)
 unfolding read_left

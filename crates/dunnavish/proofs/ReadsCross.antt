@@ -5,11 +5,8 @@ use mathlib.Core.List.{List}
 use Prim.Native.Nat.{ℕ}
 use lib.Ieee.{Float}
 use lib.ListN.{length}
-use Rattle.model.specs.ReadWord.{read_answer, read_status, read_values}
-use Rattle.model.specs.ReadLevels.{levels_answer, position_answer, levels_status, levels_values, strength_values}
-use Rattle.model.specs.declared.ReadAnswer.{ReadAnswer}
-use Rattle.model.specs.declared.ReadAnswer.TheVariants.{Refused}
-use Rattle.model.specs.declared.LevelsAnswer.{LevelsAnswer}
+use Rattle.model.specs.ReadWord.{read_answer, read_values}
+use Rattle.model.specs.ReadLevels.{levels_answer, position_answer, levels_values, strength_values}
 use Rattle.position_theory.specs.ReadPromises.{OffByAtMostTwiceDamaged, OffByAtMostDamagedAndResidual, ReadPromises}
 use Rattle.level_theory.specs.LevelPromises.{OffByAtMostTwiceWrongAndErased, LevelPromises}
 use Rattle.dunnavish.specs.Crossing.{wrong_count, read_count, strength_count, status_for, left_by, UnchangedUnlessZero}
@@ -18,6 +15,10 @@ use Rattle.dunnavish.specs.Demands.{ServedWithinTwiceDamaged, ServedWithinDamage
 use Rattle.dunnavish.proofs.Lent.{status_lent, unchanged_by}
 use Rattle.dunnavish.proofs.Inherited.{Contract}
 use Rattle.dunnavish.proofs.NearAnswers.{bounded_left, sharper_left, levels_bounded_left}
+use Rattle.std.specs.Prelude.{Ok, Err}
+use Rattle.model.specs.ReadWord.{ReadAnswer}
+use Rattle.model.specs.Refusals.{Refused, status_of}
+use Rattle.model.specs.ReadLevels.{LevelsAnswer}
 
 -- what the library's contracts promise of a reading
 abbrev pub PromisedOfRead : (card received : List ℕ) → ReadAnswer → Type 0
@@ -28,8 +29,8 @@ abbrev pub PromisedOfLevels : (card : List ℕ) (levels : List Float) → ReadAn
 PromisedOfLevels card levels answer = OffByAtMostTwiceWrongAndErased card levels answer × LevelPromises card levels answer
 
 pub read_crosses : (card received lent : List ℕ) (status : ℕ) (left : List ℕ)
-    → Contract read_status read_values Refused read_left (PromisedOfRead card received) read_count lent (read_answer card received) status left
-    → (status ≡ status_for read_count lent (read_status (read_answer card received)))
+    → Contract status_of read_values Refused read_left (PromisedOfRead card received) read_count lent (read_answer card received) status left
+    → (status ≡ status_for read_count lent (status_of (read_answer card received)))
     × ((left ≡ left_by status (read_values (read_answer card received)) lent)
     × (UnchangedUnlessZero lent status left
     × (ServedWithinTwiceDamaged card received lent status left
@@ -40,13 +41,19 @@ read_crosses card received lent status left (is-status, (is-left, (unchanged, pr
     let sharper = sharper_left card received lent status left (λ alike. (promised alike).1.0) in
     (is-status, (is-left, (unchanged, (bounded, (sharper, λ alike. (promised alike).1.1)))))
 
+-- the status of levels that are read is that of the position answer
+pub same_status : (answer : LevelsAnswer) → status_of (position_answer answer) ≡ status_of answer
+unfolding position_answer status_of
+same_status (Ok served) = refl
+same_status (Err refusal) = refl
+
 module _ (card : List ℕ) (levels : List Float) (lent : List ℕ) (lent_strength : List Float) where
   abbrev answered : LevelsAnswer
   answered = levels_answer card levels
 
   abbrev LevelsContract : (status : ℕ) (left : List ℕ) (strength_left : List Float) → Type 0
   LevelsContract status left strength_left =
-      (status ≡ status_for read_count lent (status_for strength_count lent_strength (levels_status answered)))
+      (status ≡ status_for read_count lent (status_for strength_count lent_strength (status_of answered)))
       × ((left ≡ left_by status (levels_values answered) lent)
       × ((strength_left ≡ left_by status (strength_values answered) lent_strength)
       × (UnchangedUnlessZero lent status left
@@ -55,7 +62,7 @@ module _ (card : List ℕ) (levels : List Float) (lent : List ℕ) (lent_strengt
       × (length lent ≡ read_count → length lent_strength ≡ strength_count → LevelPromises card levels (read_left status left)))))))
 
   levels_inherit : (status : ℕ) (left : List ℕ) (strength_left : List Float)
-      → status ≡ status_for read_count lent (status_for strength_count lent_strength (levels_status answered))
+      → status ≡ status_for read_count lent (status_for strength_count lent_strength (status_of answered))
       → left ≡ left_by status (levels_values answered) lent → strength_left ≡ left_by status (strength_values answered) lent_strength
       → (length lent ≡ read_count → length lent_strength ≡ strength_count → PromisedOfLevels card levels (read_left status left))
       → LevelsContract status left strength_left
@@ -66,15 +73,15 @@ module _ (card : List ℕ) (levels : List Float) (lent : List ℕ) (lent_strengt
       (is-status, (is-left, (is-strength, (unchanged, (strength_unchanged, (bounded, λ five two. (promised five two).1))))))
 
   -- either count is wrong
-  pub levels_miscounted : wrong_count ≡ status_for read_count lent (status_for strength_count lent_strength (levels_status answered))
+  pub levels_miscounted : wrong_count ≡ status_for read_count lent (status_for strength_count lent_strength (status_of answered))
       → (length lent ≡ read_count → length lent_strength ≡ strength_count → ⊥) → LevelsContract wrong_count lent lent_strength
   unfolding left_by
   levels_miscounted is other_length = levels_inherit wrong_count lent lent_strength is refl refl (λ five two. absurd (other_length five two))
 
   -- two floats are lent
   pub levels_cross : (status : ℕ) (left : List ℕ) (strength_left : List Float) → length lent_strength ≡ strength_count
-      → Contract read_status read_values Refused read_left (PromisedOfLevels card levels) read_count lent (position_answer answered) status left
+      → Contract status_of read_values Refused read_left (PromisedOfLevels card levels) read_count lent (position_answer answered) status left
       → strength_left ≡ left_by status (strength_values answered) lent_strength → LevelsContract status left strength_left
   levels_cross status left strength_left two (is-status, (is-left, (_, promised))) is-strength =
-      levels_inherit status left strength_left (is-status ∙ rw (status_lent strength_count lent_strength two)) is-left is-strength
+      levels_inherit status left strength_left (is-status ∙ rw (status_lent strength_count lent_strength two, same_status answered)) is-left is-strength
       (λ five _. promised five)

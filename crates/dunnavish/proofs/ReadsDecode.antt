@@ -12,11 +12,7 @@ use Rattle.model.specs.Card.{Code, code_of, SoundCard}
 use Rattle.model.specs.Reading.{not_read, bits_value}
 use Rattle.model.specs.ReadWord.{read_answer, read_values}
 use Rattle.model.specs.ReadLevels.{levels_answer, position_answer}
-use Rattle.model.specs.declared.ChunkBits.{ChunkBits}
-use Rattle.model.specs.declared.ChunkBits.TheVariants.{Differing}
 use Rattle.model.specs.declared.Reading.{Reading}
-use Rattle.model.specs.declared.ReadAnswer.{ReadAnswer}
-use Rattle.model.specs.declared.ReadAnswer.TheVariants.{At, Refused}
 use Rattle.code_theory.proofs.SoundCard.{sound_card}
 use Rattle.code_theory.proofs.LeastDistance.{D-high}
 use Rattle.position_theory.specs.ChunkBits.{CountsBits, CountsWrong}
@@ -25,21 +21,25 @@ use Rattle.position_theory.proofs.ReadWords.{read_shows}
 use Rattle.level_theory.specs.LevelPromises.{CountsWrongOfChunks}
 use Rattle.level_theory.proofs.LevelsAnswered.{levels_show}
 use Rattle.dunnavish.specs.Decoding.{bits_left, read_left}
+use Rattle.std.specs.Prelude.{Ok, Option, Some}
+use Rattle.model.specs.ReadWord.{ReadAnswer}
+use Rattle.model.specs.Refusals.{Refused}
+use Rattle.model.specs.Refusals.{values_by}
 
 -- a count that is small enough decodes
-count_decodes : (answered : ChunkBits) (count : ℕ) → answered ≡ Differing count → count < not_read → bits_left (bits_value answered) ≡ answered
+count_decodes : (answered : (Option ℕ)) (count : ℕ) → answered ≡ Some count → count < not_read → bits_left (bits_value answered) ≡ answered
 unfolding bits_left bits_value
 count_decodes answered count is few = rw (is, ne_eqb count not_read (λ e. omega arith))
 
 -- so do the bits of a chunk, of a plain word and of one with erased places
 module _ (C : Code) (small : C.D < not_read) where
-  bits_decode : (named : Bool) (chunk : ℕ → ℕ) (p : ℕ) (answered : ChunkBits) → CountsBits C named chunk p answered
+  bits_decode : (named : Bool) (chunk : ℕ → ℕ) (p : ℕ) (answered : (Option ℕ)) → CountsBits C named chunk p answered
       → bits_left (bits_value answered) ≡ answered
   unfolding CountsBits bits_left bits_value
   bits_decode true chunk p answered (count, is, (_, few)) = count_decodes answered count is (omega arith)
   bits_decode false chunk p answered is = rw is
 
-  wrong_decode : (named : Bool) (unerased : ℕ → Bool) (chunk : ℕ → ℕ) (p : ℕ) (answered : ChunkBits)
+  wrong_decode : (named : Bool) (unerased : ℕ → Bool) (chunk : ℕ → ℕ) (p : ℕ) (answered : (Option ℕ))
       → CountsWrong C named unerased chunk p answered → bits_left (bits_value answered) ≡ answered
   unfolding CountsWrong bits_left bits_value
   wrong_decode true unerased chunk p answered (count, is, _, few) = count_decodes answered count is (omega arith)
@@ -50,13 +50,13 @@ small_d card sound = let S = sound_card card sound in omega (arith, D-high (code
 
 -- so a word that is read is what its values decode to
 reading_decodes : (r : Reading) → bits_left (bits_value r.chunk1) ≡ r.chunk1 → bits_left (bits_value r.chunk2) ≡ r.chunk2
-    → read_left 0 (read_values (At r)) ≡ unless_refused 0 Refused (At r)
-unfolding read_left read_values
+    → read_left 0 (read_values (Ok r)) ≡ unless_refused 0 Refused (Ok r)
+unfolding read_left values_by
 reading_decodes r first second = rw (first, second)
 
-module _ (card : List ℕ) {answered : ReadAnswer} (r : Reading) (given : answered ≡ At r) where
+module _ (card : List ℕ) {answered : ReadAnswer} (r : Reading) (given : answered ≡ Ok r) where
   pub read_decodes : (received : List ℕ) → answered ≡ read_answer card received → CountsBitsOfChunks card received answered
-      → read_left 0 (read_values (At r)) ≡ unless_refused 0 Refused (At r)
+      → read_left 0 (read_values (Ok r)) ≡ unless_refused 0 Refused (Ok r)
   unfolding CountsBitsOfChunks
   read_decodes received is counted =
       let small = small_d card (read_shows card received r (sym is ∙ given)).0 in
@@ -65,7 +65,7 @@ module _ (card : List ℕ) {answered : ReadAnswer} (r : Reading) (given : answer
 
   pub levels_decode : (levels : List Float) → answered ≡ position_answer (levels_answer card levels)
       → CountsWrongOfChunks card levels answered
-      → read_left 0 (read_values (At r)) ≡ unless_refused 0 Refused (At r)
+      → read_left 0 (read_values (Ok r)) ≡ unless_refused 0 Refused (Ok r)
   unfolding CountsWrongOfChunks
   levels_decode levels is counted =
       let small = small_d card (levels_show card levels r (sym is ∙ given)).0 in

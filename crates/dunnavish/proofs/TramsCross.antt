@@ -1,34 +1,65 @@
--- The contracts of the searches among trams, for each way out: from the counts of what is lent, and from what the library's own contract
--- says of its answer. The two that say yes or no of each tram have one law, whatever their test. Assumes nothing.
+-- The contracts of the searches among trams: of more trams than a track has, those that the library is shown are answered as all; either
+-- count may be wrong; and what is left decodes to the answer, so that what is promised of it holds of what is decoded. The two that say
+-- yes or no of each tram have one law, whatever their test. Assumes nothing.
 use mathlib.Core.Path.{◌≡◌, refl, sym, ap, subst, ◌∙◌}
 use mathlib.Core.Bool.{Bool, true, false, cond}
-use mathlib.Core.List.{List, []}
+use mathlib.Core.List.{List, [], ◌∷◌}
 use mathlib.Core.Logic.{⊎_elim}
 use Prim.Native.Nat.{ℕ, ◌≤◌, ◌<◌}
 use native.Mathlib.Omega.{arith}
 use lib.Dec.{eqb, ltb}
-use lib.ListN.{length, get_or, get_or-eq_default}
+use lib.ListN.{length, get_or, set, take, get_or-eq_default, length-take}
 use borrow.Author.Tests.{ne_eqb, le-ltb}
+use Rattle.std.specs.Prelude.{Option, Some, None, unwrap_or, Result, Ok, Err, MatchResult}
+use Rattle.std.proofs.lemmas.List.{take_all}
 use Rattle.bits.specs.Places.{list_of}
 use Rattle.bits.proofs.Numbers.{lt_or_le, eq_or_ne}
 use Rattle.bits.proofs.Places.{length_list_of, get_or_list_of}
 use Rattle.bits.proofs.FilledLists.{is_list_of}
+use Rattle.model.specs.Refusals.{Refused, status_of, values_by, if_served, unless_refused}
 use Rattle.model.specs.Card.{code_of}
-use Rattle.model.specs.Trams.{most_trams, widened_at, trams_refusal, answers_by, each_tram_unless, each_tram_answer, yes_values}
-use Rattle.model.specs.NearestTram.{nearest_refusal, nearest_answer, nearest_expected, nearest_status, nearest_values, no_tram}
+use Rattle.model.specs.Trams.{Trams, TramsAnswer, most_trams, widened_at, trams_refusal, answers_by, each_tram_unless, each_tram_answer, yes_values}
+use Rattle.model.specs.NearestTram.{NearestAnswer, no_tram, place_value, nearest_among, nearest_refusal, nearest_answer, nearest_values}
+use Rattle.model.specs.NearestTram.{nearest_expected}
+use Rattle.model.specs.declared.Refusal.{Refusal}
 use Rattle.model.specs.declared.Stretch.{Stretch}
-use Rattle.model.specs.declared.Trams.{Trams}
-use Rattle.model.specs.declared.TramsAnswer.{TramsAnswer}
-use Rattle.model.specs.declared.NearestAnswer.{NearestAnswer}
-use Rattle.model.specs.declared.NearestAnswer.TheVariants.{Tram, Refused}
-use Rattle.code_theory.proofs.RefusalRows.{served_if_none, refused_if_some}
+use Rattle.code_theory.proofs.RefusalRows.{served_if_none, refused_if_some, status_and_values}
 use Rattle.tram_theory.specs.TramPromises.{NearestPromises}
-use Rattle.tram_theory.proofs.NearestTrams.{one_value}
-use Rattle.tram_theory.proofs.TramPromises.{served}
-use Rattle.dunnavish.specs.Crossing.{number_count, wrong_count, trams_lent, status_for, left_by, UnchangedUnlessZero}
+use Rattle.tram_theory.proofs.ServedTrams.{too_many, too_many_refused}
+use Rattle.tram_theory.proofs.TramPromises.{served, nearest_promises}
+use Rattle.dunnavish.specs.Crossing.{number_count, wrong_count, trams_lent, most_handed, status_for, left_by, EachCrosses, UnchangedUnlessZero}
 use Rattle.dunnavish.specs.Decoding.{each_tram_left, place_left, nearest_left}
-use Rattle.dunnavish.proofs.Inherited.{Contract}
+use Rattle.dunnavish.proofs.Inherited.{Contract, wrong_count_lem, refused, stored}
 use Rattle.dunnavish.proofs.Lent.{wrong_count_crosses, status_lent, unchanged_by}
+
+-- ---- the trams that are handed on
+
+module _ (card : List ℕ) (trams : Trams) (first second : ℕ) where
+  handed_alike : {A : Type 0} (served : Trams → A)
+      → let shown : Trams = take most_handed trams in
+      ◌≡◌ {A = Result A Refusal} (unless_refused (trams_refusal card shown first second) Refused (Ok (served shown)))
+      (unless_refused (trams_refusal card trams first second) Refused (Ok (served trams)))
+  handed_alike served =
+      ⊎_elim
+      (λ (many : most_handed < length trams).
+      let shown : Trams = take most_handed trams in
+      let many_shown : most_trams < length shown = omega (arith, length-take most_handed trams) in
+      let many_lent : most_trams < length trams = omega arith in
+      refused_if_some (trams_refusal card shown first second) Refused (Ok (served shown)) (too_many_refused card shown first second many_shown)
+      ∙ rw (too_many card shown first second many_shown, ← (too_many card trams first second many_lent))
+      (sym (refused_if_some (trams_refusal card trams first second) Refused (Ok (served trams))
+      (too_many_refused card trams first second many_lent))))
+      (λ (few : length trams ≤ most_handed). rw (take_all most_handed trams few))
+      (lt_or_le most_handed (length trams))
+
+  pub each_handed : (test : Stretch → Bool)
+      → each_tram_answer test card (take most_handed trams) first second ≡ each_tram_answer test card trams first second
+  unfolding each_tram_answer each_tram_unless
+  each_handed test = handed_alike (λ trams. answers_by test (widened_at (code_of card) trams) (length trams))
+
+pub nearest_handed : (card : List ℕ) (trams : Trams) (mark : ℕ) → nearest_answer card (take most_handed trams) mark ≡ nearest_answer card trams mark
+unfolding nearest_answer
+nearest_handed card trams mark = handed_alike card trams mark mark (λ trams. nearest_among (code_of card) trams mark)
 
 -- ---- answers as bytes, and back
 
@@ -60,76 +91,94 @@ answers_decode test stretch count =
 
 -- ---- yes or no for each tram
 
-module _ (test : Stretch → Bool) (card lows highs lent : List ℕ) (first second : ℕ) (Promise : TramsAnswer → Type 0) where
+module _ (lows highs lent : List ℕ) (answer : TramsAnswer) where
+  pub highs_miscounted : (length highs ≡ length lows → ⊥) → EachCrosses lows highs lent answer wrong_count lent
+  unfolding left_by
+  highs_miscounted other_length = ((wrong_count_crosses (length lows) highs other_length _ []).0, refl)
+
+  module _ (alike : length highs ≡ length lows) where
+    pub lent_miscounted : (length lent ≡ length lows → ⊥) → EachCrosses lows highs lent answer wrong_count lent
+    unfolding left_by
+    lent_miscounted other_length =
+        ((wrong_count_crosses (length lows) lent other_length _ []).0 ∙ sym (status_lent (length lows) highs alike _), refl)
+
+    pub all_counted : length lent ≡ length lows → {status : ℕ} {left : List ℕ} → status ≡ status_of answer
+        → left ≡ left_by status (yes_values (length lent) answer) lent → EachCrosses lows highs lent answer status left
+    all_counted as_many is-status is-left = (
+      is-status ∙ sym (status_lent (length lows) lent as_many _) ∙ sym (status_lent (length lows) highs alike _),
+      rw as_many at is-left,
+    )
+
+module _ (test : Stretch → Bool) (card lows highs lent : List ℕ) (first second : ℕ) where
   abbrev trams : Trams
   trams = trams_lent lows highs
 
   abbrev defined : TramsAnswer
   defined = each_tram_answer test card trams first second
 
+  abbrev refusal : ℕ
+  refusal = trams_refusal card trams first second
+
+  is_served : refusal ≡ 0 → defined ≡ Ok (answers_by test (widened_at (code_of card) trams) (length trams))
+  unfolding each_tram_answer each_tram_unless
+  is_served none = served_if_none refusal Refused _ none
+
+  is_refused : (refusal ≡ 0 → ⊥) → defined ≡ Refused refusal
+  unfolding each_tram_answer each_tram_unless
+  is_refused some = refused_if_some refusal Refused _ some
+
+  -- an answer has no refusal by 0, and is served of at most 64 trams
+  pub each_placed : (answer : TramsAnswer) → answer ≡ each_tram_answer test card (take most_handed trams) first second
+      → MatchResult answer (λ _. length lows ≤ most_trams) (λ refusal. ¬ (refusal.number ≡ 0))
+  unfolding trams_lent
+  each_placed answer is =
+      ⊎_elim
+      (λ (none : refusal ≡ 0).
+      let (_, placed) = served card trams first second none in
+      rw (is ∙ each_handed card trams first second test ∙ is_served none)
+      (omega (arith, placed.few, length_list_of {A = Stretch} (length lows) (λ i. record { low = get_or lows i 0; high = get_or highs i 0 }))))
+      (λ (some : refusal ≡ 0 → ⊥). rw (is ∙ each_handed card trams first second test ∙ is_refused some) some)
+      (eq_or_ne refusal 0)
+
+  -- what is left decodes to the answer
+  left_decodes : (status : ℕ) (left : List ℕ) → status ≡ status_of defined → left ≡ left_by status (yes_values (length lows) defined) lent
+      → each_tram_left status left ≡ defined
+  unfolding each_tram_left left_by status_of values_by trams_lent
+  left_decodes status left is-status is-left =
+      ⊎_elim
+      (λ (none : refusal ≡ 0).
+      let stretch = widened_at (code_of card) trams in
+      let count : length trams ≡ length lows = length_list_of (length lows) _ in
+      let zero : status ≡ 0 = rw (is_served none) at is-status in
+      let bytes : left ≡ bytes_of (answers_by test stretch (length lows)) (length lows) = rw (is_served none, zero, count) at is-left in
+      rw (zero, bytes) (served_if_none 0 Refused _ refl ∙ rw (is_served none, count) (ap Ok (sym (answers_decode test stretch (length lows))))))
+      (λ (some : refusal ≡ 0 → ⊥).
+      let number : status ≡ refusal = rw (is_refused some) at is-status in
+      rw (number, is_refused some) (refused_if_some refusal Refused _ some))
+      (eq_or_ne refusal 0)
+
   -- the contract of a call
-  abbrev EachContract : (status : ℕ) (left : List ℕ) → Type 0
-  EachContract status left =
-      (status ≡ status_for (length lows) highs (status_for (length lows) lent defined.refusal))
-      × ((left ≡ left_by status (yes_values (length lows) defined) lent)
-      × (UnchangedUnlessZero lent status left
-      × (length highs ≡ length lows → length lent ≡ length lows → Promise (each_tram_left status left))))
+  module _ (Promise : TramsAnswer → Type 0) (promised : Promise defined) where
+    abbrev EachContract : (status : ℕ) (left : List ℕ) → Type 0
+    EachContract s after =
+        record {
+          status : s ≡ status_for (length lows) highs (status_for (length lows) lent (status_of defined));
+          left : after ≡ left_by s (yes_values (length lows) defined) lent;
+          unchanged : UnchangedUnlessZero lent s after;
+          promises : length highs ≡ length lows → length lent ≡ length lows → Promise (each_tram_left s after);
+        }
 
-  -- either count is wrong
-  miscounted : wrong_count ≡ status_for (length lows) highs (status_for (length lows) lent defined.refusal)
-      → (length highs ≡ length lows → length lent ≡ length lows → ⊥) → EachContract wrong_count lent
-  unfolding left_by
-  miscounted is other_length = (is, (refl, (unchanged_by wrong_count [] lent lent refl, λ a b. absurd (other_length a b))))
-
-  pub highs_miscounted : (length highs ≡ length lows → ⊥) → EachContract wrong_count lent
-  highs_miscounted other_length =
-      miscounted (wrong_count_crosses (length lows) highs other_length _ []).0 (λ alike _. other_length alike)
-
-  module _ (highs_alike : length highs ≡ length lows) where
-    pub lent_miscounted : (length lent ≡ length lows → ⊥) → EachContract wrong_count lent
-    lent_miscounted other_length =
-        miscounted
-        ((wrong_count_crosses (length lows) lent other_length _ []).0 ∙ sym (status_lent (length lows) highs highs_alike _))
-        (λ _ alike. other_length alike)
-
-    module _ (alike : length lent ≡ length lows) (answered : TramsAnswer)
-        (ensured : (answered ≡ defined) × ((answered.refusal ≡ trams_refusal card trams first second) × Promise answered)) where
-      pub few_lent : answered.refusal ≡ 0 → length lent ≤ most_trams
-      unfolding trams_lent
-      few_lent none = let (_, placed) = served card trams first second (sym ensured.1.0 ∙ none) in rw alike placed.few
-
-      -- what a search leaves decodes to its answer: the refusal, or the answers
-      decodes_refused : (left : List ℕ) → (answered.refusal ≡ 0 → ⊥) → each_tram_left answered.refusal left ≡ answered
-      unfolding each_tram_answer each_tram_unless each_tram_left
-      decodes_refused left some =
-          let (is, (number, _)) = ensured in
-          refused_if_some answered.refusal _ _ some
-          ∙ (rw number (sym (refused_if_some (trams_refusal card trams first second) _ _ (rw number at some))) ∙ sym is)
-
-      decodes_served : answered.refusal ≡ 0 → each_tram_left 0 (yes_values (length lows) answered) ≡ answered
-      unfolding each_tram_answer each_tram_unless each_tram_left yes_values trams_lent
-      decodes_served none =
-          let (is, (number, _)) = ensured in
-          let stretch = widened_at (code_of card) trams in
-          let serves : answered ≡ record { refusal = 0; yes = answers_by test stretch (length lows) } =
-          is ∙ served_if_none (trams_refusal card trams first second) _ _ (sym number ∙ none) in
-          served_if_none 0 _ _ refl ∙ (rw (serves, ← (answers_decode test stretch (length lows))) refl ∙ sym serves)
-
-      pub answered_search : (status : ℕ) (left : List ℕ) → status ≡ answered.refusal
-          → left ≡ left_by status (yes_values (length lent) answered) lent → EachContract status left
-      unfolding left_by
-      answered_search status left is-status is-left =
-          let (is, (_, promised)) = ensured in
-          let left_is : left ≡ left_by status (yes_values (length lows) defined) lent = is-left ∙ rw (alike, is) refl in
-          let decodes : each_tram_left status left ≡ answered =
-          ⊎_elim
-          (λ (none : status ≡ 0). rw (is-left, none, alike) (decodes_served (sym is-status ∙ none)))
-          (λ (some : status ≡ 0 → ⊥). rw is-status (decodes_refused left (rw is-status at some)))
-          (eq_or_ne status 0) in (
-            is-status ∙ ap (λ (a : TramsAnswer). a.refusal) is
-                ∙ sym (status_lent (length lows) lent alike _) ∙ sym (status_lent (length lows) highs highs_alike _),
-            (left_is, (unchanged_by status _ lent left left_is, λ _ _. subst Promise (sym decodes) promised)),
-          )
+    pub each_contract : {status : ℕ} {left : List ℕ} → EachCrosses lows highs lent defined status left → EachContract status left
+    each_contract {status} {left} (is-status, is-left) =
+        record {
+          status = is-status;
+          left = is-left;
+          unchanged = unchanged_by status _ lent left is-left;
+          promises = λ alike as_many.
+              let its_status : status ≡ status_of defined =
+              is-status ∙ status_lent (length lows) highs alike _ ∙ status_lent (length lows) lent as_many _ in
+              subst Promise (sym (left_decodes status left its_status is-left)) promised;
+        }
 
 -- ---- the nearest tram
 
@@ -141,35 +190,85 @@ module _ (card lows highs lent : List ℕ) (mark : ℕ) where
   PromisedOfNearest = NearestPromises card (trams_lent lows highs) mark
 
   abbrev NearestContract : (status : ℕ) (left : List ℕ) → Type 0
-  NearestContract status left =
-      (status ≡ status_for (length lows) highs (status_for number_count lent (nearest_status nearest)))
-      × ((left ≡ left_by status (nearest_values nearest) lent)
-      × (UnchangedUnlessZero lent status left
-      × (length highs ≡ length lows → length lent ≡ number_count → PromisedOfNearest (nearest_left status left))))
+  NearestContract s after =
+      record {
+        status : s ≡ status_for (length lows) highs (status_for number_count lent (status_of nearest));
+        left : after ≡ left_by s (nearest_values nearest) lent;
+        unchanged : UnchangedUnlessZero lent s after;
+        promises : length highs ≡ length lows → length lent ≡ number_count → PromisedOfNearest (nearest_left s after);
+      }
 
   pub nearest_highs_miscounted : (length highs ≡ length lows → ⊥) → NearestContract wrong_count lent
   unfolding left_by
-  nearest_highs_miscounted other_length = (
-    (wrong_count_crosses (length lows) highs other_length _ []).0,
-    (refl, (unchanged_by wrong_count [] lent lent refl, λ alike _. absurd (other_length alike))),
-  )
+  nearest_highs_miscounted other_length =
+      record {
+        status = (wrong_count_crosses (length lows) highs other_length _ []).0;
+        left = refl;
+        unchanged = unchanged_by wrong_count [] lent lent refl;
+        promises = λ alike _. absurd (other_length alike);
+      }
 
   -- as many highs as lows are lent: as every call that answers one number
-  pub nearest_crosses : length highs ≡ length lows → (status : ℕ) (left : List ℕ)
-      → Contract nearest_status nearest_values Refused nearest_left PromisedOfNearest number_count lent nearest status left
-      → NearestContract status left
-  nearest_crosses alike status left (is-status, (is-left, (unchanged, promised))) =
-      (is-status ∙ sym (status_lent (length lows) highs alike _), (is-left, (unchanged, λ _ counted. promised counted)))
+  module _ (alike : length highs ≡ length lows) where
+    nearest_crosses : {status : ℕ} {left : List ℕ}
+        → Contract status_of nearest_values Refused nearest_left PromisedOfNearest number_count lent nearest status left
+        → NearestContract status left
+    nearest_crosses (is-status, (is-left, (unchanged, promised))) =
+        record {
+          status = is-status ∙ sym (status_lent (length lows) highs alike _);
+          left = is-left;
+          unchanged = unchanged;
+          promises = λ _ counted. promised counted;
+        }
 
-  -- a search that is served has a value, and a place in a list is never the number that stands for no tram
-  pub some_value : eqb (length (nearest_expected card (trams_lent lows highs) mark)) 0 ≡ false
-  unfolding nearest_expected trams_lent
-  some_value = one_value mark (widened_at (code_of card) (trams_lent lows highs)) (length lows)
+    pub nearest_miscounted : (length lent ≡ number_count → ⊥) → NearestContract wrong_count lent
+    nearest_miscounted other_length =
+        nearest_crosses (wrong_count_lem status_of nearest_values Refused nearest_left PromisedOfNearest lent nearest other_length)
 
-  pub place_decodes : (answered : NearestAnswer) (place : ℕ) → answered ≡ Tram place
-      → nearest_status answered ≡ nearest_refusal card (trams_lent lows highs) mark → PromisedOfNearest answered → place_left place ≡ Tram place
-  unfolding place_left nearest_status
-  place_decodes answered place given status promised =
-      let (_, placed) = served card (trams_lent lows highs) mark mark (sym (rw given at status)) in
-      let in_list = (promised.of_all.nearest place given).in_list in
-      rw (ne_eqb place no_tram (λ e. omega (arith, placed.few)))
+    -- what is said of the definition's answer
+    abbrev Served : Type 0
+    Served =
+        (nearest ≡ nearest)
+        × ((status_of nearest ≡ nearest_refusal card (trams_lent lows highs) mark)
+        × ((nearest_values nearest ≡ if_served (status_of nearest) (nearest_expected card (trams_lent lows highs) mark)) × PromisedOfNearest nearest))
+
+    definition_served : Served
+    unfolding nearest_answer nearest_expected
+    definition_served =
+        let (status, values) =
+        status_and_values (λ (place : Option ℕ). place_value place ∷ []) (nearest_refusal card (trams_lent lows highs) mark)
+        (nearest_among (code_of card) (trams_lent lows highs) mark) in
+        (refl, (status, (values, nearest_promises card (trams_lent lows highs) mark)))
+
+    module _ (counted : length lent ≡ number_count) where
+      pub nearest_refused : (refusal : Refusal) → nearest ≡ Err refusal → NearestContract refusal.number lent
+      unfolding nearest_left nearest_expected values_by status_of
+      nearest_refused refusal is =
+          nearest_crosses
+          (refused status_of nearest_values Refused nearest_left PromisedOfNearest lent nearest counted
+          (nearest_expected card (trams_lent lows highs) mark) definition_served refl refusal.number is refl refl
+          (place_left (get_or lent 0 0)) refl)
+
+      -- a place in a list is never the number that stands for no tram
+      place_decodes : (place : Option ℕ) → nearest ≡ Ok place → place_left (place_value place) ≡ Ok place
+      unfolding place_left place_value status_of
+      place_decodes None is = refl
+      place_decodes (Some place) is =
+          let (_, (status, (_, promised))) = definition_served in
+          let (_, placed) = served card (trams_lent lows highs) mark mark (sym (rw is at status)) in
+          let in_list = (promised.of_all.nearest place is).in_list in
+          rw (ne_eqb place no_tram (λ e. omega (arith, placed.few)))
+
+      its_value : (place : Option ℕ) → unwrap_or place no_tram ≡ place_value place
+      unfolding place_value
+      its_value None = refl
+      its_value (Some place) = refl
+
+      pub nearest_stored : (place : Option ℕ) → nearest ≡ Ok place → NearestContract 0 (set lent 0 (unwrap_or place no_tram))
+      unfolding nearest_left values_by status_of
+      nearest_stored place is =
+          rw (its_value place)
+          (nearest_crosses
+          (stored status_of nearest_values Refused nearest_left PromisedOfNearest lent nearest counted
+          (nearest_expected card (trams_lent lows highs) mark) definition_served (Ok place) is refl refl
+          (ap (unless_refused 0 Refused) (place_decodes place is))))

@@ -1,6 +1,6 @@
 -- The 97 numbers of a yard, part by part; and that the yard which they stand for is that yard. Assumes nothing.
 use mathlib.Core.Path.{◌≡◌, refl, sym, ap, ◌∙◌}
-use mathlib.Core.Bool.{Bool, true, false, cond, not}
+use mathlib.Core.Bool.{cond}
 use mathlib.Core.List.{List}
 use mathlib.Core.Logic.{⊎_elim}
 use Prim.Native.Nat.{ℕ, ◌+◌, ◌-◌, ◌≤◌, ◌<◌}
@@ -8,11 +8,12 @@ use native.Mathlib.Omega.{arith}
 use borrow.Author.Tests.{lt-ltb, le-ltb}
 use lib.Dec.{eqb}
 use lib.ListN.{length, get_or}
-use Rattle.bits.proofs.Numbers.{lt_or_le, zero_or_one}
+use Rattle.bits.proofs.Numbers.{lt_or_le, zero_or_one, by_test}
 use Rattle.bits.proofs.Places.{get_or_list_of}
 use Rattle.bits.proofs.FilledLists.{is_list_of}
-use Rattle.model.specs.Yard.{track_count, most_waiting, free_slot, no_entry, slot_at}
+use Rattle.model.specs.Yard.{track_count, most_waiting, free_slot, no_entry, taken, number_in, slot_at}
 use Rattle.model.specs.declared.Slot.{Slot}
+use Rattle.model.specs.declared.Slot.TheVariants.{Free, Held}
 use Rattle.model.specs.declared.Waiting.{Waiting}
 use Rattle.model.specs.declared.Yard.{Yard}
 use Rattle.yard_theory.proofs.OrderlyYards.{Sized}
@@ -21,12 +22,12 @@ use Rattle.dunnavish.specs.YardNumbers.{yard_count, holders_at, count_at, trams_
 module _ (yard : Yard) (place : ℕ) where
   -- ---- the number at a place, by the part that the place lies in
 
-  pub flag_number : place < holders_at → cond (slot_at yard place).held 1 0 ≡ number_at yard place
+  pub flag_number : place < holders_at → cond (taken (slot_at yard place)) 1 0 ≡ number_at yard place
   unfolding number_at
   flag_number below = rw (lt-ltb place holders_at below)
 
   module _ (past_flags : holders_at ≤ place) where
-    pub holder_number : place < count_at → (slot_at yard (place - holders_at)).tram ≡ number_at yard place
+    pub holder_number : place < count_at → number_in (slot_at yard (place - holders_at)) ≡ number_at yard place
     unfolding number_at
     holder_number below = rw (le-ltb place holders_at past_flags, lt-ltb place count_at below)
 
@@ -48,9 +49,9 @@ module _ (yard : Yard) (place : ℕ) where
 
 -- ---- the yard back from its numbers
 
-flag_back : (held : Bool) → not (eqb (cond held 1 0) 0) ≡ held
-flag_back true = refl
-flag_back false = refl
+slot_from : (s : Slot) → cond (eqb (cond (taken s) 1 0) 0) (Free (number_in s)) (Held (number_in s)) ≡ s
+slot_from (Free number) = refl
+slot_from (Held tram) = refl
 
 module _ (yard : Yard) where
   number_of : (place : ℕ) → place < yard_count → get_or (yard_numbers yard) place 0 ≡ number_at yard place
@@ -64,7 +65,7 @@ module _ (yard : Yard) where
       let holder =
       number_of (holders_at + track) (omega (arith, below))
       ∙ sym (holder_number yard (holders_at + track) (omega arith) (omega (arith, below))) in
-      rw (flag, flag_back (slot_at yard track).held, holder, back)
+      rw (flag, holder, back) (sym (slot_from (slot_at yard track)))
 
   entry_back : (i : ℕ) → i < most_waiting → get_or yard.waiting i no_entry ≡ entry_lent (yard_numbers yard) i
   entry_back i below =
@@ -89,8 +90,11 @@ module _ (yard : Yard) where
 
 -- ---- the numbers back from the yard that they stand for, whose flags are 0 and 1
 
-flag_kept : (flag : ℕ) → flag < 2 → cond (not (eqb flag 0)) 1 0 ≡ flag
-flag_kept flag bit = ⊎_elim (λ (is : flag ≡ 0). rw is) (λ (is : flag ≡ 1). rw is) (zero_or_one flag bit)
+flag_kept : (flag number : ℕ) → flag < 2 → cond (taken (cond (eqb flag 0) (Free number) (Held number))) 1 0 ≡ flag
+flag_kept flag number bit = ⊎_elim (λ (is : flag ≡ 0). rw is) (λ (is : flag ≡ 1). rw is) (zero_or_one flag bit)
+
+number_kept : (flag number : ℕ) → number_in (cond (eqb flag 0) (Free number) (Held number)) ≡ number
+number_kept flag number = by_test (λ (s : Slot). number_in s ≡ number) (eqb flag 0) (λ _. refl) (λ _. refl)
 
 module _ (numbers : List ℕ) where
   slot_lent_lem : (track : ℕ) → track < track_count → slot_at (yard_lent numbers) track ≡ slot_lent numbers track
@@ -109,7 +113,7 @@ module _ (numbers : List ℕ) where
       (λ (holder : place < count_at).
       let at : holders_at + (place - holders_at) ≡ place = omega (arith, past) in
       sym (holder_number (yard_lent numbers) place past holder)
-      ∙ ap (λ (s : Slot). s.tram) (slot_lent_lem (place - holders_at) (omega (arith, past, holder))) ∙ ap (λ (k : ℕ). get_or numbers k 0) at)
+      ∙ ap number_in (slot_lent_lem (place - holders_at) (omega (arith, past, holder))) ∙ number_kept _ _ ∙ ap (λ (k : ℕ). get_or numbers k 0) at)
       (λ (past_holders : count_at ≤ place).
       ⊎_elim
       (λ (count : place < trams_at).
@@ -139,7 +143,7 @@ module _ (numbers : List ℕ) where
       ⊎_elim
       (λ (flag : place < holders_at).
       sym
-      (sym (flag_number (yard_lent numbers) place flag) ∙ ap (λ (s : Slot). cond s.held 1 0) (slot_lent_lem place flag)
-      ∙ flag_kept (get_or numbers place 0) (flags place flag)))
+      (sym (flag_number (yard_lent numbers) place flag) ∙ ap (λ (s : Slot). cond (taken s) 1 0) (slot_lent_lem place flag)
+      ∙ flag_kept (get_or numbers place 0) _ (flags place flag)))
       (λ (past : holders_at ≤ place). sym (past_flags place past below))
       (lt_or_le place holders_at)))

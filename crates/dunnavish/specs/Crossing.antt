@@ -3,8 +3,8 @@
 -- are its refusal and its bytes. Assumes nothing.
 use Rattle.std.specs.Prelude.{ℕ, ◌≡◌, cond, List, eqb, length, get_or}
 use Rattle.bits.specs.Places.{list_of}
-use Rattle.model.specs.Trams.{most_trams}
-use Rattle.model.specs.declared.Trams.{Trams}
+use Rattle.model.specs.Refusals.{status_of}
+use Rattle.model.specs.Trams.{Trams, TramsAnswer, yes_values}
 
 -- How many values a call answers where it is served: a check of a card; a read; a block's start, a distance or the nearest tram; and a
 -- vote. A search that says yes or no of each tram answers as many as there are trams.
@@ -28,14 +28,13 @@ strength_count = 2
 abbrev pub card_bytes : ℕ
 card_bytes = 512
 
--- The trams that a caller hands over as lows and highs: as many as there are lows, and the first 64 of their stretches. (A list has 0 past
--- its end.)
+-- The trams that a caller hands over as lows and highs: as many as there are lows. (A list has 0 past its end.)
 unfoldable pub trams_lent : (lows highs : List ℕ) → Trams
-trams_lent lows highs =
-    record {
-      count = length lows;
-      stretches = list_of most_trams (λ i. record { low = get_or lows i 0; high = get_or highs i 0 });
-    }
+trams_lent lows highs = list_of (length lows) (λ i. record { low = get_or lows i 0; high = get_or highs i 0 })
+
+-- so many of them the library is shown at most: one more than a track has, so that it tells that there are too many
+abbrev pub most_handed : ℕ
+most_handed = 65
 
 -- The status of a call whose lent numbers, or bytes, are not exactly as many as its answer has values, or whose lows and highs are not
 -- equally many. It is above every refusal.
@@ -53,3 +52,9 @@ left_by status values lent = cond (eqb status 0) values lent
 -- a status other than 0: nothing that was lent has changed
 unfoldable pub UnchangedUnlessZero : {A : Type 0} (lent : List A) (status : ℕ) (left : List A) → Type 0
 UnchangedUnlessZero lent status left = (status ≡ 0 → ⊥) → left ≡ lent
+
+-- how an answer for each tram crosses: the lows, the highs and the lent bytes are equally many, or the status is `wrong_count`
+abbrev pub EachCrosses : (lows highs lent : List ℕ) → TramsAnswer → (status : ℕ) (left : List ℕ) → Type 0
+EachCrosses lows highs lent answer status left =
+    (status ≡ status_for (length lows) highs (status_for (length lows) lent (status_of answer)))
+    × (left ≡ left_by status (yes_values (length lows) answer) lent)

@@ -1,16 +1,17 @@
 -- The yard as a caller in C has it, 97 numbers of 16 bits: 16 flags (any number but 0 for a track that is held), 16 holders, the count of
 -- waiting trams, and 32 trams and 32 tracks of their entries; and what a call leaves of it. Assumes nothing.
-use Rattle.std.specs.Prelude.{Bool, cond, not, List, ℕ, ◌+◌, ◌-◌, ltb, eqb, get_or}
+use Rattle.std.specs.Prelude.{Bool, cond, List, ℕ, ◌+◌, ◌-◌, ltb, eqb, get_or}
 use Rattle.bits.specs.Places.{list_of}
-use Rattle.model.specs.Refusals.{unless_refused}
-use Rattle.model.specs.Yard.{track_count, most_waiting, no_entry, slot_at}
+use Rattle.model.specs.Refusals.{Refused, unless_refused}
+use Rattle.model.specs.Yard.{track_count, most_waiting, no_entry, taken, number_in, slot_at}
+use Rattle.model.specs.RequestTrack.{Holds, Waits}
+use Rattle.model.specs.ReleaseTrack.{NotClear, Freed, HandedTo}
 use Rattle.model.specs.declared.Slot.{Slot}
+use Rattle.model.specs.declared.Slot.TheVariants.{Free, Held}
 use Rattle.model.specs.declared.Waiting.{Waiting}
 use Rattle.model.specs.declared.Yard.{Yard}
 use Rattle.model.specs.declared.Requested.{Requested}
-use Rattle.model.specs.declared.RequestAnswer.TheVariants.{Holds, Waits, Refused}
 use Rattle.model.specs.declared.Released.{Released}
-use Rattle.model.specs.declared.ReleaseAnswer.TheVariants.{NotClear, Freed, HandedTo, Refused as ReleaseRefused}
 
 -- ---- the numbers
 
@@ -32,7 +33,8 @@ tracks_at = 65
 
 -- the yard that the numbers stand for. (A list has 0 past its end.)
 abbrev pub slot_lent : (numbers : List ℕ) (track : ℕ) → Slot
-slot_lent numbers track = record { held = not (eqb (get_or numbers track 0) 0); tram = get_or numbers (holders_at + track) 0 }
+slot_lent numbers track =
+    cond (eqb (get_or numbers track 0) 0) (Free (get_or numbers (holders_at + track) 0)) (Held (get_or numbers (holders_at + track) 0))
 
 abbrev pub entry_lent : (numbers : List ℕ) (i : ℕ) → Waiting
 entry_lent numbers i = record { tram = get_or numbers (trams_at + i) 0; track = get_or numbers (tracks_at + i) 0 }
@@ -48,8 +50,8 @@ yard_lent numbers =
 -- the number at a place, and all of them; the flag of a track that is held is 1
 unfoldable pub number_at : Yard → (place : ℕ) → ℕ
 number_at yard place =
-    cond (ltb place holders_at) (cond (slot_at yard place).held 1 0)
-    (cond (ltb place count_at) (slot_at yard (place - holders_at)).tram
+    cond (ltb place holders_at) (cond (taken (slot_at yard place)) 1 0)
+    (cond (ltb place count_at) (number_in (slot_at yard (place - holders_at)))
     (cond (ltb place trams_at) yard.count
     (cond (ltb place tracks_at) (get_or yard.waiting (place - trams_at) no_entry).tram (get_or yard.waiting (place - tracks_at) no_entry).track)))
 
@@ -74,7 +76,7 @@ unfoldable pub released_left : (track status : ℕ) (values yard : List ℕ) →
 released_left track status values yard =
     record {
       answer =
-          unless_refused status ReleaseRefused
-          (cond (eqb (get_or values 0 0) 0) NotClear (cond (eqb (get_or values 0 0) 1) Freed (HandedTo (slot_at (yard_lent yard) track).tram)));
+          unless_refused status Refused
+          (cond (eqb (get_or values 0 0) 0) NotClear (cond (eqb (get_or values 0 0) 1) Freed (HandedTo (number_in (slot_at (yard_lent yard) track)))));
       yard = yard_lent yard;
     }

@@ -1,13 +1,13 @@
 // The call for C that reads a word of levels.
 ghost use Rattle.std.specs.Prelude.{◌≡◌, length};
-ghost use Rattle.model.specs.ReadLevels.{levels_answer, levels_status, levels_values, strength_values};
+ghost use Rattle.model.specs.Refusals.{status_of};
+ghost use Rattle.model.specs.ReadLevels.{levels_answer, levels_values, strength_values};
 ghost use Rattle.level_theory.specs.LevelPromises.{LevelPromises};
 ghost use Rattle.dunnavish.specs.Crossing.{read_count, strength_count, status_for, left_by, UnchangedUnlessZero};
 ghost use Rattle.dunnavish.specs.Decoding.{read_left};
 ghost use Rattle.dunnavish.specs.Demands.{ServedWithinTwiceWrongAndErased};
 
 use super::{WRONG_COUNT, words};
-use model::LevelsAnswer;
 
 // How many floats a strength is: the sum and the greatest.
 const STRENGTH_VALUES: usize = 2;
@@ -24,7 +24,7 @@ pub extern "C" fn dunnavish_read_levels(
     strength: &mut [f32],
 ) -> u32
     ensures status { result ≡ status_for read_count values.old (status_for strength_count strength.old
-        (levels_status (levels_answer card.now levels.now))) }
+        (status_of (levels_answer card.now levels.now))) }
     ensures left { values.new
         ≡ left_by result (levels_values (levels_answer card.now levels.now)) values.old }
     ensures strength_left { strength.new
@@ -42,16 +42,12 @@ pub extern "C" fn dunnavish_read_levels(
     if strength.len() != STRENGTH_VALUES {
         return WRONG_COUNT;
     }
-    let answer = depot::read_levels(card, levels);
-    match answer {
-        LevelsAnswer::Refused(refusal) => refusal,
-        LevelsAnswer::At {
-            reading,
-            strength: kept,
-        } => {
-            words::put_reading(reading, values);
-            strength[0] = kept.sum;
-            strength[1] = kept.greatest;
+    match depot::read_levels(card, levels) {
+        Err(refusal) => refusal.number,
+        Ok(read) => {
+            words::put_reading(read.reading, values);
+            strength[0] = read.strength.sum;
+            strength[1] = read.strength.greatest;
             0
         }
     }

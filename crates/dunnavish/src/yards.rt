@@ -1,54 +1,30 @@
 // The calls for C on the yard, lent as 97 numbers of 16 bits, in which a call that changes it leaves it.
-ghost use Rattle.std.specs.Prelude.{◌≡◌, ◌&&◌, ◌≤◌, ◌<◌, eqb, length};
-ghost use Rattle.bits.specs.Places.{list_of};
+ghost use Rattle.std.specs.Prelude.{◌≡◌, ◌&&◌, ◌≤◌, cond, eqb, length};
 ghost use Rattle.model.specs.Card.{track_of};
-ghost use Rattle.model.specs.Yard.{track_count, most_waiting};
-ghost use Rattle.model.specs.RequestTrack.{request_answer, request_status, request_values};
-ghost use Rattle.model.specs.ReleaseTrack.{release_answer, release_status, release_values, accepted};
+ghost use Rattle.model.specs.Yard.{most_waiting, taken, number_in};
+ghost use Rattle.model.specs.Refusals.{status_of};
+ghost use Rattle.model.specs.RequestTrack.{request_answer, request_value, request_values};
+ghost use Rattle.model.specs.ReleaseTrack.{release_answer, release_value, release_values, accepted_release, accepted};
 ghost use Rattle.yard_theory.specs.YardPromises.{RequestPromises, ReleasePromises};
 ghost use Rattle.dunnavish.specs.Crossing.{number_count, status_for, left_by, UnchangedUnlessZero};
-ghost use Rattle.dunnavish.specs.YardNumbers.{yard_count, slot_lent, entry_lent, yard_lent, number_at, yard_numbers};
+ghost use Rattle.dunnavish.specs.YardNumbers.{yard_count, yard_lent, yard_numbers};
 ghost use Rattle.dunnavish.specs.YardNumbers.{yard_left_by, requested_left, released_left};
 
 use super::WRONG_COUNT;
-use model::{ReleaseAnswer, RequestAnswer, Slot, Waiting, Yard};
+use model::{Release, Request, Slot, Waiting, Yard};
+use std::array;
 
-// The tracks of the lent yard.
-fn slots_lent(numbers: &[u16]) -> [Slot; 16]
-    requires { length numbers.now ≡ yard_count }
-    ensures { result ≡ list_of track_count (slot_lent numbers.now) }
-{
-    let mut slots = [Slot {
-        held: false,
-        tram: 0,
-    }; 16];
-    let mut track: usize = 0;
-    while track < 16 {
-        slots[track] = Slot {
-            held: numbers[track] != 0,
-            tram: numbers[16 + track],
-        };
-        track += 1;
-    }
-    slots
-}
+// How many numbers a lent yard has: first the flags of the tracks, and from these places on the holders, the count of waiting trams, their
+// trams, and the tracks that they wait for.
+const YARD_NUMBERS: usize = 97;
 
-// The entries of its waiting trams.
-fn waiting_lent(numbers: &[u16]) -> [Waiting; 32]
-    requires { length numbers.now ≡ yard_count }
-    ensures { result ≡ list_of most_waiting (entry_lent numbers.now) }
-{
-    let mut waiting = [Waiting { tram: 0, track: 0 }; 32];
-    let mut i: usize = 0;
-    while i < 32 {
-        waiting[i] = Waiting {
-            tram: numbers[33 + i],
-            track: numbers[65 + i],
-        };
-        i += 1;
-    }
-    waiting
-}
+const HOLDERS: usize = 16;
+
+const COUNT: usize = 32;
+
+const TRAMS: usize = 33;
+
+const WAITED_FOR: usize = 65;
 
 // The yard that is lent.
 fn yard_lent(numbers: &[u16]) -> Yard
@@ -56,37 +32,30 @@ fn yard_lent(numbers: &[u16]) -> Yard
     ensures { result ≡ yard_lent numbers.now }
 {
     Yard {
-        slots: slots_lent(numbers),
-        count: numbers[32] as usize,
-        waiting: waiting_lent(numbers),
+        slots: array::from_fn(|track| {
+            let number = numbers[HOLDERS + track];
+            if numbers[track] != 0 {
+                Slot::Held(number)
+            } else {
+                Slot::Free(number)
+            }
+        }),
+        count: numbers[COUNT] as usize,
+        waiting: array::from_fn(|i| Waiting {
+            tram: numbers[TRAMS + i],
+            track: numbers[WAITED_FOR + i],
+        }),
     }
 }
 
-// The number at a place of the yard's 97.
-fn number_at(yard: Yard, place: usize) -> u16
-    requires { (place < yard_count) × (yard.count ≤ most_waiting) }
-    ensures { result ≡ number_at yard place }
+// A track's two numbers: the flag, and the number in the slot.
+fn slot_numbers(slot: Slot) -> (u16, u16)
+    ensures { (result.0 ≡ cond (taken slot) 1 0) × (result.1 ≡ number_in slot) }
 {
-    if place < 16 {
-        let slots = yard.slots;
-        let slot = slots[place];
-        return if slot.held { 1 } else { 0 };
+    match slot {
+        Slot::Free(number) => (0, number),
+        Slot::Held(tram) => (1, tram),
     }
-    if place < 32 {
-        let slots = yard.slots;
-        let slot = slots[place - 16];
-        return slot.tram;
-    }
-    if place < 33 {
-        return yard.count as u16;
-    }
-    let waiting = yard.waiting;
-    if place < 65 {
-        let entry = waiting[place - 33];
-        return entry.tram;
-    }
-    let entry = waiting[place - 65];
-    entry.track
 }
 
 // A yard into the lent numbers.
@@ -94,10 +63,25 @@ fn put_yard(yard: Yard, numbers: &mut [u16])
     requires { (yard.count ≤ most_waiting) × (length numbers.old ≡ yard_count) }
     ensures { numbers.new ≡ yard_numbers yard }
 {
-    let mut place: usize = 0;
-    while place < 97 {
-        numbers[place] = number_at(yard, place);
-        place += 1;
+    for (track, slot) in yard.slots.iter().enumerate() {
+        let (flag, number) = slot_numbers(*slot);
+        numbers[track] = flag;
+        numbers[HOLDERS + track] = number;
+    }
+    numbers[COUNT] = yard.count as u16;
+    for (i, entry) in yard.waiting.iter().enumerate() {
+        numbers[TRAMS + i] = entry.tram;
+        numbers[WAITED_FOR + i] = entry.track;
+    }
+}
+
+// What a request led to, as a number.
+fn request_value(request: Request) -> u32
+    ensures { result ≡ request_value request }
+{
+    match request {
+        Request::Holds => 0,
+        Request::Waits => 1,
     }
 }
 
@@ -110,7 +94,7 @@ pub extern "C" fn dunnavish_request(
     values: &mut [u32],
 ) -> u32
     ensures status { result ≡ status_for yard_count yard.old (status_for number_count values.old
-        (request_status (request_answer (yard_lent yard.old) tram track).answer)) }
+        (status_of (request_answer (yard_lent yard.old) tram track).answer)) }
     ensures left { values.new ≡ left_by result (request_values (request_answer (yard_lent yard.old) tram track).answer)
         values.old }
     ensures yard_left { yard.new
@@ -120,26 +104,39 @@ pub extern "C" fn dunnavish_request(
     ensures promises { length yard.old ≡ yard_count → length values.old ≡ number_count
         → RequestPromises (yard_lent yard.old) tram track (requested_left result values.new yard.new) }
 {
-    if yard.len() != 97 {
-        return WRONG_COUNT;
-    }
-    if values.len() != 1 {
+    if yard.len() != YARD_NUMBERS || values.len() != 1 {
         return WRONG_COUNT;
     }
     let requested = depot::request(yard_lent(yard), tram, track);
-    let answer = requested.answer;
-    match answer {
-        RequestAnswer::Refused(refusal) => refusal,
-        RequestAnswer::Holds => {
-            values[0] = 0;
+    match requested.answer {
+        Err(refusal) => refusal.number,
+        Ok(request) => {
+            values[0] = request_value(request);
             put_yard(requested.yard, yard);
             0
         }
-        RequestAnswer::Waits => {
-            values[0] = 1;
-            put_yard(requested.yard, yard);
-            0
-        }
+    }
+}
+
+// What a release led to, as a number.
+fn release_value(release: Release) -> u32
+    ensures { result ≡ release_value release }
+{
+    match release {
+        Release::NotClear => 0,
+        Release::Freed => 1,
+        Release::HandedTo(_) => 2,
+    }
+}
+
+// Whether a release is accepted.
+fn is_accepted(release: Release) -> bool
+    ensures { result ≡ accepted_release release }
+{
+    match release {
+        Release::NotClear => false,
+        Release::Freed => true,
+        Release::HandedTo(_) => true,
     }
 }
 
@@ -154,7 +151,7 @@ pub extern "C" fn dunnavish_release(
     card: &[u8],
     values: &mut [u32],
 ) -> u32
-    ensures status { result ≡ status_for yard_count yard.old (status_for number_count values.old (release_status
+    ensures status { result ≡ status_for yard_count yard.old (status_for number_count values.old (status_of
         (release_answer (yard_lent yard.old) tram word.now mark card.now).answer)) }
     ensures left { values.new ≡ left_by result (release_values
         (release_answer (yard_lent yard.old) tram word.now mark card.now).answer) values.old }
@@ -167,28 +164,17 @@ pub extern "C" fn dunnavish_release(
         → ReleasePromises (yard_lent yard.old) tram word.now mark card.now
         (released_left (track_of card.now) result values.new yard.new) }
 {
-    if yard.len() != 97 {
-        return WRONG_COUNT;
-    }
-    if values.len() != 1 {
+    if yard.len() != YARD_NUMBERS || values.len() != 1 {
         return WRONG_COUNT;
     }
     let released = depot::release(yard_lent(yard), tram, word, mark, card);
-    let answer = released.answer;
-    match answer {
-        ReleaseAnswer::Refused(refusal) => refusal,
-        ReleaseAnswer::NotClear => {
-            values[0] = 0;
-            0
-        }
-        ReleaseAnswer::Freed => {
-            values[0] = 1;
-            put_yard(released.yard, yard);
-            0
-        }
-        ReleaseAnswer::HandedTo(_) => {
-            values[0] = 2;
-            put_yard(released.yard, yard);
+    match released.answer {
+        Err(refusal) => refusal.number,
+        Ok(release) => {
+            values[0] = release_value(release);
+            if is_accepted(release) {
+                put_yard(released.yard, yard);
+            }
             0
         }
     }

@@ -22,9 +22,6 @@ use Rattle.model.specs.Reading.{rule_seen, separator_by, two_ends, rows_9_to_12,
 use Rattle.model.specs.Levels.{any_outside, received_at, unerased_in, bits_in, separator_reading, seen_in_levels, residual_unerased, strength_of}
 use Rattle.model.specs.ReadLevels.{rows_of_levels, levels_answered, read_levels}
 use Rattle.model.specs.declared.Reading.{Reading}
-use Rattle.model.specs.declared.ReadAnswer.{ReadAnswer}
-use Rattle.model.specs.declared.ReadAnswer.TheVariants.{At, Refused}
-use Rattle.model.specs.declared.LevelsAnswer.TheVariants.{At as LevelsAt, Refused as LevelsRefused}
 use Rattle.model.specs.declared.ReceivedLevel.{ReceivedLevel}
 use Rattle.code_theory.proofs.RefusalRows.{served_if_none, refused_if_some}
 use Rattle.code_theory.proofs.ChunkReading.{erasure_reading_ext}
@@ -39,6 +36,10 @@ use Rattle.reader.specs.RuleAnswers.{AnswersRule, answer_by}
 use Rattle.nearest_position.specs.Residuals.{residual_in}
 use Rattle.level_reader.specs.LevelWords.{LevelWordOf}
 use Rattle.level_reader.specs.declared.level_word.LevelWord.{LevelWord}
+use Rattle.model.specs.ReadWord.{ReadAnswer}
+use Rattle.std.specs.Prelude.{Ok, Err, Option}
+use Rattle.model.specs.Refusals.{Refused}
+use Rattle.model.specs.declared.Refusal.{Refusal}
 
 -- what the rule with this number answers of a word of received levels
 abbrev pub answer_in_levels : Code → (word : ℕ → ReceivedLevel) (rule : ℕ) → ReadAnswer
@@ -64,7 +65,7 @@ module _ (C : Code) (word : ℕ → ReceivedLevel) (w : LevelWord) (holds : Leve
   nothing_past p l unerased = holds.bits_are p ∙ cut_above (word_bits C) (bits_in word) p l
 
   -- the separators read by their sums name what they name by their levels
-  pub named_by_levels : (named : NamedRule) → Names (read_by_sum w.sum1) (read_by_sum w.sum2) (read_by_sum w.sum3) named
+  pub named_by_levels : (named : Option NamedRule) → Names (read_by_sum w.sum1) (read_by_sum w.sum2) (read_by_sum w.sum3) named
       → NamesOf (seen_in_levels C word) named
   unfolding seen_in_levels separator_reading
   named_by_levels named names = rw (holds.sum₁, holds.sum₂, holds.sum₃) at names
@@ -92,30 +93,30 @@ module _ (C : Code) (word : ℕ → ReceivedLevel) (w : LevelWord) (holds : Leve
 
 -- ---- the ways out
 
--- an answer that is a refusal has that refusal's number, and it is not 0
-refused_if_answered : (refusal : ℕ) (reading : Reading) (number : ℕ) → unless_refused refusal Refused (At reading) ≡ Refused number
-    → (number ≡ 0 → ⊥) × (refusal ≡ number)
-refused_if_answered refusal reading number answered =
+-- an answer that is a refusal is the one with its number
+refused_if_answered : (number : ℕ) (reading : Reading) (refusal : Refusal) → unless_refused number Refused (Ok reading) ≡ Err refusal
+    → (number ≡ 0 → ⊥) × (record { number = number } ≡ refusal)
+refused_if_answered number reading refusal answered =
     ⊎_elim
-    (λ (none : refusal ≡ 0).
-    let clash : At reading ≡ Refused number = sym (served_if_none refusal Refused (At reading) none) ∙ answered in
+    (λ (none : number ≡ 0).
+    let clash : Ok reading ≡ Err refusal = sym (served_if_none number Refused (Ok reading) none) ∙ answered in
     let no : ◌≡◌ {A = ℕ} 0 1 = cc in absurd (omega arith))
-    (λ (some : refusal ≡ 0 → ⊥).
-    let same : Refused refusal ≡ Refused number = sym (refused_if_some refusal Refused (At reading) some) ∙ answered in
-    let is : refusal ≡ number = cc in (λ e. some (is ∙ e), is))
-    (eq_or_ne refusal 0)
+    (λ (some : number ≡ 0 → ⊥).
+    let same : ◌≡◌ {A = ReadAnswer} (Refused number) (Err refusal) = sym (refused_if_some number Refused (Ok reading) some) ∙ answered in
+    (some, cc))
+    (eq_or_ne number 0)
 
-pub refused_15 : (C : Code) (levels : List Float) → (length levels ≡ word_bits C → ⊥) → LevelsRefused 15 ≡ read_levels C levels
+pub refused_15 : (C : Code) (levels : List Float) → (length levels ≡ word_bits C → ⊥) → Refused 15 ≡ read_levels C levels
 unfolding read_levels levels_answered rows_of_levels first_refusal unless_refused
 refused_15 C levels other_length = rw (ne_eqb (length levels) (word_bits C) other_length)
 
 module _ (C : Code) (levels : List Float) (whole : length levels ≡ word_bits C) where
-  pub refused_16 : any_outside (word_bits C) levels ≡ true → LevelsRefused 16 ≡ read_levels C levels
+  pub refused_16 : any_outside (word_bits C) levels ≡ true → Refused 16 ≡ read_levels C levels
   unfolding read_levels levels_answered rows_of_levels first_refusal unless_refused
   refused_16 some = rw (eq-eqb (length levels) (word_bits C) whole, some)
 
   module _ (inside : any_outside (word_bits C) levels ≡ false) where
-    pub refused_9 : rule_seen (seen_in_levels C (received_at levels)) ≡ 0 → LevelsRefused 9 ≡ read_levels C levels
+    pub refused_9 : rule_seen (seen_in_levels C (received_at levels)) ≡ 0 → Refused 9 ≡ read_levels C levels
     unfolding read_levels levels_answered rows_of_levels rows_seen rows_9_to_12 first_refusal unless_refused
     refused_9 unnamed = rw (eq-eqb (length levels) (word_bits C) whole, inside, unnamed)
 
@@ -128,14 +129,15 @@ module _ (C : Code) (levels : List Float) (whole : length levels ≡ word_bits C
     unfolding rows_of_levels first_refusal
     refusal_is = rw (eq-eqb (length levels) (word_bits C) whole, inside)
 
-    pub word_read : (r : Reading) → answered ≡ At r → LevelsAt r (strength_of (received_at levels) (word_bits C)) ≡ read_levels C levels
+    pub word_read : (r : Reading) → answered ≡ Ok r
+        → Ok (record { reading = r; strength = strength_of (received_at levels) (word_bits C) }) ≡ read_levels C levels
     unfolding read_levels levels_answered unless_refused answer_by
     word_read r is =
         let (none, same) = read_if_served (refusal_of (two_ends C) (seen_in_levels C (received_at levels))) _ r is in
         rw (refusal_is, none, same)
 
-    pub rule_refused : (refusal : ℕ) → answered ≡ Refused refusal → LevelsRefused refusal ≡ read_levels C levels
+    pub rule_refused : (refusal : Refusal) → answered ≡ Err refusal → Err refusal ≡ read_levels C levels
     unfolding read_levels levels_answered answer_by
     rule_refused refusal is =
         let (some, same) = refused_if_answered (refusal_of (two_ends C) (seen_in_levels C (received_at levels))) _ refusal is in
-        rw (refusal_is, same, refused_if_some refusal LevelsRefused _ some)
+        rw (refusal_is, refused_if_some _ Refused _ some, same)

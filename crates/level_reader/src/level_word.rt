@@ -5,13 +5,17 @@ ghost use Rattle.model.specs.Decoded.{meaning};
 ghost use Rattle.model.specs.Levels.{received_at};
 ghost use Rattle.model.specs.Words.{word_bits};
 ghost use Rattle.position.specs.LayoutOf.{LayoutOf};
+ghost use Rattle.levels.specs.LevelChunks.{read_by_sum};
+ghost use Rattle.reader.specs.Naming.{Names};
 ghost use Rattle.level_reader.specs.LevelWords.{LevelWordOf};
 
-use levels::{level_chunk, strength};
+use levels::{level_chunk, separators, strength};
 use model::{DecodedCode, Strength};
 use nearest_position::received::ReceivedWord;
 use position::layout::Layout;
 use position::words;
+use reader::naming;
+use reader::naming::NamedRule;
 
 // The word received, its erased bits 0; the sums of its separators; and the strength.
 #[derive(Clone, Copy)]
@@ -21,6 +25,18 @@ pub struct LevelWord {
     pub sum2: f32,
     pub sum3: f32,
     pub strength: Strength,
+}
+
+impl LevelWord {
+    // What its three separators name, read by the sums of their levels: a rule with what the rule's separator reads, or none.
+    pub fn rule_by_sums(&self) -> Option<NamedRule>
+        ensures { Names (read_by_sum self.now.sum1) (read_by_sum self.now.sum2) (read_by_sum self.now.sum3) result }
+    {
+        let s1 = separators::read_by(self.sum1);
+        let s2 = separators::read_by(self.sum2);
+        let s3 = separators::read_by(self.sum3);
+        naming::named_by(s1, s2, s3)
+    }
 }
 
 // The d levels of a word, folded chunk by chunk, the strength going on from one to the next.
@@ -45,13 +61,11 @@ pub fn word_of_levels(code: DecodedCode, at: Layout, levels: &[f32]) -> LevelWor
         c2.unerased,
         s3.unerased,
     );
-    let word = ReceivedWord { bits, unerased };
-    let strength = s3.strength;
     LevelWord {
-        word,
+        word: ReceivedWord { bits, unerased },
         sum1: s1.sum,
         sum2: s2.sum,
         sum3: s3.sum,
-        strength,
+        strength: s3.strength,
     }
 }

@@ -28,11 +28,7 @@ use Rattle.model.specs.Levels.{bit_of_level, plus_level, sum_of_levels}
 use Rattle.model.specs.Levels.{separator_reading, chunk_wrong, within_erasures, erasure_reading, seen_in_levels, residual_unerased}
 use Rattle.model.specs.ReadWord.{spare_set, rows_of_word, read_refusal, read_answer}
 use Rattle.model.specs.CardsToTry.{card_b}
-use Rattle.model.specs.declared.ChunkBits.{ChunkBits}
-use Rattle.model.specs.declared.ChunkBits.TheVariants.{Differing}
 use Rattle.model.specs.declared.Reading.{Reading}
-use Rattle.model.specs.declared.ReadAnswer.{ReadAnswer}
-use Rattle.model.specs.declared.ReadAnswer.TheVariants.{At}
 use Rattle.code_theory.proofs.CodeWitnesses.{card_b_sound}
 use Rattle.position_theory.specs.Damage.{wrong_in, erased_in, ChunksBelowD, wrong_in_all, erased_in_all}
 use Rattle.position_theory.specs.ChunkBits.{CountsWrong, WrongOfChunks}
@@ -50,6 +46,8 @@ use Rattle.level_theory.specs.LevelContradictions.{SeparatorFrom, MixedLevels}
 use Rattle.level_theory.specs.LevelContradictions.{levels_answer_before}
 use Rattle.level_theory.specs.LevelWitnesses.{level_of, levels_of, seven_wrong, last_wrong, last_erased, all_damaged, zero_damaged}
 use Rattle.level_theory.specs.LevelWitnesses.{wrong_and_erased, three_erased, mixed, mixed_erased, mixed_wrong, LevelsWitnessed}
+use Rattle.std.specs.Prelude.{Ok, Option, Some}
+use Rattle.model.specs.ReadWord.{ReadAnswer}
 
 -- ---- premises, as tests that are computed
 
@@ -101,7 +99,7 @@ within_damage position e bits whole size on_track few is answer promise =
 -- ---- what is counted of chunks
 
 -- the rule is the one that the separators name
-counts_by_rule : (card : List ℕ) (levels : List Float) (r : Reading) → CountsWrongOfChunks card levels (At r)
+counts_by_rule : (card : List ℕ) (levels : List Float) (r : Reading) → CountsWrongOfChunks card levels (Ok r)
     → let C : Code = code_of card in
     let s = seen_of card levels in
     WrongOfChunks C (unerased_of levels) (bits_of levels) s (rule_seen s) r.chunk1 r.chunk2
@@ -109,13 +107,13 @@ unfolding CountsWrongOfChunks
 counts_by_rule card levels r promise = let counts = promise r refl in rw counts.by_rule at counts
 
 -- the count of a chunk that is named is that of its wrong places
-count_is : (C : Code) (unerased : ℕ → Bool) (chunk : ℕ → ℕ) (p q : ℕ) (bits : ChunkBits) → p ≡ q → CountsWrong C true unerased chunk p bits
-    → bits ≡ Differing (chunk_wrong C unerased chunk q)
+count_is : (C : Code) (unerased : ℕ → Bool) (chunk : ℕ → ℕ) (p q : ℕ) (bits : (Option ℕ)) → p ≡ q → CountsWrong C true unerased chunk p bits
+    → bits ≡ Some (chunk_wrong C unerased chunk q)
 unfolding CountsWrong
-count_is C unerased chunk p q bits is (count, as_read, counted, few) = as_read ∙ ap Differing (rw is at counted)
+count_is C unerased chunk p q bits is (count, as_read, counted, few) = as_read ∙ ap Some (rw is at counted)
 
 -- and 2 × wrong + erased is below D: nothing is counted of a chunk for which that holds of no codeword
-no_count : (C : Code) (unerased : ℕ → Bool) (chunk : ℕ → ℕ) (p last : ℕ) (bits : ChunkBits)
+no_count : (C : Code) (unerased : ℕ → Bool) (chunk : ℕ → ℕ) (p last : ℕ) (bits : (Option ℕ))
     → any_below (within_erasures C unerased chunk) (suc last) ≡ false → p ≤ last → CountsWrong C true unerased chunk p bits → ⊥
 unfolding CountsWrong within_erasures
 no_count C unerased chunk p last bits none in_code (count, as_read, counted, few) =

@@ -17,21 +17,21 @@ use Rattle.model.specs.Levels.{any_outside, received_at, seen_in_levels, residua
 use Rattle.model.specs.ReadLevels.{rows_in_levels, rows_of_levels, levels_answered, read_levels, reading_in_levels, levels_refusal, levels_answer}
 use Rattle.model.specs.ReadLevels.{position_answer}
 use Rattle.model.specs.declared.Reading.{Reading}
-use Rattle.model.specs.declared.ReadAnswer.TheVariants.{At, Refused}
-use Rattle.model.specs.declared.LevelsAnswer.TheVariants.{Refused as LevelsRefused}
 use Rattle.code_theory.proofs.RefusalRows.{NoneHolds, numbered, none_refuses, none_holds, served_if_none, refused_if_some, none_past_card}
 use Rattle.position_theory.specs.Nearest.{refusal_of}
 use Rattle.position_theory.proofs.WordBytes.{reading_of_seen}
 use Rattle.position_theory.proofs.ReadWords.{read_if_served}
 use Rattle.level_theory.specs.LevelsSeen.{unerased_of, bits_of}
+use Rattle.std.specs.Prelude.{Ok}
+use Rattle.model.specs.Refusals.{Refused}
 
 -- the position answer is the refusal, or what the levels read as
 pub position_answered : (C : Code) (levels : List Float) (refusal : ℕ)
-    → position_answer (levels_answered C levels refusal) ≡ unless_refused refusal Refused (At (reading_in_levels C (received_at levels)))
+    → position_answer (levels_answered C levels refusal) ≡ unless_refused refusal Refused (Ok (reading_in_levels C (received_at levels)))
 unfolding levels_answered position_answer
 position_answered C levels refusal =
-    ⊎_elim (λ (none : refusal ≡ 0). rw (served_if_none refusal LevelsRefused _ none, served_if_none refusal Refused _ none))
-    (λ (some : refusal ≡ 0 → ⊥). rw (refused_if_some refusal LevelsRefused _ some, refused_if_some refusal Refused _ some))
+    ⊎_elim (λ (none : refusal ≡ 0). rw (served_if_none refusal Refused _ none, served_if_none refusal Refused _ none))
+    (λ (some : refusal ≡ 0 → ⊥). rw (refused_if_some refusal Refused _ some, refused_if_some refusal Refused _ some))
     (eq_or_ne refusal 0)
 
 -- d levels, none of them outside the limits, are answered by what is seen of them
@@ -48,7 +48,7 @@ unfolding levels_answer levels_refusal read_levels first_refusal
 levels_sound card levels sound = rw (eq-eqb (card_refusal card) 0 sound)
 
 -- a word that is read shows that its card is sound and that no row holds of what is seen of its levels, and the answer is its reading
-pub levels_show : (card : List ℕ) (levels : List Float) (r : Reading) → position_answer (levels_answer card levels) ≡ At r
+pub levels_show : (card : List ℕ) (levels : List Float) (r : Reading) → position_answer (levels_answer card levels) ≡ Ok r
     → (card_refusal card ≡ 0) × (refusal_of (two_ends (code_of card)) (seen_in_levels (code_of card) (received_at levels)) ≡ 0)
     × (reading_in_levels (code_of card) (received_at levels) ≡ r)
 unfolding levels_answer levels_refusal rows_of_levels rows_seen rows_9_to_12 NoneHolds numbered

@@ -8,12 +8,13 @@ use Rattle.model.specs.Words.{word_bits, word}
 use Rattle.model.specs.Reading.{Seen, rule_seen, separator_by, two_ends, rows_9_to_12}
 use Rattle.model.specs.Levels.{any_outside, received_at}
 use Rattle.model.specs.ReadLevels.{reading_in_levels}
-use Rattle.model.specs.declared.ReadAnswer.{ReadAnswer}
-use Rattle.model.specs.declared.ReadAnswer.TheVariants.{At, Refused}
 use Rattle.position_theory.specs.Damage.{ChunkBelowD}
 use Rattle.position_theory.specs.Contradictions.{separator_chunk, NamedChunk}
 use Rattle.level_theory.specs.UnitLevels.{UnitLevels}
 use Rattle.level_theory.specs.LevelsSeen.{unerased_of, bits_of, seen_of}
+use Rattle.model.specs.ReadWord.{ReadAnswer}
+use Rattle.std.specs.Prelude.{Ok}
+use Rattle.model.specs.Refusals.{Refused}
 
 -- the rule's separator is from w(i): it reads as the parity of i, whatever the levels are; or the levels are 1, -1 and 0, and it has
 -- 2 × wrong + erased below D
@@ -45,4 +46,4 @@ levels_answer_before card levels =
     ∷ refuses 15 (not (eqb (length levels) (word_bits C)))
     ∷ refuses 16 (any_outside (word_bits C) levels)
     ∷ rows_9_to_12 (two_ends C) s (rule_seen s)))
-    Refused (At (reading_in_levels C (received_at levels)))
+    Refused (Ok (reading_in_levels C (received_at levels)))

@@ -9,8 +9,6 @@ use Rattle.model.specs.Reading.{two_ends}
 use Rattle.model.specs.Levels.{any_outside, residual_unerased}
 use Rattle.model.specs.ReadWord.{read_answer}
 use Rattle.model.specs.declared.Reading.{Reading}
-use Rattle.model.specs.declared.ReadAnswer.{ReadAnswer}
-use Rattle.model.specs.declared.ReadAnswer.TheVariants.{At}
 use Rattle.position_theory.specs.Damage.{ChunksBelowD, wrong_in_all, erased_in_all, Near}
 use Rattle.position_theory.specs.Nearest.{IsReadingOf}
 use Rattle.position_theory.specs.ChunkBits.{WrongOfChunks}
@@ -18,6 +16,8 @@ use Rattle.position_theory.specs.Contradictions.{AgreesIfRead, contradicted, unl
 use Rattle.level_theory.specs.UnitLevels.{OneLevels, UnitLevels}
 use Rattle.level_theory.specs.LevelsSeen.{unerased_of, bits_of, seen_of, word_of_bits}
 use Rattle.level_theory.specs.LevelContradictions.{MixedLevels, levels_answer_before}
+use Rattle.model.specs.ReadWord.{ReadAnswer}
+use Rattle.std.specs.Prelude.{Ok}
 
 -- ---- a clause of its own
 
@@ -44,7 +44,7 @@ NearestOverUnerased card levels answer =
 -- Of every word that is read, the counts of the chunks that the rule names are those of their wrong places
 unfoldable pub CountsWrongOfChunks : (card : List ℕ) (levels : List Float) → ReadAnswer → Type 0
 CountsWrongOfChunks card levels answer =
-    (r : Reading) → answer ≡ At r
+    (r : Reading) → answer ≡ Ok r
     → WrongOfChunks (code_of card) (unerased_of levels) (bits_of levels) (seen_of card levels) r.rule r.chunk1 r.chunk2
 
 -- When every one of d levels is 1 or -1, the answer is that of the plain reading of the word of these bits, refusals too
@@ -59,7 +59,7 @@ LevelsReadOnlyIfParityAgrees card levels answer = AgreesIfRead (code_of card) (s
 
 -- Levels mixed from two telegrams whose parities differ are never read
 unfoldable pub MixedLevelsNeverRead : (card : List ℕ) (levels : List Float) → ReadAnswer → Type 0
-MixedLevelsNeverRead card levels answer = (i j c : ℕ) → MixedLevels card levels i j c → (r : Reading) → answer ≡ At r → ⊥
+MixedLevelsNeverRead card levels answer = (i j c : ℕ) → MixedLevels card levels i j c → (r : Reading) → answer ≡ Ok r → ⊥
 
 -- The words that were read and no longer are: those in which that separator differs, each refused by 17. Every other word, on every card,
 -- is answered as before, with the same values or the same refusal. (The strength goes with the reading.)

@@ -7,17 +7,17 @@ use Rattle.std.specs.Float.Ieee.{of_int}
 use Rattle.model.specs.Card.{code_of}
 use Rattle.model.specs.Levels.{erasure_reading}
 use Rattle.model.specs.CardsToTry.{card_b}
-use Rattle.model.specs.declared.Chunk.TheVariants.{Codeword}
-use Rattle.model.specs.declared.ChunkBits.TheVariants.{Differing, NotRead}
 use Rattle.model.specs.declared.Reading.{Reading}
-use Rattle.model.specs.declared.ReadAnswer.{ReadAnswer}
-use Rattle.model.specs.declared.ReadAnswer.TheVariants.{At, Refused}
 use Rattle.position_theory.specs.PositionWitnesses.{ReadAs, ReadWithin, NoneReads}
 use Rattle.level_theory.specs.UnitLevels.{plus_one_level, minus_one_level}
 use Rattle.level_theory.specs.LevelPromises.{NearestOverUnerased, CountsWrongOfChunks, AsPlainReading}
 use Rattle.level_theory.specs.ReadsBelowD.{ChunksReadBelowD}
 use Rattle.level_theory.specs.LevelPromises.{OffByAtMostTwiceWrongAndErased, LevelsReadOnlyIfParityAgrees, MixedLevelsNeverRead}
 use Rattle.level_theory.specs.LevelPromises.{LevelsAsBeforeUnlessContradicted}
+use Rattle.model.specs.Reading.{Codeword}
+use Rattle.std.specs.Prelude.{None, Ok, Some}
+use Rattle.model.specs.ReadWord.{ReadAnswer}
+use Rattle.model.specs.Refusals.{Refused}
 
 -- ---- words of levels of card B, whose D is 3
 
@@ -109,9 +109,9 @@ pub record LevelsWitnessed : Type 0 where
   pub smallest_of_erased : (answer : ReadAnswer) → NearestOverUnerased card_b (levels_of last_erased) answer → ReadAs 13 0 3 answer
   pub by_17 : (answer : ReadAnswer) → NearestOverUnerased card_b (levels_of mixed) answer → answer ≡ Refused 17
   -- wrong bits of chunks, with 2 × wrong + erased just below D; of a chunk that is not named none; and with D itself no reading
-  pub below_d : (r : Reading) → CountsWrongOfChunks card_b (levels_of zero_damaged) (At r)
-      → (r.chunk1 ≡ Differing 0) × (r.chunk2 ≡ Differing 1)
-  pub not_named : (r : Reading) → CountsWrongOfChunks card_b (levels_of seven_wrong) (At r) → (r.chunk1 ≡ NotRead) × (r.chunk2 ≡ Differing 0)
+  pub below_d : (r : Reading) → CountsWrongOfChunks card_b (levels_of zero_damaged) (Ok r)
+      → (r.chunk1 ≡ Some 0) × (r.chunk2 ≡ Some 1)
+  pub not_named : (r : Reading) → CountsWrongOfChunks card_b (levels_of seven_wrong) (Ok r) → (r.chunk1 ≡ None) × (r.chunk2 ≡ Some 0)
   pub wrong_and_erased_lem : NoneReads (CountsWrongOfChunks card_b (levels_of wrong_and_erased))
   pub three_erased_lem : NoneReads (CountsWrongOfChunks card_b (levels_of three_erased))
   -- levels of 1 and -1 are read, or refused, as the plain word

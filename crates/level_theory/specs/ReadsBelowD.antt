@@ -4,7 +4,7 @@ use Rattle.bits.specs.Sums.{erased_below}
 use Rattle.model.specs.Card.{Code, code_of, SoundCard}
 use Rattle.model.specs.Order.{last_codeword}
 use Rattle.model.specs.Levels.{chunk_wrong, erasure_reading}
-use Rattle.model.specs.declared.Chunk.TheVariants.{Codeword}
+use Rattle.model.specs.Reading.{Codeword}
 
 -- codeword p is one for which 2 × wrong + erased is below D, of a chunk with these unerased places
 abbrev pub BelowD : Code → (unerased : ℕ → Bool) (chunk : ℕ → ℕ) (p : ℕ) → Type 0

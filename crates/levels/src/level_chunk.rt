@@ -35,23 +35,25 @@ fn bit_in_place(level: f32, worth: u64) -> u64
     if level < 0.0 { worth } else { 0 }
 }
 
-// The chunk with one level more, in a place of this worth. An erased bit adds nothing.
-fn with_received(chunk: LevelChunk, worth: u64, received: ReceivedLevel) -> LevelChunk
-    requires { (chunk.bits + worth < 2 ^ 64) × (chunk.unerased + worth < 2 ^ 64) }
-    ensures { OneLevelMore chunk worth received result }
-{
-    match received {
-        ReceivedLevel::Lost => chunk,
-        ReceivedLevel::Level(level) => {
-            let m = magnitudes::magnitude_of(level);
-            LevelChunk {
-                bits: chunk.bits + bit_in_place(level, worth),
-                unerased: chunk.unerased + worth,
-                sum: chunk.sum + level,
-                strength: Strength {
-                    sum: chunk.strength.sum + m,
-                    greatest: strength::greater(chunk.strength.greatest, m),
-                },
+impl LevelChunk {
+    // The chunk with one level more, in a place of this worth. An erased bit adds nothing.
+    fn with_received(self, worth: u64, received: ReceivedLevel) -> LevelChunk
+        requires { (self.bits + worth < 2 ^ 64) × (self.unerased + worth < 2 ^ 64) }
+        ensures { OneLevelMore self worth received result }
+    {
+        match received {
+            ReceivedLevel::Lost => self,
+            ReceivedLevel::Level(level) => {
+                let m = magnitudes::magnitude_of(level);
+                LevelChunk {
+                    bits: self.bits + bit_in_place(level, worth),
+                    unerased: self.unerased + worth,
+                    sum: self.sum + level,
+                    strength: Strength {
+                        sum: self.strength.sum + m,
+                        greatest: strength::greater(self.strength.greatest, m),
+                    },
+                }
             }
         }
     }
@@ -60,8 +62,7 @@ fn with_received(chunk: LevelChunk, worth: u64, received: ReceivedLevel) -> Leve
 // The `len` levels from place `at` on, folded one by one, where `before` is the strength over the levels before them. Document 01 names the
 // forms: an enum with Level(f32) and Lost, made from each incoming f32 before separators and chunks are read; a separator sum in f32,
 // bit-exact against the fold's definition (`folded`), and exact where levels are 1, -1 or 0 (`exact`): then it is the unerased zeros less
-// the unerased ones; and a struct of f32 sum of magnitudes and f32 greatest, passed by value through the word's levels. (`before` is
-// copied float by float: copied whole it would be moved through an integer at each level.)
+// the unerased ones; and a struct of f32 sum of magnitudes and f32 greatest, passed by value through the word's levels.
 pub fn chunk_of_levels(levels: &[f32], at: u32, len: u32, before: Strength) -> LevelChunk
     requires len_in_bounds { (at + len ≤ length levels.now) × (at + len ≤ 320) × (len ≤ 64) }
     requires before_value { before ≡ strength_of (received_at levels.now) at }
@@ -74,21 +75,11 @@ pub fn chunk_of_levels(levels: &[f32], at: u32, len: u32, before: Strength) -> L
         bits: 0,
         unerased: 0,
         sum: 0.0,
-        strength: Strength {
-            sum: before.sum,
-            greatest: before.greatest,
-        },
+        strength: before,
     };
-    let mut q: u32 = 0;
-    while q < len {
-        let p = (at + q) as usize;
-        let next = with_received(
-            so_far,
-            worth_of(q),
-            received_level::received_level(levels[p]),
-        );
-        so_far = next;
-        q += 1;
+    for q in 0..len {
+        let received = received_level::received_level(levels[(at + q) as usize]);
+        so_far = so_far.with_received(worth_of(q), received);
     }
     so_far
 }

@@ -6,5 +6,5 @@ ghost use Rattle.levels.specs.LevelChunks.{read_by_sum};
 pub fn read_by(sum: f32) -> u32
     ensures { result ≡ read_by_sum sum }
 {
-    if sum < 0.0 { 1 } else { 0 }
+    u32::from(sum < 0.0)
 }

@@ -15,7 +15,7 @@ pub fn no_strength() -> Strength
     }
 }
 
-// The greater of two magnitudes.
+// The greater of two magnitudes. (Not `f32::max`, whose contract leaves open which of 0 and -0 it is: ours names it.)
 pub fn greater(a: f32, b: f32) -> f32
     ensures { result ≡ cond (lt a b) b a }
 {

@@ -12,10 +12,10 @@ use Rattle.bits.proofs.Binary.{xor_assoc}
 use Rattle.bits.proofs.LowestOne.{one_fewer}
 use Rattle.bits.proofs.Numbers.{eq_or_ne}
 use Rattle.model.specs.Reading.{read_first}
-use Rattle.model.specs.declared.Chunk.TheVariants.{Codeword, Unreadable}
 use Rattle.code_theory.proofs.ChunkReading.{reading_first, reading_passed}
 use Rattle.linear_code.specs.FirstWithin.{rows_distance}
 use Rattle.code_theory.proofs.GrayStep.{AtSet, set_start, set_next}
+use Rattle.model.specs.Reading.{Codeword, Unreadable}
 
 -- ---- the bits of one codeword
 

@@ -24,13 +24,12 @@ use Rattle.model.specs.Order.{gray, codeword}
 use Rattle.model.specs.Reading.{read_first, chunk_reading, chunk_refusal, chunk_expected, chunk_status, chunk_values}
 use Rattle.model.specs.Refusals.{if_served}
 use Rattle.model.specs.Levels.{chunk_wrong, within_erasures, erasure_reading}
-use Rattle.model.specs.declared.Chunk.{Chunk}
-use Rattle.model.specs.declared.Chunk.TheVariants.{Unreadable}
 use Rattle.code_theory.specs.Promise.{Sound}
 use Rattle.code_theory.proofs.LeastDistance.{codeword_narrow}
 use Rattle.code_theory.proofs.ChunkReading.{reading_passed, erasure_reading_ext, chunk_answered}
 use Rattle.code_theory.proofs.Promise.{promise, plain_reading}
 use Rattle.linear_code.specs.FirstWithin.{rows_distance, rows_within, first_within}
+use Rattle.model.specs.Reading.{Chunk, Unreadable}
 
 -- ---- rows cut to the unerased places
 

@@ -1,3 +1,2 @@
-pub mod Rows
 pub mod ChunkSearch
 pub mod ErasureSearch

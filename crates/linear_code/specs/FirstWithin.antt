@@ -6,7 +6,7 @@ use Rattle.std.specs.Int.Count.{ones}
 use Rattle.model.specs.Card.{sum_of_rows}
 use Rattle.model.specs.Order.{gray}
 use Rattle.model.specs.Reading.{read_first}
-use Rattle.model.specs.declared.Chunk.{Chunk}
+use Rattle.model.specs.Reading.{Chunk}
 
 -- in how many bits codeword j, a sum of the first k rows, and x differ; and whether that is within a limit
 abbrev pub rows_distance : (k : ℕ) (row : ℕ → ℕ) (x j : ℕ) → ℕ

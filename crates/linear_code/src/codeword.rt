@@ -27,15 +27,10 @@ pub fn codeword(code: DecodedCode, i: u32) -> u64
     requires { Sound (meaning code) }
     ensures { (result ≡ codeword (meaning code) i) × (result < 2 ^ code.n) }
 {
-    let k = code.k;
-    let rows = code.rows;
     let gray = gray_number(i);
     let mut word: u64 = 0;
-    let mut z: u32 = 0;
-    while z < k {
-        let row = rows[z as usize];
-        word ^= gray_bit(gray, z) * row;
-        z += 1;
+    for z in 0..code.k {
+        word ^= gray_bit(gray, z) * code.rows[z as usize];
     }
     word
 }

@@ -12,7 +12,7 @@ ghost use Rattle.code_theory.specs.Promise.{Sound};
 ghost use Rattle.linear_code.specs.FirstWithin.{first_within};
 
 use bit_arithmetic::powers;
-use model::{Chunk, DecodedCode};
+use model::{DecodedCode, ReadChunk};
 
 // t: a chunk that differs from a codeword in at most so many places differs from every other in more.
 pub fn radius_of(code: DecodedCode) -> u32
@@ -27,14 +27,7 @@ fn unerased_rows(code: DecodedCode, unerased: u64) -> [u64; 12]
     requires { code.k ≤ 12 }
     ensures { (z : ℕ) → z < code.k → get_or result z 0 ≡ bit_and (get_or code.rows z 0) unerased }
 {
-    let k = code.k as usize;
-    let mut rows: [u64; 12] = [0; 12];
-    let mut z: usize = 0;
-    while z < k {
-        rows[z] = code.rows[z] & unerased;
-        z += 1;
-    }
-    rows
+    code.rows.map(|row| row & unerased)
 }
 
 // The first codeword that differs from `x` in at most `limit` places, with the count of these places. The codewords are the sums of the
@@ -44,14 +37,14 @@ fn unerased_rows(code: DecodedCode, unerased: u64) -> [u64; 12]
 // it and x differ: from one codeword to the next they change by one row. The bit loop goes through these places: each turn counts one
 // and, unless the limit is passed, clears the lowest that is left. The count that is answered is the number of ones of `apart`, taken
 // once the codeword is found: where the bit loop's own count is not kept, each of its turns is compiled to one instruction fewer.
-fn search(k: u32, rows: [u64; 12], x: u64, limit: u32) -> Chunk
+fn search(k: u32, rows: [u64; 12], x: u64, limit: u32) -> Option<ReadChunk>
     requires { (k ≤ 12) × (limit ≤ 64) }
     ensures { result ≡ first_within k rows x limit }
 {
     let size = powers::two_to(k);
     let mut apart = x;
     let mut i: u32 = 0;
-    let found = loop {
+    loop {
         let mut rest = apart;
         let mut differing: u32 = 0;
         'bits: while rest != 0 {
@@ -63,27 +56,26 @@ fn search(k: u32, rows: [u64; 12], x: u64, limit: u32) -> Chunk
         }
         if differing <= limit {
             let bits = u64::count_ones(apart);
-            break Chunk::Codeword {
+            break Some(ReadChunk {
                 number: i,
                 differing: bits,
-            };
+            });
         }
         i += 1;
         if i == size {
-            break Chunk::Unreadable;
+            break None;
         }
         let z = u32::trailing_zeros(i) as usize;
         apart ^= rows[z];
-    };
-    found
+    }
 }
 
 // What the chunk `x` reads as, where `unerased` marks its unerased places: the codeword for which 2 × wrong + erased is below D, with the
-// count of wrong places. Rows and chunk are cut to the unerased places, so that the search counts wrong places alone; its limit is the
+// count of wrong places; or that there is none. Rows and chunk are cut to the unerased places, so that the search counts wrong places alone; its limit is the
 // most that may be wrong. Of a plain chunk, with nothing erased, this is the codeword within the radius, with the count of places in which
 // the two differ. The status is then 0, and the values are the codeword's number and the count. Where there is no such codeword, the
 // status is 10.
-pub fn read_chunk(code: DecodedCode, x: u64, unerased: u64) -> Chunk
+pub fn read_chunk(code: DecodedCode, x: u64, unerased: u64) -> Option<ReadChunk>
     requires { Sound (meaning code) × (x < 2 ^ code.n) × (unerased < 2 ^ code.n) }
     ensures unerased { result ≡ erasure_reading (meaning code) (marked (bit unerased)) (bit x) }
     ensures answer { unerased ≡ 2 ^ code.n - 1 → result ≡ chunk_reading (meaning code) (bit x) }
@@ -93,7 +85,7 @@ pub fn read_chunk(code: DecodedCode, x: u64, unerased: u64) -> Chunk
 {
     let erased = code.n - u64::count_ones(unerased);
     if code.distance <= erased {
-        return Chunk::Unreadable;
+        return None;
     }
     let limit = (code.distance - 1 - erased) / 2;
     search(code.k, unerased_rows(code, unerased), x & unerased, limit)

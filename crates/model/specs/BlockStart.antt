@@ -1,10 +1,13 @@
 -- Document 01, "Where a call can be turned down": the start of a block. Assumes nothing.
-use Rattle.std.specs.Prelude.{List, [], ◌∷◌, ℕ, ltb}
-use Rattle.model.specs.Refusals.{refuses, refused_as, first_refusal, unless_refused}
+use Rattle.std.specs.Prelude.{List, [], ◌∷◌, ℕ, ltb, Result, Ok}
+use Rattle.model.specs.Refusals.{refuses, refused_as, first_refusal, Refused, values_by, unless_refused}
 use Rattle.model.specs.Card.{card_refusal, code_of}
 use Rattle.model.specs.Order.{last_codeword, start}
-use Rattle.model.specs.declared.NumberAnswer.{NumberAnswer}
-use Rattle.model.specs.declared.NumberAnswer.TheVariants.{Number, Refused}
+use Rattle.model.specs.declared.Refusal.{Refusal}
+
+-- the answer to a call that asks for a number
+abbrev pub NumberAnswer : Type 0
+NumberAnswer = Result ℕ Refusal
 
 -- the refusal's number, or 0
 unfoldable pub start_refusal : (card : List ℕ) (block : ℕ) → ℕ
@@ -12,13 +15,8 @@ start_refusal card block = first_refusal (refused_as (card_refusal card) ∷ ref
 
 -- the answer: r(block)
 unfoldable pub start_answer : (card : List ℕ) (block : ℕ) → NumberAnswer
-start_answer card block = unless_refused (start_refusal card block) Refused (Number (start (code_of card) block))
+start_answer card block = unless_refused (start_refusal card block) Refused (Ok (start (code_of card) block))
 
--- an answer's status, 0 or the refusal's number; and its value, none of a refusal
-unfoldable pub number_status : NumberAnswer → ℕ
-number_status (Number number) = 0
-number_status (Refused refusal) = refusal
-
-unfoldable pub number_values : NumberAnswer → List ℕ
-number_values (Number number) = number ∷ []
-number_values (Refused refusal) = []
+-- its value, none of a refusal
+abbrev pub number_values : NumberAnswer → List ℕ
+number_values answer = values_by (λ number. number ∷ []) answer

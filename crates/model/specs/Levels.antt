@@ -12,8 +12,7 @@ use Rattle.bits.specs.Searches.{any_below}
 use Rattle.model.specs.Card.{Code}
 use Rattle.model.specs.Order.{codeword}
 use Rattle.model.specs.Words.{word_bits, word_at, separator₁, chunk₁, separator₂, chunk₂, separator₃}
-use Rattle.model.specs.Reading.{read_first, Seen}
-use Rattle.model.specs.declared.Chunk.{Chunk}
+use Rattle.model.specs.Reading.{Chunk, read_first, Seen}
 use Rattle.model.specs.declared.Strength.{Strength}
 use Rattle.model.specs.declared.ReceivedLevel.{ReceivedLevel}
 use Rattle.model.specs.declared.ReceivedLevel.TheVariants.{Lost, Level}

@@ -1,14 +1,17 @@
 -- Document 01, "Reading a word" and "Where a call can be turned down": the read of a plain word, for every list of bytes. Assumes nothing.
-use Rattle.std.specs.Prelude.{Bool, not, List, [], ◌∷◌, ℕ, ◌+◌, ◌-◌, ◌*◌, eqb, length}
+use Rattle.std.specs.Prelude.{Bool, not, List, ◌∷◌, ℕ, ◌+◌, ◌-◌, ◌*◌, eqb, length, Result, Ok}
 use Rattle.bits.specs.Places.{place}
 use Rattle.bits.specs.Searches.{any_below}
-use Rattle.model.specs.Refusals.{Row, refuses, refused_as, first_refusal, unless_refused}
+use Rattle.model.specs.Refusals.{Row, refuses, refused_as, first_refusal, Refused, values_by, unless_refused}
 use Rattle.model.specs.Card.{Code, card_refusal, code_of}
 use Rattle.model.specs.Words.{word_bits, word_length}
 use Rattle.model.specs.Reading.{seen, rule_named, rows_of, allowed, residual, nearest_reading, reading_values}
 use Rattle.model.specs.declared.Reading.{Reading}
-use Rattle.model.specs.declared.ReadAnswer.{ReadAnswer}
-use Rattle.model.specs.declared.ReadAnswer.TheVariants.{At, Refused}
+use Rattle.model.specs.declared.Refusal.{Refusal}
+
+-- the answer to a read
+abbrev pub ReadAnswer : Type 0
+ReadAnswer = Result Reading Refusal
 
 -- some bit past the d bits of a word is set
 unfoldable pub spare_set : Code → List ℕ → Bool
@@ -28,7 +31,7 @@ reading_of C received =
 
 -- the answer for the code of a sound card
 unfoldable pub read_word : Code → (received : List ℕ) → ReadAnswer
-read_word C received = unless_refused (first_refusal (rows_of_word C received)) Refused (At (reading_of C received))
+read_word C received = unless_refused (first_refusal (rows_of_word C received)) Refused (Ok (reading_of C received))
 
 -- the refusal's number, or 0 where the word is read
 unfoldable pub read_refusal : (card received : List ℕ) → ℕ
@@ -36,16 +39,11 @@ read_refusal card received = first_refusal (refused_as (card_refusal card) ∷ r
 
 -- the answer
 unfoldable pub read_answer : (card received : List ℕ) → ReadAnswer
-read_answer card received = unless_refused (read_refusal card received) Refused (At (reading_of (code_of card) received))
+read_answer card received = unless_refused (read_refusal card received) Refused (Ok (reading_of (code_of card) received))
 
--- an answer's status, 0 or the refusal's number; and its values, none of a refusal
-unfoldable pub read_status : ReadAnswer → ℕ
-read_status (At r) = 0
-read_status (Refused refusal) = refusal
-
-unfoldable pub read_values : ReadAnswer → List ℕ
-read_values (At r) = reading_values r
-read_values (Refused refusal) = []
+-- its values, none of a refusal
+abbrev pub read_values : ReadAnswer → List ℕ
+read_values answer = values_by reading_values answer
 
 -- the values expected of a word that is read, by the definitions
 unfoldable pub read_expected : (card received : List ℕ) → List ℕ

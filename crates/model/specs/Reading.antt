@@ -1,7 +1,7 @@
 -- Document 01, "Reading a word": the separators, the code chunks, the three rules, refusals 9 to 12, and the nearest allowed
 -- position; with them, by document 02's P6, refusal 17, and by its P3 how many bits the chunks that the rule names needed. A received
 -- word is a bit function here; ReadWord.antt takes it from bytes. Assumes nothing.
-use Rattle.std.specs.Prelude.{Bool, true, false, cond, not, ◌&&◌, ◌||◌, List, [], ◌∷◌, ◌++◌, ℕ, ◌+◌, ◌-◌, ◌*◌, ◌%◌, ◌^◌, min, leb, ltb, eqb}
+use Rattle.std.specs.Prelude.{Bool, true, false, cond, not, ◌&&◌, ◌||◌, List, [], ◌∷◌, ◌++◌, ℕ, ◌+◌, ◌-◌, ◌*◌, ◌%◌, ◌^◌, min, leb, ltb, eqb, Option, Some, None}
 use Rattle.bits.specs.Sums.{sum_below, distance}
 use Rattle.bits.specs.Places.{bit}
 use Rattle.bits.specs.Searches.{first, least_at}
@@ -9,11 +9,18 @@ use Rattle.model.specs.Refusals.{Row, refuses, first_refusal}
 use Rattle.model.specs.Card.{Code, radius}
 use Rattle.model.specs.Order.{codeword, last_codeword, changed_weight, start, last_position}
 use Rattle.model.specs.Words.{word_bits, word_at, separator₁, chunk₁, separator₂, chunk₂, separator₃}
-use Rattle.model.specs.declared.Chunk.{Chunk}
-use Rattle.model.specs.declared.Chunk.TheVariants.{Codeword, Unreadable}
-use Rattle.model.specs.declared.ChunkBits.{ChunkBits}
-use Rattle.model.specs.declared.ChunkBits.TheVariants.{Differing, NotRead}
+use Rattle.model.specs.declared.ReadChunk.{ReadChunk}
 use Rattle.model.specs.declared.Reading.{Reading}
+
+-- what a chunk reads as: a codeword with the count of differing places, or none, where it is unreadable
+abbrev pub Chunk : Type 0
+Chunk = Option ReadChunk
+
+abbrev pub Codeword : (p e : ℕ) → Chunk
+Codeword p e = Some (record { number = p; differing = e })
+
+abbrev pub Unreadable : Chunk
+Unreadable = None
 
 -- a separator of D bits reads 1 if more than half its bits are 1, else 0; a tie reads 0
 unfoldable pub majority : (D : ℕ) (x : ℕ → ℕ) → ℕ
@@ -47,22 +54,27 @@ chunk_expected C x = let p : ℕ = first (within_radius C x) (2 ^ C.k) in p ∷ 
 
 -- the status of what a chunk reads as, 10 where no codeword is near enough; and its values
 unfoldable pub chunk_status : Chunk → ℕ
-chunk_status (Codeword number differing) = 0
-chunk_status Unreadable = 10
+chunk_status (Some read) = 0
+chunk_status None = 10
 
 unfoldable pub chunk_values : Chunk → List ℕ
-chunk_values (Codeword number differing) = number ∷ differing ∷ []
-chunk_values Unreadable = []
+chunk_values (Some read) = read.number ∷ read.differing ∷ []
+chunk_values None = []
 
 -- whether a chunk reads as no codeword, and the number of the codeword that any other reads as (0 of an unreadable one, which means
 -- nothing: row 10 comes first)
 unfoldable pub unreadable : Chunk → Bool
-unreadable (Codeword p e) = false
-unreadable Unreadable = true
+unreadable (Some read) = false
+unreadable None = true
 
 unfoldable pub number_read : Chunk → ℕ
-number_read (Codeword p e) = p
-number_read Unreadable = 0
+number_read (Some read) = read.number
+number_read None = 0
+
+-- in how many places a chunk differs from the codeword that it reads as (0 of an unreadable one likewise)
+unfoldable pub differing_read : Chunk → ℕ
+differing_read (Some read) = read.differing
+differing_read None = 0
 
 -- What is seen of a word: what its three separators read, 0 or 1 each, and what either code chunk reads as. The rule, the positions
 -- that it allows, and the bits that its chunks needed go by this alone.
@@ -182,10 +194,10 @@ nearest_in residual range = least_at residual range.low (range.high - range.low)
 
 -- document 02, P3: how many bits a code chunk that the rule names needed, those in which it and its codeword differ; any other chunk was
 -- not read (what is said of an unreadable one that is named means nothing: row 10 comes first)
-unfoldable pub bits_needed : (named : Bool) → Chunk → ChunkBits
-bits_needed true (Codeword p e) = Differing e
-bits_needed true Unreadable = NotRead
-bits_needed false read = NotRead
+unfoldable pub bits_needed : (named : Bool) → Chunk → Option ℕ
+bits_needed true (Some read) = Some read.differing
+bits_needed true None = None
+bits_needed false read = None
 
 -- the allowed position whose word differs from the received word in the fewest bits, the smallest on a tie; that count; the rule; and how
 -- many bits each chunk that the rule names needed, by what is seen of the word
@@ -205,9 +217,9 @@ nearest_reading residual s rule range =
 abbrev pub not_read : ℕ
 not_read = 4294967295
 
-unfoldable pub bits_value : ChunkBits → ℕ
-bits_value (Differing count) = count
-bits_value NotRead = not_read
+unfoldable pub bits_value : Option ℕ → ℕ
+bits_value (Some count) = count
+bits_value None = not_read
 
 -- the values of a reading: position, residual, rule, and the bits that chunks 1 and 2 needed
 abbrev pub reading_values : Reading → List ℕ

@@ -10,9 +10,7 @@ use Rattle.bits.specs.Counting.{those}
 use Rattle.model.specs.Card.{Code, code_with}
 use Rattle.model.specs.CardBytes.{card_of}
 use Rattle.model.specs.Order.{gray}
-use Rattle.model.specs.Reading.{chunk_distance, within_radius}
-use Rattle.model.specs.declared.Chunk.{Chunk}
-use Rattle.model.specs.declared.Chunk.TheVariants.{Codeword, Unreadable}
+use Rattle.model.specs.Reading.{Chunk, Codeword, Unreadable, chunk_distance, within_radius}
 
 -- ---- the rows
 

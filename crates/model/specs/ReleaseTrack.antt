@@ -1,22 +1,34 @@
 -- Document 02, P9: a tram releases the track of a card, by its word. Assumes nothing.
-use Rattle.std.specs.Prelude.{Bool, true, false, cond, not, ◌&&◌, List, [], ◌∷◌, ℕ, ◌+◌, ltb, eqb}
-use Rattle.model.specs.Refusals.{Row, refuses, refused_as, first_refusal, unless_refused}
+use Rattle.std.specs.Prelude.{Bool, true, false, cond, not, ◌&&◌, List, [], ◌∷◌, ℕ, ◌+◌, ltb, eqb, Result, Ok, Err}
+use Rattle.model.specs.Refusals.{Row, refuses, refused_as, first_refusal, Refused, values_by, unless_refused}
 use Rattle.model.specs.Card.{Code, card_refusal, code_of, track_of}
-use Rattle.model.specs.ReadWord.{reading_of, read_word, read_answer, read_refusal}
+use Rattle.model.specs.ReadWord.{ReadAnswer, reading_of, read_word, read_answer, read_refusal}
 use Rattle.model.specs.Trams.{margin}
-use Rattle.model.specs.Yard.{slot_at, queue, unsound, freed, handed_to}
+use Rattle.model.specs.Yard.{number_in, slot_at, is_held, queue, unsound, freed, handed_to}
 use Rattle.model.specs.declared.Yard.{Yard}
-use Rattle.model.specs.declared.ReadAnswer.{ReadAnswer}
-use Rattle.model.specs.declared.ReadAnswer.TheVariants.{At, Refused as ReadRefused}
 use Rattle.model.specs.declared.Released.{Released}
-use Rattle.model.specs.declared.ReleaseAnswer.{ReleaseAnswer}
-use Rattle.model.specs.declared.ReleaseAnswer.TheVariants.{NotClear, Freed, HandedTo, Refused}
+use Rattle.model.specs.declared.Release.{Release}
+use Rattle.model.specs.declared.Release.TheVariants.{NotClear as TheTramNotClear, Freed as TheTrackFreed, HandedTo as TheTrackHandedTo}
+use Rattle.model.specs.declared.Refusal.{Refusal}
+
+-- the answer to a release
+abbrev pub ReleaseAnswer : Type 0
+ReleaseAnswer = Result Release Refusal
+
+pattern abbrev pub NotClear : ReleaseAnswer
+NotClear = Ok TheTramNotClear
+
+pattern abbrev pub Freed : ReleaseAnswer
+Freed = Ok TheTrackFreed
+
+pattern abbrev pub HandedTo : (tram : ℕ) → ReleaseAnswer
+HandedTo tram = Ok (TheTrackHandedTo tram)
 
 -- ---- refusals
 
 -- whether the tram is the holder of the track
 unfoldable pub is_holder : Yard → (tram track : ℕ) → Bool
-is_holder yard tram track = (slot_at yard track).held && eqb (slot_at yard track).tram tram
+is_holder yard tram track = is_held yard track && eqb (number_in (slot_at yard track)) tram
 
 -- rows 26, 20 and 21 of the table: the yard; the track; a releasing tram that isn't the holder
 unfoldable pub rows_of_release : Yard → (tram track : ℕ) → List Row
@@ -49,8 +61,8 @@ released_at C track yard position mark =
 
 -- the release by what is answered for the word: its refusal is the release's
 unfoldable pub released_by : Code → (track : ℕ) → Yard → ReadAnswer → (mark : ℕ) → Released
-released_by C track yard (At reading) mark = released_at C track yard reading.position mark
-released_by C track yard (ReadRefused refusal) mark = record { answer = Refused refusal; yard = yard }
+released_by C track yard (Ok reading) mark = released_at C track yard reading.position mark
+released_by C track yard (Err refusal) mark = record { answer = Err refusal; yard = yard }
 
 -- the answer and the yard that is left for the code and the track of a sound card
 unfoldable pub release_on : Code → (track : ℕ) → Yard → (tram : ℕ) (word : List ℕ) (mark : ℕ) → Released
@@ -69,25 +81,24 @@ release_answer yard tram word mark card =
 -- ---- the answer as numbers
 
 -- whether the release is accepted
+unfoldable pub accepted_release : Release → Bool
+accepted_release TheTramNotClear = false
+accepted_release TheTrackFreed = true
+accepted_release (TheTrackHandedTo tram) = true
+
 unfoldable pub accepted : ReleaseAnswer → Bool
-accepted NotClear = false
-accepted Freed = true
-accepted (HandedTo tram) = true
-accepted (Refused refusal) = false
+accepted (Ok release) = accepted_release release
+accepted (Err refusal) = false
 
--- an answer's status, 0 or the refusal's number; and its value, none of a refusal: 0 for a tram that is not clear, 1 for a track that is
--- freed, 2 for one that is handed on
-unfoldable pub release_status : ReleaseAnswer → ℕ
-release_status NotClear = 0
-release_status Freed = 0
-release_status (HandedTo tram) = 0
-release_status (Refused refusal) = refusal
+-- what a release led to as a number: 0 for a tram that is not clear, 1 for a track that is freed, 2 for one that is handed on
+unfoldable pub release_value : Release → ℕ
+release_value TheTramNotClear = 0
+release_value TheTrackFreed = 1
+release_value (TheTrackHandedTo tram) = 2
 
-unfoldable pub release_values : ReleaseAnswer → List ℕ
-release_values NotClear = 0 ∷ []
-release_values Freed = 1 ∷ []
-release_values (HandedTo tram) = 2 ∷ []
-release_values (Refused refusal) = []
+-- an answer's value, none of a refusal
+abbrev pub release_values : ReleaseAnswer → List ℕ
+release_values answer = values_by (λ release. release_value release ∷ []) answer
 
 -- the value expected of a release that is served, by the definitions
 unfoldable pub release_expected : Yard → (word : List ℕ) (mark : ℕ) (card : List ℕ) → List ℕ

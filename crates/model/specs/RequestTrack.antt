@@ -1,11 +1,22 @@
 -- Document 02, P9: a tram requests a track. Assumes nothing.
-use Rattle.std.specs.Prelude.{cond, ◌&&◌, List, [], ◌∷◌, ℕ, leb, ltb}
-use Rattle.model.specs.Refusals.{Row, refuses, first_refusal, unless_refused}
+use Rattle.std.specs.Prelude.{cond, ◌&&◌, List, [], ◌∷◌, ℕ, leb, ltb, Result, Ok}
+use Rattle.model.specs.Refusals.{Row, refuses, first_refusal, Refused, values_by, unless_refused}
 use Rattle.model.specs.Yard.{most_waiting, is_held, trams_of, among, unsound, holding, joined}
 use Rattle.model.specs.declared.Yard.{Yard}
 use Rattle.model.specs.declared.Requested.{Requested}
-use Rattle.model.specs.declared.RequestAnswer.{RequestAnswer}
-use Rattle.model.specs.declared.RequestAnswer.TheVariants.{Holds, Waits, Refused}
+use Rattle.model.specs.declared.Request.{Request}
+use Rattle.model.specs.declared.Request.TheVariants.{Holds as TheTramHolds, Waits as TheTramWaits}
+use Rattle.model.specs.declared.Refusal.{Refusal}
+
+-- the answer to a request
+abbrev pub RequestAnswer : Type 0
+RequestAnswer = Result Request Refusal
+
+pattern abbrev pub Holds : RequestAnswer
+Holds = Ok TheTramHolds
+
+pattern abbrev pub Waits : RequestAnswer
+Waits = Ok TheTramWaits
 
 -- rows 26, 20, 21 and 22 of the table: the yard; the track; a tram that already holds or waits for any track; a track that is held while 32
 -- trams already wait over all tracks
@@ -35,16 +46,14 @@ request_answer yard tram track =
     (λ number. record { answer = Refused number; yard = yard })
     (request_served yard tram track)
 
--- an answer's status, 0 or the refusal's number; and its value, none of a refusal: 0 for a tram that holds the track, 1 for one that waits
-unfoldable pub request_status : RequestAnswer → ℕ
-request_status Holds = 0
-request_status Waits = 0
-request_status (Refused refusal) = refusal
+-- what a request led to as a number: 0 for a tram that holds the track, 1 for one that waits
+unfoldable pub request_value : Request → ℕ
+request_value TheTramHolds = 0
+request_value TheTramWaits = 1
 
-unfoldable pub request_values : RequestAnswer → List ℕ
-request_values Holds = 0 ∷ []
-request_values Waits = 1 ∷ []
-request_values (Refused refusal) = []
+-- an answer's value, none of a refusal
+abbrev pub request_values : RequestAnswer → List ℕ
+request_values answer = values_by (λ request. request_value request ∷ []) answer
 
 -- the value expected of a request that is served, by the definitions
 unfoldable pub request_expected : Yard → (tram track : ℕ) → List ℕ

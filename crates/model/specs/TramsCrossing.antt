@@ -1,9 +1,7 @@
 -- Document 02, P8: all trams crossing a mark. Assumes nothing.
 use Rattle.std.specs.Prelude.{Bool, ◌&&◌, List, ℕ, leb}
-use Rattle.model.specs.Trams.{trams_refusal, each_tram_answer}
+use Rattle.model.specs.Trams.{Trams, TramsAnswer, trams_refusal, each_tram_answer}
 use Rattle.model.specs.declared.Stretch.{Stretch}
-use Rattle.model.specs.declared.Trams.{Trams}
-use Rattle.model.specs.declared.TramsAnswer.{TramsAnswer}
 
 -- a stretch crosses the mark: low at most the mark, high at least the mark
 unfoldable pub crosses : (mark : ℕ) → Stretch → Bool

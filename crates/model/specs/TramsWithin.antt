@@ -1,9 +1,7 @@
 -- Document 02, P8: all trams wholly within two marks. Assumes nothing.
 use Rattle.std.specs.Prelude.{Bool, ◌&&◌, List, ℕ, leb}
-use Rattle.model.specs.Trams.{trams_refusal, each_tram_answer}
+use Rattle.model.specs.Trams.{Trams, TramsAnswer, trams_refusal, each_tram_answer}
 use Rattle.model.specs.declared.Stretch.{Stretch}
-use Rattle.model.specs.declared.Trams.{Trams}
-use Rattle.model.specs.declared.TramsAnswer.{TramsAnswer}
 
 -- a stretch lies wholly within two marks: low at least the first, high at most the second
 unfoldable pub lies_within : (first second : ℕ) → Stretch → Bool

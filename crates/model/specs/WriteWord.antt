@@ -1,11 +1,18 @@
 -- Document 01, "Where a call can be turned down": the write of a position's word into a lent word. Assumes nothing.
-use Rattle.std.specs.Prelude.{not, List, [], ◌∷◌, ℕ, ltb, eqb, length}
-use Rattle.model.specs.Refusals.{refuses, refused_as, first_refusal, unless_refused}
+use Rattle.std.specs.Prelude.{not, List, [], ◌∷◌, ℕ, ltb, eqb, length, Result, Ok}
+use Rattle.model.specs.Refusals.{refuses, refused_as, first_refusal, Refused, values_by, unless_refused}
 use Rattle.model.specs.Card.{card_refusal, code_of}
 use Rattle.model.specs.Order.{last_position}
 use Rattle.model.specs.Words.{word_length, word_bytes}
-use Rattle.model.specs.declared.WriteAnswer.{WriteAnswer}
-use Rattle.model.specs.declared.WriteAnswer.TheVariants.{Written, Refused}
+use Rattle.model.specs.declared.Refusal.{Refusal}
+
+-- the answer to a write
+abbrev pub WriteAnswer : Type 0
+WriteAnswer = Result Unit Refusal
+
+-- the answer of a write that is not refused
+pattern abbrev pub Written : WriteAnswer
+Written = Ok tt
 
 -- the refusal's number, or 0 where the word is written
 unfoldable pub write_refusal : (card : List ℕ) (position : ℕ) (lent : List ℕ) → ℕ
@@ -25,11 +32,6 @@ unfoldable pub lent_after_write : (card : List ℕ) (position : ℕ) (lent : Lis
 lent_after_write card position lent =
     unless_refused (write_refusal card position lent) (λ refusal. lent) (word_bytes (code_of card) position)
 
--- an answer's status, 0 or the refusal's number; it has no values
-unfoldable pub write_status : WriteAnswer → ℕ
-write_status Written = 0
-write_status (Refused refusal) = refusal
-
-unfoldable pub write_values : WriteAnswer → List ℕ
-write_values Written = []
-write_values (Refused refusal) = []
+-- its values: a write has none, served or refused
+abbrev pub write_values : WriteAnswer → List ℕ
+write_values answer = values_by (λ served. []) answer

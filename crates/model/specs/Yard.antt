@@ -2,6 +2,7 @@
 -- a call changes. The two calls are in RequestTrack.antt and ReleaseTrack.antt. Assumes nothing.
 use Rattle.std.specs.Prelude.{Bool, true, false, cond, not, ◌||◌, List, [], ◌∷◌, ◌++◌, map, ℕ, ◌+◌, ◌-◌, ltb, eqb, get_or, take, set, replicate}
 use Rattle.model.specs.declared.Slot.{Slot}
+use Rattle.model.specs.declared.Slot.TheVariants.{Free, Held}
 use Rattle.model.specs.declared.Waiting.{Waiting}
 use Rattle.model.specs.declared.Yard.{Yard}
 
@@ -17,7 +18,7 @@ most_waiting = 32
 
 -- a track that nobody holds, and an entry that nothing has been put into
 abbrev pub free_slot : Slot
-free_slot = record { held = false; tram = 0 }
+free_slot = Free 0
 
 abbrev pub no_entry : Waiting
 no_entry = record { tram = 0; track = 0 }
@@ -26,13 +27,22 @@ no_entry = record { tram = 0; track = 0 }
 unfoldable pub empty_yard : Yard
 empty_yard = record { slots = replicate track_count free_slot; count = 0; waiting = replicate most_waiting no_entry }
 
+-- whether a slot is held, and the number in it: its holder where it is held, and one that means nothing where it is free
+abbrev pub taken : Slot → Bool
+taken (Free number) = false
+taken (Held tram) = true
+
+abbrev pub number_in : Slot → ℕ
+number_in (Free number) = number
+number_in (Held tram) = tram
+
 -- the slot of a track; a track above 15 is free
 abbrev pub slot_at : Yard → (track : ℕ) → Slot
 slot_at yard track = get_or yard.slots track free_slot
 
 -- whether a track is held
 abbrev pub is_held : Yard → (track : ℕ) → Bool
-is_held yard track = (slot_at yard track).held
+is_held yard track = taken (slot_at yard track)
 
 -- the entries of the trams that wait, in the order in which they came
 abbrev pub entries : Yard → List Waiting
@@ -51,7 +61,8 @@ queue yard track = queue_in track (entries yard)
 -- those that hold a track
 unfoldable pub holders : List Slot → List ℕ
 holders [] = []
-holders (s ∷ slots) = cond s.held (s.tram ∷ holders slots) (holders slots)
+holders (Free number ∷ slots) = holders slots
+holders (Held tram ∷ slots) = tram ∷ holders slots
 
 -- all trams of the yard, one for each track that it holds and each entry by which it waits
 unfoldable pub trams_of : Yard → List ℕ
@@ -82,7 +93,7 @@ unsound yard = any_twice (trams_of yard) || any_for_free yard (entries yard) || 
 
 -- the track is held by this tram
 abbrev pub held_by : (tram track : ℕ) → List Slot → List Slot
-held_by tram track slots = set slots track (record { held = true; tram = tram })
+held_by tram track slots = set slots track (Held tram)
 
 -- a tram holds a track that was free
 unfoldable pub holding : (tram track : ℕ) → Yard → Yard

@@ -1,4 +1,4 @@
-pub mod CopiedBytes
+pub mod PaddedBytes
 pub mod Scanning
 pub mod Passing
 pub mod BlockResiduals

@@ -34,10 +34,6 @@ module _ (u v : ℕ → ℕ) (q : ℕ) where
   unfolding passed_to
   passed_above p b = rw (le-ltb p q b)
 
--- a search that has passed no place more
-pub passes_none : (u v : List ℕ) (x : ReceivedWord) (at : ℕ) (s : Scan) → s.residual ≡ residual_to u v x at → Passes u v x at at s s
-passes_none u v x at s e = record { low = refl; position = refl; residual = e; scanned = λ f along scanned. scanned }
-
 -- bits that are not the same differ by 1
 differs : (u v : List ℕ) (q : ℕ) → (place u q ≡ place v q → ⊥) → difference (place u q) (place v q) ≡ 1
 differs u v q differ = omega (arith, place_bit u q, place_bit v q)

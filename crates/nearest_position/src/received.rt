@@ -10,19 +10,17 @@ pub struct ReceivedWord {
     pub unerased: [u8; 40],
 }
 
-// A plain word: its bytes, with zeros after them, and nothing erased.
-pub fn plain(word: &[u8]) -> ReceivedWord
-    requires { length word.now ≤ 40 }
-    ensures { PlainWord word.now result }
-{
-    let mut x = ReceivedWord {
-        bits: [0u8; 40],
-        unerased: [255; 40],
-    };
-    let mut j: usize = 0;
-    while j < word.len() {
-        x.bits[j] = word[j];
-        j += 1;
+impl ReceivedWord {
+    // A plain word: its bytes, with zeros after them, and nothing erased.
+    pub fn plain(word: &[u8]) -> ReceivedWord
+        requires { length word.now ≤ 40 }
+        ensures { PlainWord word.now result }
+    {
+        let mut bits = [0; 40];
+        bits[..word.len()].copy_from_slice(word);
+        ReceivedWord {
+            bits,
+            unerased: [255; 40],
+        }
     }
-    x
 }

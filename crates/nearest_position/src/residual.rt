@@ -10,7 +10,7 @@ use super::received::ReceivedWord;
 fn unerased_byte_distance(x: u8, y: u8, unerased: u8) -> u32
     ensures { (result ≡ distance_unerased (marked (bit unerased)) 8 (bit x) (bit y)) × (result ≤ 8) }
 {
-    u32::count_ones(((x ^ y) & unerased) as u32)
+    ((x ^ y) & unerased).count_ones()
 }
 
 // The residual of a word against a received one. Both are passed by value.
@@ -18,10 +18,8 @@ pub fn unerased_distance(w: [u8; 40], x: ReceivedWord) -> u32
     ensures { result ≡ received_distance 320 (place w) x }
 {
     let mut differing: u32 = 0;
-    let mut j: usize = 0;
-    while j < 40 {
+    for j in 0..40 {
         differing += unerased_byte_distance(w[j], x.bits[j], x.unerased[j]);
-        j += 1;
     }
     differing
 }

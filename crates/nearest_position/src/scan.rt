@@ -23,17 +23,43 @@ pub struct Scan {
     pub least: u32,
 }
 
-// A search that stands at its first position, whose word is `w`.
-pub fn begin(w: [u8; 40], x: ReceivedWord, low: u32) -> Scan
-    ensures { result ≡ begins_at low (received_distance 320 (place w) x) }
-{
-    let differing = residual::unerased_distance(w, x);
-    Scan {
-        low,
-        position: low,
-        residual: differing,
-        best: low,
-        least: differing,
+impl Scan {
+    // A search that stands at its first position, whose word is `w`.
+    pub fn begin(w: [u8; 40], x: ReceivedWord, low: u32) -> Scan
+        ensures { result ≡ begins_at low (received_distance 320 (place w) x) }
+    {
+        let differing = residual::unerased_distance(w, x);
+        Scan {
+            low,
+            position: low,
+            residual: differing,
+            best: low,
+            least: differing,
+        }
+    }
+
+    // One position on, with its residual. No block starts above 1,310,400; a search begins at most 320 steps past a start, and passes at
+    // most 320 places.
+    fn advance(self, residual: u32) -> Scan
+        requires { self.position ≤ 1311040 }
+        ensures ends { (result.low ≡ self.low) × (result.position ≡ self.position + 1) × (result.residual ≡ residual) }
+        ensures scanned { (f : ℕ → ℕ) → Scanned f self → residual ≡ f (self.position + 1) → Scanned f result }
+    {
+        let position = self.position + 1;
+        let next = Scan {
+            position,
+            residual,
+            ..self
+        };
+        if residual < self.least {
+            Scan {
+                best: position,
+                least: residual,
+                ..next
+            }
+        } else {
+            next
+        }
     }
 }
 
@@ -51,53 +77,20 @@ fn next_residual(residual: u32, new: u32, received: u32, unerased: u32) -> u32
     }
 }
 
-// One position on, with its residual. No block starts above 1,310,400; a search begins at most 320 steps past a start, and passes at
-// most 320 places.
-fn advance(s: Scan, residual: u32) -> Scan
-    requires { s.position ≤ 1311040 }
-    ensures ends { (result.low ≡ s.low) × (result.position ≡ s.position + 1) × (result.residual ≡ residual) }
-    ensures scanned { (f : ℕ → ℕ) → Scanned f s → residual ≡ f (s.position + 1) → Scanned f result }
-{
-    let position = s.position + 1;
-    if residual < s.least {
-        Scan {
-            low: s.low,
-            position,
-            residual,
-            best: position,
-            least: residual,
-        }
-    } else {
-        Scan {
-            low: s.low,
-            position,
-            residual,
-            best: s.best,
-            least: s.least,
-        }
-    }
-}
-
 // From place `at` to place `to`: each place in which u and v differ is one position on.
 pub fn pass_places(u: [u8; 40], v: [u8; 40], x: ReceivedWord, at: u32, to: u32, s: Scan) -> Scan
     requires { (at ≤ to) × (to ≤ 320) × (s.position ≤ 1310720) × (s.residual ≡ residual_to u v x at) }
     ensures { Passes u v x at to s result }
 {
-    let mut q = at;
     let mut state = s;
-    while q < to {
+    for q in at..to {
         let j = (q / 8) as usize;
         if places::bit_of(u[j] ^ v[j], q) != 0 {
             let new = places::bit_of(v[j], q);
             let received = places::bit_of(x.bits[j], q);
             let unerased = places::bit_of(x.unerased[j], q);
-            let next = advance(
-                state,
-                next_residual(state.residual, new, received, unerased),
-            );
-            state = next;
+            state = state.advance(next_residual(state.residual, new, received, unerased));
         }
-        q += 1;
     }
     state
 }
@@ -109,5 +102,5 @@ pub fn search_places(u: [u8; 40], v: [u8; 40], x: ReceivedWord, low: u32, at: u3
     ensures { Searched u v x low at to result }
 {
     let w = splice::spliced(u, v, at);
-    pass_places(u, v, x, at, to, begin(w, x, low))
+    pass_places(u, v, x, at, to, Scan::begin(w, x, low))
 }

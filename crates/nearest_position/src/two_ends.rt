@@ -8,26 +8,26 @@ ghost use Rattle.code_theory.specs.Promise.{Sound};
 ghost use Rattle.nearest_position.specs.Received.{ReceivedIn};
 ghost use Rattle.nearest_position.specs.Scanned.{Scanned, SearchedRange};
 ghost use Rattle.nearest_position.specs.Residuals.{residual_in};
+ghost use Rattle.nearest_position.specs.RuleNumbers.{rule_number};
 
+use super::block;
 use super::received::ReceivedWord;
+use super::rule::Rule;
 use super::scan::Scan;
-use super::{block, scan};
 use model::DecodedCode;
 use position::layout::Layout;
 use position::{blocks, words};
 
 // Whether the rule has no block to go by: there is none before the first codeword, and none after the last.
-pub fn no_block(code: DecodedCode, rule: u32, p: u32) -> bool
+pub fn no_block(code: DecodedCode, rule: Rule, p: u32) -> bool
     requires { Sound (meaning code) }
-    ensures { result ≡ (two_ends (meaning code)).no_block rule p }
+    ensures { result ≡ (two_ends (meaning code)).no_block (rule_number rule) p }
 {
-    if rule == 1 {
-        return p == 0;
+    match rule {
+        Rule::First => p == 0,
+        Rule::Second => p == blocks::last_codeword(code),
+        Rule::Third => false,
     }
-    if rule == 2 {
-        return p == blocks::last_codeword(code);
-    }
-    false
 }
 
 // Rule 1, chunk 1 reading p: the search from r(p-1) + D + A(p-1), where separator 2 begins to change, to r(p).
@@ -57,7 +57,7 @@ fn search_before_start(code: DecodedCode, at: Layout, x: ReceivedWord, p: u32) -
         × Scanned (residual_in (meaning code) x) result }
 {
     if p == 0 {
-        return scan::begin(words::word_of(code, 0), x, 0);
+        return Scan::begin(words::word_of(code, 0), x, 0);
     }
     let low = blocks::start_of_block(code, p) - code.distance;
     block::search_block(code, x, p - 1, p, low, at.separator3, at.bits)
@@ -76,16 +76,14 @@ fn nearest_around(code: DecodedCode, at: Layout, x: ReceivedWord, p: u32) -> Sca
 }
 
 // The search through the positions that the rule allows where its chunks read p, and there is a block for it.
-pub fn nearest_by(code: DecodedCode, at: Layout, x: ReceivedWord, rule: u32, p: u32) -> Scan
+pub fn nearest_by(code: DecodedCode, at: Layout, x: ReceivedWord, rule: Rule, p: u32) -> Scan
     requires received { ReceivedIn (meaning code) at x × (p ≤ last_codeword (meaning code)) }
-    requires has_block { (1 ≤ rule) × (rule ≤ 3) × ((two_ends (meaning code)).no_block rule p ≡ false) }
-    ensures { SearchedRange (residual_in (meaning code) x) ((two_ends (meaning code)).range rule p) result }
+    requires has_block { (two_ends (meaning code)).no_block (rule_number rule) p ≡ false }
+    ensures { SearchedRange (residual_in (meaning code) x) ((two_ends (meaning code)).range (rule_number rule) p) result }
 {
-    if rule == 1 {
-        return nearest_before(code, at, x, p);
+    match rule {
+        Rule::First => nearest_before(code, at, x, p),
+        Rule::Second => nearest_after(code, at, x, p),
+        Rule::Third => nearest_around(code, at, x, p),
     }
-    if rule == 2 {
-        return nearest_after(code, at, x, p);
-    }
-    nearest_around(code, at, x, p)
 }

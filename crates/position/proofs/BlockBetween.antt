@@ -30,9 +30,6 @@ module _ (C : Code) (position : ℕ) where
       }
 
   module _ (low high middle : ℕ) (between : BlockBetween C position low high) where
-    pub from_middle : middle ≤ high → start C middle ≤ position → BlockBetween C position middle high
-    from_middle h started = record { in_order = h; on_track = between.on_track; started = started; past = between.past }
-
     -- where the middle block starts past the position, so do all after it
     pub before_middle : Sound C → low < middle → middle ≤ high → position < start C middle → BlockBetween C position low (middle - 1)
     before_middle S l h past =

@@ -2,14 +2,15 @@
 -- Assumes nothing.
 use mathlib.Core.Path.{◌≡◌, sym, ◌∙◌}
 use mathlib.Core.Bool.{cond}
-use mathlib.Core.List.{List}
+use mathlib.Core.List.{List, ◌++◌}
 use mathlib.Core.Logic.{⊎_elim}
-use Prim.Native.Nat.{ℕ, ◌+◌, ◌*◌, ◌/◌, ◌%◌, ◌^◌, ◌≤◌, ◌<◌}
+use Prim.Native.Nat.{ℕ, ◌+◌, ◌-◌, ◌*◌, ◌/◌, ◌%◌, ◌^◌, ◌≤◌, ◌<◌}
 use native.Mathlib.Nat.{le_dest, mod-lt, div-lt_iff_lt-mul}
 use native.Mathlib.Omega.{arith}
 use lib.Bits.{bit_xor, xor_shifted}
 use lib.Dec.{ltb}
-use lib.ListN.{length, get_or, set}
+use lib.ListN.{length, get_or, set, take, drop, length-take, get_or-append}
+use Rattle.std.proofs.lemmas.List.{get_or-append_right, get_or-take, get_or-drop}
 use lib.Pow.{pow_pos, pow-add, shr_lt, high}
 use borrow.Author.Tests.{lt-ltb, le-ltb}
 use Rattle.bits.specs.Places.{bit, place}
@@ -56,8 +57,23 @@ module _ (q : ℕ) where
 
 -- ---- words
 
-pub spliced_none : (u v : List ℕ) → Spliced u v u 0
-spliced_none u v p = rw (le-ltb p 0 (omega arith))
+-- j whole bytes of v, and u's from there on
+pub spliced_whole : (u v : List ℕ) (j : ℕ) → j ≤ length v → Spliced u v (take j v ++ drop j u) (8 * j)
+unfolding place
+spliced_whole u v j h p =
+    let front : length (take j v) ≡ j = omega (arith, length-take j v) in
+    ⊎_elim
+    (λ (l : p / 8 < j).
+    rw (get_or-append (take j v) (drop j u) 0 (p / 8) (rw front l), get_or-take j v (p / 8) 0 l, lt-ltb p (8 * j) (omega arith)))
+    (λ (l : j ≤ p / 8).
+    let back : j + (p / 8 - j) ≡ p / 8 = omega arith in
+    rw (
+      get_or-append_right (take j v) (drop j u) j (p / 8) 0 front l,
+      get_or-drop j u (p / 8 - j) 0,
+      back,
+      le-ltb p (8 * j) (omega arith),
+    ))
+    (lt_or_le (p / 8) j)
 
 -- one byte more, of which the bits below q are v's
 pub spliced_more : (u v word : List ℕ) (j q b : ℕ) → j < length word → q ≤ 8 → Spliced u v word (8 * j)
@@ -82,10 +98,3 @@ spliced_more u v word j q b h eight old new p =
         (λ (l : p < 8 * j). rw (lt-ltb p (8 * j) l, lt-ltb p (8 * j + q) (omega arith)))
         (λ (l : 8 * j ≤ p). rw (le-ltb p (8 * j) l, le-ltb p (8 * j + q) (omega arith)))
         (lt_or_le p (8 * j))
-
--- a whole byte of v
-pub spliced_whole : (u v word : List ℕ) (j : ℕ) → j < length word → Spliced u v word (8 * j)
-    → Spliced u v (set word j (get_or v j 0)) (8 * (j + 1))
-spliced_whole u v word j h old =
-    let next : 8 * (j + 1) ≡ 8 * j + 8 = omega arith in
-    rw next (spliced_more u v word j 8 (get_or v j 0) h (omega arith) old (λ r l. rw (lt-ltb r 8 l)))

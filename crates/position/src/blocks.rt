@@ -23,14 +23,7 @@ fn row_weights(code: DecodedCode) -> [u32; 12]
     requires { Sound (meaning code) }
     ensures { RowWeights (meaning code) result }
 {
-    let rows = code.rows;
-    let mut weights = [0u32; 12];
-    let mut z: usize = 0;
-    while z < code.k as usize {
-        weights[z] = codeword::row_weight(rows[z]);
-        z += 1;
-    }
-    weights
+    code.rows.map(codeword::row_weight)
 }
 
 // The corrected count of row z: how often the row is added on the way from codeword 0 to codeword i, at codeword 2^z and again each
@@ -111,6 +104,7 @@ pub fn last_position(code: DecodedCode) -> u32
 }
 
 // The block of a position, by binary search: the last one that starts at or before it.
+// A loop of its own: the library's `partition_point` searches a slice, and a table of up to 4,096 starts does not fit a call's stack.
 pub fn block_of(code: DecodedCode, position: u32) -> u32
     requires { Sound (meaning code) }
     ensures { result ≡ block_of (meaning code) position }

@@ -3,13 +3,26 @@ ghost use Rattle.std.specs.Prelude.{◌≡◌, ◌≤◌};
 ghost use Rattle.bits.specs.Sums.{distance};
 ghost use Rattle.bits.specs.Places.{bit, place};
 
-use super::places;
-
 // In how many bits two bytes differ.
 fn byte_distance(x: u8, y: u8) -> u32
     ensures { (result ≡ distance 8 (bit x) (bit y)) × (result ≤ 8) }
 {
-    u32::count_ones((x ^ y) as u32)
+    (x ^ y).count_ones()
+}
+
+// A bit before which two bytes differ in exactly m bits.
+fn bit_after(x: u8, y: u8, m: u32) -> u32
+    requires { m ≤ distance 8 (bit x) (bit y) }
+    ensures { (result ≤ 8) × (distance result (bit x) (bit y) ≡ m) }
+{
+    let mut passed: u32 = 0;
+    for q in 0..8 {
+        if passed == m {
+            return q;
+        }
+        passed += (((x ^ y) >> q) % 2) as u32;
+    }
+    8
 }
 
 // A place before which u and v differ in exactly m places: found by bytes, and within the last one by bits.
@@ -18,20 +31,12 @@ pub fn place_after(u: [u8; 40], v: [u8; 40], m: u32) -> u32
     ensures { (result ≤ 320) × (distance result (place u) (place v) ≡ m) }
 {
     let mut passed: u32 = 0;
-    let mut j: usize = 0;
-    'bytes: while j < 40 {
+    for j in 0..40 {
         let more = passed + byte_distance(u[j], v[j]);
         if m < more {
-            break 'bytes;
+            return 8 * j as u32 + bit_after(u[j], v[j], m - passed);
         }
         passed = more;
-        j += 1;
     }
-    let mut q = 8 * j as u32;
-    while passed < m {
-        let i = (q / 8) as usize;
-        passed += (places::bit_of(u[i], q) + places::bit_of(v[i], q)) % 2;
-        q += 1;
-    }
-    q
+    320
 }

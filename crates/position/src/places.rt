@@ -1,5 +1,5 @@
 // Places of a word that is held as [u8; 40], which has 320: one bit, a count of ones, a code chunk as a number.
-ghost use Rattle.std.specs.Prelude.{◌≡◌, List, ℕ, ◌+◌, ◌-◌, ◌*◌, ◌/◌, ◌%◌, ◌^◌, ◌≤◌, ◌<◌, get_or};
+ghost use Rattle.std.specs.Prelude.{◌≡◌, List, ℕ, ◌+◌, ◌*◌, ◌/◌, ◌%◌, ◌^◌, ◌≤◌, ◌<◌, get_or};
 ghost use Rattle.bits.specs.Sums.{sum_below, from_place};
 ghost use Rattle.bits.specs.Places.{bit, place};
 
@@ -14,11 +14,10 @@ pub fn bit_of(byte: u8, p: u32) -> u32
     ((byte >> (p % 8)) % 2) as u32
 }
 
-// The bits of a byte from bit q on, moved up to bit `to` of a number. The contract also says of the byte what its type does, for a
-// caller that has it from an array.
+// The bits of a byte from bit q on, moved up to bit `to` of a number.
 fn moved_to(byte: u8, q: u32, to: u32) -> u64
     requires { (q < 8) × (to < 64) }
-    ensures { (result ≡ byte / 2 ^ q * 2 ^ to % 2 ^ 64) × (byte < 2 ^ 8) }
+    ensures { result ≡ byte / 2 ^ q * 2 ^ to % 2 ^ 64 }
 {
     ((byte >> q) as u64) << to
 }
@@ -31,13 +30,11 @@ pub fn bits_at(w: [u8; 40], at: u32, n: u32) -> u64
     if n == 0 {
         return 0;
     }
-    let mut j = (at / 8) as usize;
-    let mut value = moved_to(w[j], at % 8, 0);
-    let mut p = 8 - at % 8;
-    while p < n {
-        j += 1;
-        value ^= moved_to(w[j], 0, p);
-        p += 8;
+    let first = (at / 8) as usize;
+    let end = ((at + n + 7) / 8) as usize;
+    let mut value = moved_to(w[first], at % 8, 0);
+    for j in first + 1..end {
+        value ^= moved_to(w[j], 0, 8 * j as u32 - at);
     }
     value & powers::low_ones(n)
 }

@@ -21,11 +21,7 @@ pub fn spliced(u: [u8; 40], v: [u8; 40], at: u32) -> [u8; 40]
 {
     let whole = (at / 8) as usize;
     let mut word = u;
-    let mut j: usize = 0;
-    while j < whole {
-        word[j] = v[j];
-        j += 1;
-    }
+    word[..whole].copy_from_slice(&v[..whole]);
     if at % 8 != 0 {
         word[whole] = spliced_byte(v[whole], u[whole], at % 8);
     }

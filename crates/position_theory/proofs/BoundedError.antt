@@ -18,8 +18,6 @@ use Rattle.model.specs.Words.{word_bits, chunk_of, word_at, word_bytes, divided}
 use Rattle.model.specs.Reading.{Seen, seen, two_ends, residual}
 use Rattle.model.specs.Levels.{residual_unerased}
 use Rattle.model.specs.ReadWord.{read_word}
-use Rattle.model.specs.declared.ReadAnswer.{ReadAnswer}
-use Rattle.model.specs.declared.ReadAnswer.TheVariants.{At, Refused}
 use Rattle.code_theory.specs.Promise.{ChunkPromise}
 use Rattle.position_theory.specs.Damage.{damaged_in, wrong_in, ChunkBelowD, ChunksBelowD, ChunksWithin}
 use Rattle.position_theory.specs.Damage.{WithinRadius, damaged, Near, residual_of, UndividedWithinRadius}
@@ -37,6 +35,8 @@ use Rattle.position_theory.proofs.RuleReads.{reads_in_code}
 use Rattle.position_theory.proofs.TrueCases.{TrueCase, true_case}
 use Rattle.position_theory.proofs.Allowed.{allowed_isometric}
 use Rattle.position_theory.proofs.Nearest.{answer_near}
+use Rattle.model.specs.ReadWord.{ReadAnswer}
+use Rattle.std.specs.Prelude.{Ok, Err}
 
 -- each chunk of the position's word that is not divided has 2 × wrong + erased below D; which is so where each of the five has
 abbrev pub UndividedBelowD : Code → (unerased : ℕ → Bool) (position : ℕ) (u x : ℕ → ℕ) → Type 0
@@ -121,8 +121,8 @@ module _ (C : Code) (promise : ChunkPromise C) {unerased : ℕ → Bool} {x : �
 -- a bound may be loosened
 pub near_loosen : (answer : ReadAnswer) (position e e' : ℕ) → e ≤ e' → Near answer position e → Near answer position e'
 unfolding Near
-near_loosen (At r) position e e' h near = (omega arith, omega arith)
-near_loosen (Refused refusal) position e e' h near = near
+near_loosen (Ok r) position e e' h near = (omega arith, omega arith)
+near_loosen (Err refusal) position e e' h near = near
 
 -- a plain word within the radius in every chunk that is not divided
 module _ (C : Code) (promise : ChunkPromise C) where

@@ -15,8 +15,6 @@ use Rattle.model.specs.Words.{chunk_size, places_before, chunk₁, chunk₂, wor
 use Rattle.model.specs.Reading.{chunk_distance, Seen, seen, rule_seen, names_first, names_second, number_by}
 use Rattle.model.specs.Reading.{Rules, two_ends, residual, bits_needed, nearest_reading, bits_value}
 use Rattle.model.specs.Levels.{within_erasures}
-use Rattle.model.specs.declared.Chunk.{Chunk}
-use Rattle.model.specs.declared.ChunkBits.{ChunkBits}
 use Rattle.model.specs.declared.Reading.{Reading}
 use Rattle.code_theory.specs.Promise.{ChunkPromise}
 use Rattle.code_theory.proofs.ChunkReading.{plain_count}
@@ -27,6 +25,8 @@ use Rattle.position_theory.specs.ChunkBits.{CountsBits, CountsWrong, BitsSeen, B
 use Rattle.position_theory.proofs.RuleReads.{InCode, reads_in_code, rule_reads}
 use Rattle.position_theory.proofs.PlainSeen.{plain_sees_chunks}
 use Rattle.position_theory.proofs.NamedChunks.{InRange, named_hold}
+use Rattle.model.specs.Reading.{Chunk}
+use Rattle.std.specs.Prelude.{Option}
 
 module _ (C : Code) where
   -- the bits of a chunk that reads as codeword p where it is named
@@ -58,7 +58,7 @@ module _ (C : Code) where
       }
 
   -- where nothing is erased, the wrong bits are those in which chunk and codeword differ, at most t
-  plain_counts : (named : Bool) (chunk : ℕ → ℕ) (p : ℕ) (answered : ChunkBits) → CountsWrong C named everywhere chunk p answered
+  plain_counts : (named : Bool) (chunk : ℕ → ℕ) (p : ℕ) (answered : (Option ℕ)) → CountsWrong C named everywhere chunk p answered
       → CountsBits C named chunk p answered
   unfolding CountsWrong CountsBits
   plain_counts true chunk p answered (count, as_read, counted, few) =
@@ -80,7 +80,7 @@ module _ (C : Code) where
       }
 
 -- the bits of a chunk that is named are those in which it differs from any chunk that holds its codeword
-needed_is : (C : Code) (named : Bool) (chunk : ℕ → ℕ) (p : ℕ) (answered : ChunkBits) → CountsBits C named chunk p answered
+needed_is : (C : Code) (named : Bool) (chunk : ℕ → ℕ) (p : ℕ) (answered : (Option ℕ)) → CountsBits C named chunk p answered
     → (whole : ℕ → ℕ) → (named ≡ true → (b : ℕ) → b < C.n → whole b ≡ bit (codeword C p) b)
     → named ≡ true → bits_value answered ≡ distance C.n whole chunk
 unfolding CountsBits bits_value chunk_distance

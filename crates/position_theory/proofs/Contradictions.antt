@@ -15,7 +15,6 @@ use Rattle.model.specs.Order.{last_codeword}
 use Rattle.model.specs.Words.{word}
 use Rattle.model.specs.Reading.{Seen, rule_seen, number_by, separator_of, separator_by, Rules}
 use Rattle.model.specs.declared.Reading.{Reading}
-use Rattle.model.specs.declared.ReadAnswer.TheVariants.{At, Refused}
 use Rattle.code_theory.proofs.RefusalRows.{numbered, rows_after_lem, refused_if_some, refused_by_card, past_card}
 use Rattle.position_theory.specs.Damage.{ChunkBelowD}
 use Rattle.position_theory.specs.SeenChunks.{SeesChunks}
@@ -25,6 +24,8 @@ use Rattle.position_theory.proofs.Separators.{of_every_rule}
 use Rattle.position_theory.proofs.WordChunkLaws.{word_chunk}
 use Rattle.position_theory.proofs.WholeChunks.{ChunkReads, Sees, chunk₁_reads, chunk₂_reads, word_reads}
 use Rattle.position_theory.proofs.RuleReads.{BothRead, InCode, RuleReads, number_of, reads_in_code, rule_reads}
+use Rattle.std.specs.Prelude.{Ok}
+use Rattle.model.specs.Refusals.{Refused}
 
 -- ---- whatever is seen of a word, where no row holds
 
@@ -80,14 +81,14 @@ unfolding unless_contradicted
 unless_refused_lem true refusal = refl
 unless_refused_lem false refusal = refl
 
-unless_read : (differs : Bool) (r : Reading) → unless_refused (cond differs 17 0) Refused (At r) ≡ unless_contradicted differs (At r)
+unless_read : (differs : Bool) (r : Reading) → unless_refused (cond differs 17 0) Refused (Ok r) ≡ unless_contradicted differs (Ok r)
 unfolding unless_contradicted unless_refused
 unless_read true r = refl
 unless_read false r = refl
 
 seventeen_last : (rows : List Row) → numbered rows ≡ true → (differs : Bool) (r : Reading)
-    → unless_refused (first_refusal (rows ++ (refuses 17 differs ∷ []))) Refused (At r)
-    ≡ unless_contradicted differs (unless_refused (first_refusal rows) Refused (At r))
+    → unless_refused (first_refusal (rows ++ (refuses 17 differs ∷ []))) Refused (Ok r)
+    ≡ unless_contradicted differs (unless_refused (first_refusal rows) Refused (Ok r))
 unfolding first_refusal unless_refused
 seventeen_last rows all differs r =
     ⊎_elim
@@ -96,19 +97,19 @@ seventeen_last rows all differs r =
     rw (
       rows_after_lem rows (refuses 17 differs ∷ []) all,
       ne_eqb (first_refusal rows) 0 some,
-      refused_if_some (first_refusal rows) Refused (At r) some,
+      refused_if_some (first_refusal rows) Refused (Ok r) some,
       unless_refused_lem differs (first_refusal rows),
     ))
     (eq_or_ne (first_refusal rows) 0)
 
 -- past the card's refusal
 pub seventeen_past_card : (card : ℕ) (rows : List Row) → numbered rows ≡ true → (differs : Bool) (r : Reading)
-    → unless_refused (first_refusal (refused_as card ∷ (rows ++ (refuses 17 differs ∷ [])))) Refused (At r)
-    ≡ unless_contradicted differs (unless_refused (first_refusal (refused_as card ∷ rows)) Refused (At r))
+    → unless_refused (first_refusal (refused_as card ∷ (rows ++ (refuses 17 differs ∷ [])))) Refused (Ok r)
+    ≡ unless_contradicted differs (unless_refused (first_refusal (refused_as card ∷ rows)) Refused (Ok r))
 seventeen_past_card card rows all differs r =
     ⊎_elim
-    (λ (sound : card ≡ 0). rw (past_card card _ Refused (At r) sound, past_card card rows Refused (At r) sound)
+    (λ (sound : card ≡ 0). rw (past_card card _ Refused (Ok r) sound, past_card card rows Refused (Ok r) sound)
     (seventeen_last rows all differs r))
     (λ (refused : card ≡ 0 → ⊥).
-    rw (refused_by_card card _ Refused (At r) refused, refused_by_card card rows Refused (At r) refused, unless_refused_lem differs card))
+    rw (refused_by_card card _ Refused (Ok r) refused, refused_by_card card rows Refused (Ok r) refused, unless_refused_lem differs card))
     (eq_or_ne card 0)

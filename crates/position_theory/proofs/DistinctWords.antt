@@ -12,8 +12,6 @@ use Rattle.model.specs.Card.{Code}
 use Rattle.model.specs.Order.{last_codeword, last_position}
 use Rattle.model.specs.Words.{word_bits, block_of, word_at, word_bytes}
 use Rattle.model.specs.ReadWord.{read_word}
-use Rattle.model.specs.declared.ReadAnswer.{ReadAnswer}
-use Rattle.model.specs.declared.ReadAnswer.TheVariants.{At, Refused}
 use Rattle.code_theory.specs.Promise.{ChunkPromise}
 use Rattle.position_theory.specs.Damage.{damaged_in, ChunksWithin, WithinRadius, damaged, Near}
 use Rattle.position_theory.proofs.WordChunkLaws.{five_distance}
@@ -22,6 +20,8 @@ use Rattle.position_theory.proofs.Blocks.{block_le, block_low, block_high}
 use Rattle.position_theory.proofs.Ranges.{Isometric}
 use Rattle.position_theory.proofs.Isometry.{isometric_block}
 use Rattle.position_theory.proofs.BoundedError.{all_within, error_bounded, near_loosen}
+use Rattle.model.specs.ReadWord.{ReadAnswer}
+use Rattle.std.specs.Prelude.{Ok, Err}
 
 module _ (C : Code) (promise : ChunkPromise C) where
   -- a position before the last is in a block that is not the last
@@ -67,8 +67,8 @@ module _ (C : Code) (promise : ChunkPromise C) where
   -- two positions that are no steps from one answer are one
   one_answer : (answer : ReadAnswer) (p q : ℕ) → Near answer p 0 → Near answer q 0 → p ≡ q
   unfolding Near
-  one_answer (At r) p q near near' = omega arith
-  one_answer (Refused refusal) p q near near' = absurd near
+  one_answer (Ok r) p q near near' = omega arith
+  one_answer (Err refusal) p q near near' = absurd near
 
   -- so an undamaged word is read as its position, and no other has it
   read_as_itself : (position : ℕ) → position ≤ last_position C → Near (read_word C (word_bytes C position)) position 0

@@ -27,11 +27,7 @@ use Rattle.model.specs.Reading.{Seen, Range, Rules, rule_seen, names_first, name
 use Rattle.model.specs.Reading.{allowed, residual, nearest_in, bits_needed, nearest_reading}
 use Rattle.model.specs.ReadWord.{spare_set}
 use Rattle.model.specs.CardsToTry.{card_a, card_b}
-use Rattle.model.specs.declared.ChunkBits.{ChunkBits}
-use Rattle.model.specs.declared.ChunkBits.TheVariants.{Differing}
 use Rattle.model.specs.declared.Reading.{Reading}
-use Rattle.model.specs.declared.ReadAnswer.{ReadAnswer}
-use Rattle.model.specs.declared.ReadAnswer.TheVariants.{At, Refused}
 use Rattle.code_theory.proofs.CodeWitnesses.{card_b_sound}
 use Rattle.position_theory.specs.Damage.{damaged_in, damaged_in_all, damaged, ChunksWithin, WithinRadius, Near, residual_of}
 use Rattle.position_theory.specs.Damage.{UndividedWithinRadius}
@@ -50,6 +46,10 @@ use Rattle.position_theory.specs.PositionWitnesses.{zero_damaged, ten_damaged, s
 use Rattle.position_theory.specs.PositionWitnesses.{mixed, mixed_damaged, mixed_in_chunk2, mixed_by_rule1, mixed_by_rule2}
 use Rattle.position_theory.proofs.Ranges.{nearest_in_lem}
 use Rattle.position_theory.proofs.RuleReads.{number_of}
+use Rattle.std.specs.Prelude.{Ok, Option, Some}
+use Rattle.model.specs.ReadWord.{ReadAnswer}
+use Rattle.model.specs.Refusals.{Refused}
+use Rattle.std.specs.Prelude.{Err}
 
 -- ---- premises, as tests that are computed
 
@@ -79,14 +79,14 @@ undivided C position received size spare none =
 
 pub near_within : (answer : ReadAnswer) (position e : ℕ) → Near answer position e → ReadWithin e position answer
 unfolding Near ReadWithin
-near_within (At r) position e near = near
-near_within (Refused refusal) position e near = near
+near_within (Ok r) position e near = near
+near_within (Err refusal) position e near = near
 
 near_in_error_bar : (answer : ReadAnswer) (position e : ℕ) → Near answer position (e + residual_of answer)
     → ReadWithinErrorBar e position answer
 unfolding Near ReadWithin ReadWithinErrorBar residual_of
-near_in_error_bar (At r) position e near = near
-near_in_error_bar (Refused refusal) position e near = near
+near_in_error_bar (Ok r) position e near = near
+near_in_error_bar (Err refusal) position e near = near
 
 both_distances : (position e : ℕ) (received : List ℕ) → SoundCard card_b → position ≤ last_position (code_of card_b)
     → UndividedWithinRadius (code_of card_b) position received → damaged (code_of card_b) position received ≡ e
@@ -125,33 +125,33 @@ module _ (R : Rules) (last : ℕ) (s : Seen) (residual_at : ℕ → ℕ) where
   pub read_as : (answer : ReadAnswer) → IsReadingOf R last s residual_at answer → refusal_of R s ≡ 0
       → let q = nearest_in residual_at (allowed_by R s) in ReadAs q (residual_at q) (rule_seen s) answer
   unfolding IsReadingOf ReadAs
-  read_as (At r) n none =
+  read_as (Ok r) n none =
       let is = nearest_is_one r.position r.residual r.rule n in (is, rw is at n.counted, n.by_rule)
-  read_as (Refused refusal) (is, some) none = some (sym is ∙ none)
+  read_as (Err refusal) (is, some) none = some (sym is ∙ none)
 
   pub refused_as : (answer : ReadAnswer) → IsReadingOf R last s residual_at answer → (refusal : ℕ) → refusal_of R s ≡ suc refusal
       → answer ≡ Refused (suc refusal)
   unfolding IsReadingOf
-  refused_as (At r) n refusal some = let none = n.none_refuses in absurd (omega arith)
-  refused_as (Refused refused) (is, _) refusal some = ap Refused (sym is ∙ some)
+  refused_as (Ok r) n refusal some = let none = n.none_refuses in absurd (omega arith)
+  refused_as (Err refused) (is, _) refusal some = ap Refused (sym is ∙ some)
 
 -- ---- what is counted of chunks
 
 -- the rule is the one that the separators name
-counts_by_rule : (card received : List ℕ) (r : Reading) → CountsBitsOfChunks card received (At r)
+counts_by_rule : (card received : List ℕ) (r : Reading) → CountsBitsOfChunks card received (Ok r)
     → let C : Code = code_of card in
     BitsOfChunks C (place received) (rule_seen (seen C (place received))) r.chunk1 r.chunk2
 unfolding CountsBitsOfChunks
 counts_by_rule card received r promise = let counts = promise r refl in rw counts.by_rule at counts
 
 -- the count of a chunk that is named is that of the places in which it differs from c(p)
-count_is : (C : Code) (chunk : ℕ → ℕ) (p q : ℕ) (bits : ChunkBits) → p ≡ q → CountsBits C true chunk p bits
-    → bits ≡ Differing (chunk_distance C chunk q)
+count_is : (C : Code) (chunk : ℕ → ℕ) (p q : ℕ) (bits : (Option ℕ)) → p ≡ q → CountsBits C true chunk p bits
+    → bits ≡ Some (chunk_distance C chunk q)
 unfolding CountsBits
-count_is C chunk p q bits is (count, as_read, (counted, few)) = as_read ∙ ap Differing (rw is at counted)
+count_is C chunk p q bits is (count, as_read, (counted, few)) = as_read ∙ ap Some (rw is at counted)
 
 -- and it is at most t: nothing is counted of a chunk to which no codeword is so near
-no_count : (C : Code) (chunk : ℕ → ℕ) (p last : ℕ) (bits : ChunkBits) → any_below (within_radius C chunk) (suc last) ≡ false → p ≤ last
+no_count : (C : Code) (chunk : ℕ → ℕ) (p last : ℕ) (bits : (Option ℕ)) → any_below (within_radius C chunk) (suc last) ≡ false → p ≤ last
     → CountsBits C true chunk p bits → ⊥
 unfolding CountsBits within_radius
 no_count C chunk p last bits none in_code (count, as_read, (counted, few)) =

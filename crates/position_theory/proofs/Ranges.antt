@@ -13,8 +13,8 @@ use Rattle.bits.proofs.Distance.{distance_comm}
 use Rattle.bits.proofs.Erasures.{unerased_triangle}
 use Rattle.bits.proofs.Searches.{least_at_low, least_at_high, least_at_least, least_at_first}
 use Rattle.model.specs.Reading.{Seen, Range, nearest_in, nearest_reading}
-use Rattle.model.specs.declared.ReadAnswer.TheVariants.{At}
 use Rattle.position_theory.specs.Damage.{Near, residual_of}
+use Rattle.std.specs.Prelude.{Ok}
 
 -- of two positions from low to high the words, of d places, differ in as many bits as the positions in steps
 unfoldable pub Isometric : (d : ℕ) (words : ℕ → ℕ → ℕ) (low high : ℕ) → Type 0
@@ -78,7 +78,7 @@ nearest_in_lem residual range h =
 module _ (d : ℕ) (words : ℕ → ℕ → ℕ) (residual : ℕ → ℕ) (erased : ℕ) (within : WithinResiduals d words residual erased) where
   pub answer_off_by : (s : Seen) (rule : ℕ) (range : Range) → Isometric d words range.low range.high
       → (position : ℕ) → range.low ≤ position → position ≤ range.high
-      → let answer = At (nearest_reading residual s rule range) in
+      → let answer = Ok (nearest_reading residual s rule range) in
       Near answer position (residual position + residual_of answer + erased) × (residual_of answer ≤ residual position)
   unfolding nearest_reading Near residual_of
   answer_off_by s rule range far position l h =

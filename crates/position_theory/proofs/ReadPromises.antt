@@ -10,7 +10,6 @@ use Rattle.model.specs.Card.{Code, code_of, card_refusal}
 use Rattle.model.specs.Words.{word, word_at, word_bytes}
 use Rattle.model.specs.Reading.{seen, two_ends, rule_named, rows_9_to_12, rows_seen, rows_of, allowed, residual, nearest_reading}
 use Rattle.model.specs.ReadWord.{rows_of_word, read_word, read_refusal, read_answer}
-use Rattle.model.specs.declared.ReadAnswer.TheVariants.{At}
 use Rattle.code_theory.specs.Promise.{ChunkPromise}
 use Rattle.code_theory.proofs.RefusalRows.{numbered}
 use Rattle.position_theory.specs.Damage.{damaged_in}
@@ -28,6 +27,7 @@ use Rattle.position_theory.proofs.ReadWords.{read_if_served, read_shows}
 use Rattle.position_theory.proofs.ChunkBits.{bits_of_chunks, differing_allowed}
 use Rattle.position_theory.proofs.Contradictions.{parity_agrees, separator_from, mixed_refused, seventeen_past_card}
 use Rattle.position_theory.proofs.SoundCards.{card_promise, read_sound}
+use Rattle.std.specs.Prelude.{Ok}
 
 -- ---- how far off: P7, and demand 3 from it
 
@@ -94,7 +94,7 @@ needed_as_damaged card received position sound h d r answered =
     let promise = card_promise card sound in
     let x = place received in
     let allows = plain_allowed C promise position received h (all_within C position received d) in
-    let read : reading C x ≡ At r =
+    let read : reading C x ≡ Ok r =
     sym (read_sound card received sound ∙ read_if_whole C received d.right_length d.spare_zero) ∙ answered in
     let (none, is) = read_if_served _ _ _ read in
     let differing = differing_allowed C promise x none position (allows.from_low, allows.to_high) in

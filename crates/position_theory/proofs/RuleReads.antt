@@ -12,12 +12,12 @@ use Rattle.model.specs.Card.{Code}
 use Rattle.model.specs.Order.{last_codeword}
 use Rattle.model.specs.Reading.{unreadable, number_read, Seen, rule_seen, names_first, names_second, number_by}
 use Rattle.model.specs.Reading.{separator_of, separator_by, parity_differs, Rules, rows_9_to_12, rows_seen}
-use Rattle.model.specs.declared.Chunk.{Chunk}
-use Rattle.model.specs.declared.Chunk.TheVariants.{Codeword, Unreadable}
 use Rattle.code_theory.proofs.RefusalRows.{NoneHolds, numbered, none_holds}
 use Rattle.position_theory.specs.SeenChunks.{SeesChunks, ReadsAs, NamedReads}
 use Rattle.position_theory.specs.Nearest.{refusal_of}
 use Rattle.position_theory.proofs.Separators.{of_every_rule}
+use Rattle.model.specs.Reading.{Chunk, Codeword}
+use Rattle.std.specs.Prelude.{Some, None}
 
 -- a chunk reads as a codeword whose number is of some kind, if any
 abbrev pub ReadsKind : (Kind : ℕ → Type 0) → Chunk → Type 0
@@ -49,8 +49,8 @@ pub record RuleReads (R : Rules) (s : Seen) (Kind : ℕ → Type 0) (rule : ℕ)
 -- a chunk that is not unreadable reads as its number
 readable : (read : Chunk) → unreadable read ≡ false → ReadsAs read (number_read read)
 unfolding unreadable number_read
-readable (Codeword p e) is = (e, refl)
-readable Unreadable is = absurd (true≢false is)
+readable (Some read) is = (read.differing, refl)
+readable None is = absurd (true≢false is)
 
 -- and one that reads as p has that number
 pub number_of : (read : Chunk) {p : ℕ} → ReadsAs read p → number_read read ≡ p

@@ -17,11 +17,11 @@ use Rattle.model.specs.Order.{codeword, last_codeword}
 use Rattle.model.specs.Words.{chunk_size, places_before, chunk_of, word}
 use Rattle.model.specs.Reading.{Seen}
 use Rattle.model.specs.Levels.{chunk_wrong, within_erasures}
-use Rattle.model.specs.declared.Chunk.{Chunk}
 use Rattle.position_theory.specs.Damage.{wrong_in, erased_in, ChunkBelowD}
 use Rattle.position_theory.specs.SeenChunks.{SeesChunk, SeesChunks, ReadsAs}
 use Rattle.position_theory.proofs.WordChunkLaws.{content, word_chunk}
 use Rattle.position_theory.proofs.Between.{Next, WholeAt, chunk_ahead, chunk_passed}
+use Rattle.model.specs.Reading.{Chunk}
 
 -- what is seen of chunk c reads as the number j
 unfoldable pub ChunkReads : Seen → (c j : ℕ) → Type 0

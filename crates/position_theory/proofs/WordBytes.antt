@@ -22,10 +22,11 @@ use Rattle.model.specs.Card.{Code}
 use Rattle.model.specs.Words.{word_bits, block_of, word_at, word_bytes, word_length}
 use Rattle.model.specs.Reading.{Seen, seen, rule_seen, Rules, two_ends, rule_named, rows_of, allowed, residual, nearest_reading}
 use Rattle.model.specs.ReadWord.{spare_set, rows_of_word, read_word}
-use Rattle.model.specs.declared.ReadAnswer.{ReadAnswer}
-use Rattle.model.specs.declared.ReadAnswer.TheVariants.{At, Refused}
 use Rattle.position_theory.specs.Nearest.{refusal_of, allowed_by}
 use Rattle.position_theory.proofs.WordChunkLaws.{word_bit}
+use Rattle.model.specs.ReadWord.{ReadAnswer}
+use Rattle.std.specs.Prelude.{Ok}
+use Rattle.model.specs.Refusals.{Refused}
 
 -- the bytes of any word have no spare bit set
 pub packed_none_spare : (C : Code) {w : ℕ → ℕ} → ((p : ℕ) → w p < 2) → spare_set C (pack (word_bits C) w) ≡ false
@@ -60,7 +61,7 @@ differing_words C p q = packed_distance (word_bits C) (word_at_bit C p) (word_at
 
 -- the reading of what is seen of a word: refusals 9 to 12 and 17, or the nearest allowed position
 unfoldable pub reading_of_seen : Rules → Seen → (residual : ℕ → ℕ) → ReadAnswer
-reading_of_seen R s residual = unless_refused (refusal_of R s) Refused (At (nearest_reading residual s (rule_seen s) (allowed_by R s)))
+reading_of_seen R s residual = unless_refused (refusal_of R s) Refused (Ok (nearest_reading residual s (rule_seen s) (allowed_by R s)))
 
 -- of a plain word, given as a bit function, on a track with two ends
 abbrev pub reading : Code → (x : ℕ → ℕ) → ReadAnswer

@@ -18,12 +18,13 @@ use Rattle.model.specs.Card.{Code, card_refusal, code_of, SoundCard}
 use Rattle.model.specs.Order.{last_position}
 use Rattle.model.specs.Words.{word_bits, word_at, word_bytes, word_length}
 use Rattle.model.specs.WriteWord.{write_refusal, write_answer, lent_after_write}
-use Rattle.model.specs.declared.WriteAnswer.TheVariants.{Written, Refused}
 use Rattle.position_theory.specs.WritePromises.{NeighboursDifferInOneBit, NoOtherPositionsWord}
 use Rattle.position_theory.specs.WritePromises.{WrittenIfServable, UnchangedIfRefused, WritePromises}
 use Rattle.position_theory.proofs.WordBytes.{differing_words}
 use Rattle.position_theory.proofs.DistinctWords.{neighbours_differ, words_distinct}
 use Rattle.position_theory.proofs.SoundCards.{card_promise}
+use Rattle.model.specs.WriteWord.{Written}
+use Rattle.model.specs.Refusals.{Refused}
 
 -- ---- demand 2, of the word of a position
 

@@ -10,10 +10,11 @@ use Rattle.model.specs.Reading.{Seen, seen, rule_seen, rule_named, names_first, 
 use Rattle.model.specs.Reading.{two_ends, rows_9_to_12}
 use Rattle.model.specs.ReadWord.{spare_set, reading_of}
 use Rattle.model.specs.declared.Reading.{Reading}
-use Rattle.model.specs.declared.ReadAnswer.{ReadAnswer}
-use Rattle.model.specs.declared.ReadAnswer.TheVariants.{At, Refused}
 use Rattle.position_theory.specs.Damage.{damaged_in}
 use Rattle.position_theory.specs.SeenChunks.{NamedReads}
+use Rattle.model.specs.ReadWord.{ReadAnswer}
+use Rattle.std.specs.Prelude.{Ok, Err}
+use Rattle.model.specs.Refusals.{Refused}
 
 -- ---- words that are read
 
@@ -30,7 +31,7 @@ pub record ParityAgrees (C : Code) (s : Seen) (rule : ℕ) : Type 0 where
 
 -- this holds of a word that is read, whatever is seen of it
 abbrev pub AgreesIfRead : Code → Seen → ReadAnswer → Type 0
-AgreesIfRead C s answer = (r : Reading) → answer ≡ At r → ParityAgrees C s r.rule
+AgreesIfRead C s answer = (r : Reading) → answer ≡ Ok r → ParityAgrees C s r.rule
 
 -- ---- words mixed from two telegrams
 
@@ -60,8 +61,8 @@ contradicted s = parity_differs (separator_by s (rule_seen s)) (number_by s (rul
 
 -- an answer with refusal 17 in the place of a reading, where this is so; a refusal stays
 unfoldable pub unless_contradicted : (contradicted : Bool) → ReadAnswer → ReadAnswer
-unless_contradicted true (At r) = Refused 17
-unless_contradicted true (Refused refusal) = Refused refusal
+unless_contradicted true (Ok r) = Refused 17
+unless_contradicted true (Err refusal) = Err refusal
 unless_contradicted false answer = answer
 
 -- the answer without P6: rows 9 to 12 are the last
@@ -75,4 +76,4 @@ answer_before card received =
     ∷ refuses 6 (not (eqb (length received) (word_length C)))
     ∷ refuses 8 (spare_set C received)
     ∷ rows_9_to_12 (two_ends C) (seen C x) (rule_named C x)))
-    Refused (At (reading_of C received))
+    Refused (Ok (reading_of C received))

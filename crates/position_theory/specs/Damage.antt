@@ -7,8 +7,8 @@ use Rattle.bits.specs.Places.{place}
 use Rattle.model.specs.Card.{Code, radius}
 use Rattle.model.specs.Words.{chunk_size, chunk_of, word_bytes, word_length, divided}
 use Rattle.model.specs.ReadWord.{spare_set}
-use Rattle.model.specs.declared.ReadAnswer.{ReadAnswer}
-use Rattle.model.specs.declared.ReadAnswer.TheVariants.{At, Refused}
+use Rattle.model.specs.ReadWord.{ReadAnswer}
+use Rattle.std.specs.Prelude.{Ok, Err}
 
 -- the number of damaged bits in chunk c, of the chunks 0 to 4: the places of it in which x differs from u
 unfoldable pub damaged_in : Code → (c : ℕ) (u x : ℕ → ℕ) → ℕ
@@ -68,10 +68,10 @@ pub record UndividedWithinRadius (C : Code) (position : ℕ) (received : List �
 
 -- an answer that is no refusal, whose position is at most e steps from this one
 unfoldable pub Near : ReadAnswer → (position e : ℕ) → Type 0
-Near (At r) position e = (r.position ≤ position + e) × (position ≤ r.position + e)
-Near (Refused refusal) position e = ⊥
+Near (Ok r) position e = (r.position ≤ position + e) × (position ≤ r.position + e)
+Near (Err refusal) position e = ⊥
 
 -- the residual of an answer (0 of a refusal, which means nothing)
 unfoldable pub residual_of : ReadAnswer → ℕ
-residual_of (At r) = r.residual
-residual_of (Refused refusal) = 0
+residual_of (Ok r) = r.residual
+residual_of (Err refusal) = 0

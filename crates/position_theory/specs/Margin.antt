@@ -5,8 +5,8 @@ use Rattle.model.specs.Order.{last_position}
 use Rattle.model.specs.ReadWord.{read_answer}
 use Rattle.model.specs.Trams.{margin}
 use Rattle.model.specs.declared.Reading.{Reading}
-use Rattle.model.specs.declared.ReadAnswer.TheVariants.{At}
 use Rattle.position_theory.specs.Damage.{WithinRadius}
+use Rattle.std.specs.Prelude.{Ok}
 
 -- The position `answered` was read from the true one: it is what the plain reading answers for a word of that position of the track, in
 -- which at most t bits of every chunk are damaged.
@@ -15,7 +15,7 @@ pub record ReadFrom (card : List ℕ) (true_position answered : ℕ) : Type 0 wh
   pub received : List ℕ
   pub within : WithinRadius (code_of card) true_position received
   pub reading : Reading
-  pub read : read_answer card received ≡ At reading
+  pub read : read_answer card received ≡ Ok reading
   pub position : reading.position ≡ answered
 
 -- on a sound card the two are at most 10t apart

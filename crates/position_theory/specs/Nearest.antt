@@ -6,8 +6,8 @@ use Rattle.model.specs.Refusals.{first_refusal}
 use Rattle.model.specs.Card.{Code}
 use Rattle.model.specs.Order.{last_position}
 use Rattle.model.specs.Reading.{Seen, seen, rule_seen, Range, Rules, two_ends, rows_seen, range_seen, residual}
-use Rattle.model.specs.declared.ReadAnswer.{ReadAnswer}
-use Rattle.model.specs.declared.ReadAnswer.TheVariants.{At, Refused}
+use Rattle.model.specs.ReadWord.{ReadAnswer}
+use Rattle.std.specs.Prelude.{Ok, Err}
 
 -- the refusal by rows 9 to 12 and 17 of what is seen, 0 where none of them holds; and the positions that its rule allows
 abbrev pub refusal_of : Rules → Seen → ℕ
@@ -30,8 +30,8 @@ pub record NearestOf (R : Rules) (last : ℕ) (s : Seen) (residual_at : ℕ → 
 
 -- an answer that is the nearest allowed position, or a refusal by the first row that holds
 unfoldable pub IsReadingOf : Rules → (last : ℕ) → Seen → (residual_at : ℕ → ℕ) → ReadAnswer → Type 0
-IsReadingOf R last s residual_at (At r) = NearestOf R last s residual_at r.position r.residual r.rule
-IsReadingOf R last s residual_at (Refused refusal) = (refusal_of R s ≡ refusal) × (refusal ≡ 0 → ⊥)
+IsReadingOf R last s residual_at (Ok r) = NearestOf R last s residual_at r.position r.residual r.rule
+IsReadingOf R last s residual_at (Err refusal) = (refusal_of R s ≡ refusal.number) × (refusal.number ≡ 0 → ⊥)
 
 -- the same of a plain word, on a track with two ends
 abbrev pub IsReading : Code → (ℕ → ℕ) → ReadAnswer → Type 0

@@ -7,34 +7,34 @@ use Rattle.model.specs.Card.{code_of}
 use Rattle.model.specs.Words.{word_bytes, divided}
 use Rattle.model.specs.Reading.{residual, bits_value}
 use Rattle.model.specs.CardsToTry.{card_a, card_b}
-use Rattle.model.specs.declared.ChunkBits.TheVariants.{Differing, NotRead}
-use Rattle.model.specs.declared.WriteAnswer.{WriteAnswer}
-use Rattle.model.specs.declared.WriteAnswer.TheVariants.{Written, Refused as WriteRefused}
 use Rattle.model.specs.declared.Reading.{Reading}
-use Rattle.model.specs.declared.ReadAnswer.{ReadAnswer}
-use Rattle.model.specs.declared.ReadAnswer.TheVariants.{At, Refused}
 use Rattle.position_theory.specs.WritePromises.{WrittenIfServable, UnchangedIfRefused, NeighboursDifferInOneBit, NoOtherPositionsWord}
 use Rattle.position_theory.specs.ReadPromises.{NearestOfAllowed, OffByAtMostTwiceDamaged, OffByAtMostDamagedAndResidual}
 use Rattle.position_theory.specs.ReadPromises.{ReadWithDividedArbitrary, ErrorBarHoldsPosition, CountsBitsOfChunks, NeededAsDamaged}
 use Rattle.position_theory.specs.ReadPromises.{ReadOnlyIfParityAgrees, MixedNeverRead, AsBeforeUnlessContradicted}
 use Rattle.position_theory.specs.DividedChunks.{AtMostOneDivided}
+use Rattle.std.specs.Prelude.{None, Ok, Some}
+use Rattle.model.specs.WriteWord.{WriteAnswer, Written}
+use Rattle.model.specs.Refusals.{Refused}
+use Rattle.model.specs.ReadWord.{ReadAnswer}
+use Rattle.std.specs.Prelude.{Err}
 
 -- ---- what rows say of an answer
 
 -- it is read, with this position, residual and rule
 unfoldable pub ReadAs : (position residual rule : ℕ) → ReadAnswer → Type 0
-ReadAs position residual rule (At r) = (r.position ≡ position) × (r.residual ≡ residual) × (r.rule ≡ rule)
-ReadAs position residual rule (Refused refusal) = ⊥
+ReadAs position residual rule (Ok r) = (r.position ≡ position) × (r.residual ≡ residual) × (r.rule ≡ rule)
+ReadAs position residual rule (Err refusal) = ⊥
 
 -- it is read, at most e steps from this position
 unfoldable pub ReadWithin : (e position : ℕ) → ReadAnswer → Type 0
-ReadWithin e position (At r) = (r.position ≤ position + e) × (position ≤ r.position + e)
-ReadWithin e position (Refused refusal) = ⊥
+ReadWithin e position (Ok r) = (r.position ≤ position + e) × (position ≤ r.position + e)
+ReadWithin e position (Err refusal) = ⊥
 
 -- it is read, at most e and its residual from this position
 unfoldable pub ReadWithinErrorBar : (e position : ℕ) → ReadAnswer → Type 0
-ReadWithinErrorBar e position (At r) = ReadWithin (e + r.residual) position (At r)
-ReadWithinErrorBar e position (Refused refusal) = ⊥
+ReadWithinErrorBar e position (Ok r) = ReadWithin (e + r.residual) position (Ok r)
+ReadWithinErrorBar e position (Err refusal) = ⊥
 
 -- ---- words of card B: three bits in each of the chunks separator 1, chunk 1, separator 2, chunk 2, separator 3; t is 1
 
@@ -101,13 +101,13 @@ SevenArbitrary position received =
 
 -- no reading has the promise
 abbrev pub NoneReads : (Promised : ReadAnswer → Type 0) → Type 0
-NoneReads Promised = (r : Reading) → Promised (At r) → ⊥
+NoneReads Promised = (r : Reading) → Promised (Ok r) → ⊥
 
 pub record Witnessed : Type 0 where
   -- writing: at the last position the word is written, and a refusal leaves what was lent; one bit lies between 14 and 15, in either
   -- order, and between 1 and 0; the last position's word is no other's
   pub written : (answer : WriteAnswer) → WrittenIfServable card_b 15 (0xaa ∷ 0xaa ∷ []) answer → answer ≡ Written
-  pub unchanged : (left : List ℕ) → UnchangedIfRefused (0xaa ∷ 0xaa ∷ []) left (WriteRefused 7) → left ≡ 0xaa ∷ 0xaa ∷ []
+  pub unchanged : (left : List ℕ) → UnchangedIfRefused (0xaa ∷ 0xaa ∷ []) left (Refused 7) → left ≡ 0xaa ∷ 0xaa ∷ []
   pub last_is_next : (word : List ℕ) → NeighboursDifferInOneBit card_b 14 word → differing_bits word (0xff ∷ 0x7f ∷ []) ≡ 1
   pub before_last : (word : List ℕ) → NeighboursDifferInOneBit card_b 15 word → differing_bits word (0xff ∷ 0x3f ∷ []) ≡ 1
   pub zero_is_before : (word : List ℕ) → NeighboursDifferInOneBit card_b 1 word → differing_bits word (0x00 ∷ 0x00 ∷ []) ≡ 1
@@ -138,20 +138,20 @@ pub record Witnessed : Type 0 where
       → ReadWithinErrorBar 1 15 answer × ReadWithin 2 15 answer
   pub error_bar : (answer : ReadAnswer) → ErrorBarHoldsPosition card_b divided_damaged answer → ReadWithinErrorBar 3 4 answer
   pub error_bar_at_last : (answer : ReadAnswer) → ErrorBarHoldsPosition card_b last_damaged answer → ReadWithinErrorBar 1 15 answer
-  pub error_bar_residual : (r : Reading) → ErrorBarHoldsPosition card_b divided_damaged (At r) → r.residual ≤ 3
+  pub error_bar_residual : (r : Reading) → ErrorBarHoldsPosition card_b divided_damaged (Ok r) → r.residual ≤ 3
   pub one_divided : AtMostOneDivided card_b → (c : ℕ) → c < 5 → divided (code_of card_b) 14 c ≡ true → c ≡ 4
   -- bits of chunks: a count of just t, no count of a chunk that is not named, and no reading of a chunk with t + 1 damaged bits, card A's
   -- 100; and a chunk that is named needed the damaged bits
-  pub just_t : (r : Reading) → CountsBitsOfChunks card_b zero_damaged (At r) → (r.chunk1 ≡ Differing 1) × (r.chunk2 ≡ Differing 0)
-  pub not_named : (r : Reading) → CountsBitsOfChunks card_b seven_damaged (At r) → (r.chunk1 ≡ NotRead) × (r.chunk2 ≡ Differing 0)
-  pub not_named_by_rule_1 : (r : Reading) → CountsBitsOfChunks card_b eleven (At r) → r.chunk2 ≡ NotRead
+  pub just_t : (r : Reading) → CountsBitsOfChunks card_b zero_damaged (Ok r) → (r.chunk1 ≡ Some 1) × (r.chunk2 ≡ Some 0)
+  pub not_named : (r : Reading) → CountsBitsOfChunks card_b seven_damaged (Ok r) → (r.chunk1 ≡ None) × (r.chunk2 ≡ Some 0)
+  pub not_named_by_rule_1 : (r : Reading) → CountsBitsOfChunks card_b eleven (Ok r) → r.chunk2 ≡ None
   pub above_t : NoneReads (CountsBitsOfChunks card_a unreadable_a)
-  pub needed : (r : Reading) → r.rule ≡ 3 → NeededAsDamaged card_b zero_damaged (At r)
+  pub needed : (r : Reading) → r.rule ≡ 3 → NeededAsDamaged card_b zero_damaged (Ok r)
       → (bits_value r.chunk1 ≡ 1) × (bits_value r.chunk2 ≡ 0)
-  pub needed_in_all : (r : Reading) → r.rule ≡ 3 → NeededAsDamaged card_b last_all_damaged (At r)
+  pub needed_in_all : (r : Reading) → r.rule ≡ 3 → NeededAsDamaged card_b last_all_damaged (Ok r)
       → (bits_value r.chunk1 ≡ 1) × (bits_value r.chunk2 ≡ 1)
-  pub needed_by_rule_1 : (r : Reading) → r.rule ≡ 1 → NeededAsDamaged card_b ten_damaged (At r) → bits_value r.chunk1 ≡ 1
-  pub needed_by_rule_2 : (r : Reading) → r.rule ≡ 2 → NeededAsDamaged card_b seven_in_chunk2 (At r) → bits_value r.chunk2 ≡ 1
+  pub needed_by_rule_1 : (r : Reading) → r.rule ≡ 1 → NeededAsDamaged card_b ten_damaged (Ok r) → bits_value r.chunk1 ≡ 1
+  pub needed_by_rule_2 : (r : Reading) → r.rule ≡ 2 → NeededAsDamaged card_b seven_in_chunk2 (Ok r) → bits_value r.chunk2 ≡ 1
   -- separators that contradict the codeword, by each rule; and words mixed from two telegrams, by each rule and each chunk that it names,
   -- with t damaged bits in both parts
   pub contradicts : NoneReads (ReadOnlyIfParityAgrees card_b mixed)

@@ -8,12 +8,12 @@ use Rattle.model.specs.Words.{word_length, word_bytes}
 use Rattle.model.specs.Reading.{seen, residual, bits_value}
 use Rattle.model.specs.ReadWord.{spare_set}
 use Rattle.model.specs.declared.Reading.{Reading}
-use Rattle.model.specs.declared.ReadAnswer.{ReadAnswer}
-use Rattle.model.specs.declared.ReadAnswer.TheVariants.{At}
 use Rattle.position_theory.specs.Damage.{WithinRadius, UndividedWithinRadius, damaged, Near, residual_of}
 use Rattle.position_theory.specs.Nearest.{IsReading}
 use Rattle.position_theory.specs.ChunkBits.{BitsOfChunks, AreDamaged}
 use Rattle.position_theory.specs.Contradictions.{AgreesIfRead, Mixed, contradicted, unless_contradicted, answer_before}
+use Rattle.model.specs.ReadWord.{ReadAnswer}
+use Rattle.std.specs.Prelude.{Ok}
 
 -- ---- clauses of their own
 
@@ -63,7 +63,7 @@ NearestOfAllowed card received answer =
 -- P3: the bits of both code chunks, of every plain word that is read, on every card
 unfoldable pub CountsBitsOfChunks : (card received : List ℕ) → ReadAnswer → Type 0
 CountsBitsOfChunks card received answer =
-    (r : Reading) → answer ≡ At r
+    (r : Reading) → answer ≡ Ok r
     → BitsOfChunks (code_of card) (place received) r.rule r.chunk1 r.chunk2
 
 -- Damage per chunk: for a sound card, every position on its track and whichever bits of that position's word are damaged, at most t in
@@ -71,7 +71,7 @@ CountsBitsOfChunks card received answer =
 unfoldable pub NeededAsDamaged : (card received : List ℕ) → ReadAnswer → Type 0
 NeededAsDamaged card received answer =
     (position : ℕ) → SoundCard card → position ≤ last_position (code_of card) → WithinRadius (code_of card) position received
-    → (r : Reading) → answer ≡ At r
+    → (r : Reading) → answer ≡ Ok r
     → AreDamaged (code_of card) position received r.rule (bits_value r.chunk1) (bits_value r.chunk2)
 
 -- P6: of every plain word that is read, on every card, the rule's separator reads as the parity of p
@@ -81,7 +81,7 @@ ReadOnlyIfParityAgrees card received answer = AgreesIfRead (code_of card) (seen 
 -- a word mixed from two telegrams whose parities differ is never read
 unfoldable pub MixedNeverRead : (card received : List ℕ) → ReadAnswer → Type 0
 MixedNeverRead card received answer =
-    (i j c : ℕ) → Mixed (code_of card) (place received) i j c → (r : Reading) → answer ≡ At r → ⊥
+    (i j c : ℕ) → Mixed (code_of card) (place received) i j c → (r : Reading) → answer ≡ Ok r → ⊥
 
 -- The words that were read and no longer are: those in which that separator differs, each refused by 17. Every other word, on every card,
 -- is answered as before, with the same values or the same refusal.

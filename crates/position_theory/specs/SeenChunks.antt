@@ -4,9 +4,8 @@ use Rattle.std.specs.Prelude.{◌≡◌, Bool, true, ℕ}
 use Rattle.model.specs.Card.{Code}
 use Rattle.model.specs.Words.{chunk₁, chunk₂}
 use Rattle.model.specs.Reading.{Seen}
-use Rattle.model.specs.declared.Chunk.{Chunk}
-use Rattle.model.specs.declared.Chunk.TheVariants.{Codeword}
 use Rattle.code_theory.specs.Promise.{ReadsWithErasures}
+use Rattle.model.specs.Reading.{Chunk, Codeword}
 
 -- what is seen of a code chunk of which these places are unerased is the answer of a reader, whichever, that keeps the promise over them
 pub record SeesChunk (C : Code) (unerased : ℕ → Bool) (chunk : ℕ → ℕ) (answer : Chunk) : Type 0 where

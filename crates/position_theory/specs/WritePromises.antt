@@ -6,8 +6,7 @@ use Rattle.bits.specs.Places.{differing_bits}
 use Rattle.model.specs.Card.{code_of, SoundCard}
 use Rattle.model.specs.Order.{last_position}
 use Rattle.model.specs.Words.{word_length, word_bytes}
-use Rattle.model.specs.declared.WriteAnswer.{WriteAnswer}
-use Rattle.model.specs.declared.WriteAnswer.TheVariants.{Written}
+use Rattle.model.specs.WriteWord.{WriteAnswer, Written}
 
 -- ---- clauses of their own
 

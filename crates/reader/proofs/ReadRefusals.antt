@@ -17,8 +17,6 @@ use Rattle.model.specs.Card.{Code}
 use Rattle.model.specs.Reading.{seen, rule_named, separator_by, two_ends, rows_9_to_12, rows_seen, residual}
 use Rattle.model.specs.Levels.{residual_unerased}
 use Rattle.model.specs.Words.{word_bits, word_length}
-use Rattle.model.specs.declared.ReadAnswer.{ReadAnswer}
-use Rattle.model.specs.declared.ReadAnswer.TheVariants.{Refused}
 use Rattle.code_theory.specs.Promise.{Sound}
 use Rattle.code_theory.proofs.Promise.{promise, plain_reading}
 use Rattle.code_theory.proofs.ChunkReading.{erasure_reading_ext}
@@ -30,6 +28,8 @@ use Rattle.nearest_position.specs.Received.{PlainWord}
 use Rattle.reader.specs.RuleAnswers.{SeesIn}
 use Rattle.reader.specs.RuleAnswers.{AnswersRule, answer_by}
 use Rattle.nearest_position.specs.Residuals.{residual_in}
+use Rattle.model.specs.ReadWord.{ReadAnswer}
+use Rattle.model.specs.Refusals.{Refused}
 
 -- a plain word, all of whose places are marked
 module _ (C : Code) (sound : Sound C) (received : List ℕ) (x : ReceivedWord) (plain : PlainWord received x) where

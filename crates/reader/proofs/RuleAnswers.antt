@@ -4,26 +4,23 @@
 -- from the codeword. No kind of track is known here. Assumes nothing.
 use mathlib.Core.Path.{◌≡◌, refl, ap, ◌∙◌}
 use mathlib.Core.Bool.{true, false}
-use mathlib.Core.Logic.{⊎_elim}
-use Prim.Native.Nat.{ℕ, ◌≤◌}
-use native.Mathlib.Omega.{arith}
+use Prim.Native.Nat.{ℕ}
 use borrow.Author.Tests.{eq-eqb, ne_eqb}
-use Rattle.bits.proofs.Numbers.{eq_or_ne}
 use Rattle.model.specs.Refusals.{first_refusal, unless_refused}
 use Rattle.model.specs.Reading.{unreadable, number_read, Seen, number_by, separator_by, parity_differs}
 use Rattle.model.specs.Reading.{Range, Rules, rows_9_to_12, rows_seen, range_seen, nearest_in, bits_needed, nearest_reading}
-use Rattle.model.specs.declared.Chunk.TheVariants.{Codeword, Unreadable}
-use Rattle.model.specs.declared.ChunkBits.TheVariants.{Differing, NotRead}
-use Rattle.model.specs.declared.ReadAnswer.TheVariants.{At, Refused}
 use Rattle.reader.specs.declared.chunks.ChunksRead.{ChunksRead}
 use Rattle.nearest_position.specs.declared.scan.Scan.{Scan}
 use Rattle.nearest_position.specs.Scanned.{SearchedRange}
 use Rattle.reader.specs.RuleAnswers.{found_at, answer_by, ChunksReadAs}
+use Rattle.model.specs.Reading.{Codeword, Unreadable}
+use Rattle.std.specs.Prelude.{None, Ok, Some}
+use Rattle.model.specs.Refusals.{Refused}
 
 -- ---- what the chunks read as
 
 module _ (s : Seen) (R : Rules) (residual : ℕ → ℕ) where
-  rule₁_unreadable : s.read₁ ≡ Unreadable → Refused 10 ≡ answer_by R s residual 1
+  pub rule₁_unreadable : s.read₁ ≡ Unreadable → Refused 10 ≡ answer_by R s residual 1
   unfolding answer_by rows_seen rows_9_to_12 unreadable first_refusal unless_refused
   rule₁_unreadable r = rw r
 
@@ -31,17 +28,9 @@ module _ (s : Seen) (R : Rules) (residual : ℕ → ℕ) where
   unfolding answer_by rows_seen rows_9_to_12 unreadable first_refusal unless_refused
   rule₂_unreadable r = rw r
 
-  rule₃_unreadable : s.read₁ ≡ Unreadable → Refused 10 ≡ answer_by R s residual 3
+  pub rule₃_unreadable : s.read₁ ≡ Unreadable → Refused 10 ≡ answer_by R s residual 3
   unfolding answer_by rows_seen rows_9_to_12 unreadable first_refusal unless_refused
   rule₃_unreadable r = rw r
-
-  -- chunk 1, which each rule but 2 names
-  pub first_unreadable : (rule : ℕ) → 1 ≤ rule → rule ≤ 3 → (rule ≡ 2 → ⊥) → s.read₁ ≡ Unreadable → Refused 10 ≡ answer_by R s residual rule
-  first_unreadable rule low high other r =
-      ⊎_elim
-      (λ (one : rule ≡ 1). rw one (rule₁_unreadable r))
-      (λ (not_one : rule ≡ 1 → ⊥). let three : rule ≡ 3 = omega arith in rw three (rule₃_unreadable r))
-      (eq_or_ne rule 1)
 
   module _ (p e : ℕ) (r : s.read₁ ≡ Codeword p e) where
     pub rule₃_second_unreadable : s.read₂ ≡ Unreadable → Refused 10 ≡ answer_by R s residual 3
@@ -53,16 +42,16 @@ module _ (s : Seen) (R : Rules) (residual : ℕ → ℕ) where
     rule₃_differs q f r' differ = rw (r, r', ne_eqb p q differ)
 
 module _ (s : Seen) (p e : ℕ) where
-  pub rule₁_read : s.read₁ ≡ Codeword p e → ChunksReadAs s 1 (record { number = p; chunk1 = Differing e; chunk2 = NotRead })
+  pub rule₁_read : s.read₁ ≡ Codeword p e → ChunksReadAs s 1 (record { number = p; chunk1 = Some e; chunk2 = None })
   unfolding rows_seen rows_9_to_12 unreadable number_by number_read bits_needed first_refusal
   rule₁_read r = record { number_is = rw r; chunk₁_is = rw r; chunk₂_is = refl; rows_left = λ R. rw r }
 
-  pub rule₂_read : s.read₂ ≡ Codeword p e → ChunksReadAs s 2 (record { number = p; chunk1 = NotRead; chunk2 = Differing e })
+  pub rule₂_read : s.read₂ ≡ Codeword p e → ChunksReadAs s 2 (record { number = p; chunk1 = None; chunk2 = Some e })
   unfolding rows_seen rows_9_to_12 unreadable number_by number_read bits_needed first_refusal
   rule₂_read r = record { number_is = rw r; chunk₁_is = refl; chunk₂_is = rw r; rows_left = λ R. rw r }
 
   pub rule₃_read : (q f : ℕ) → s.read₁ ≡ Codeword p e → s.read₂ ≡ Codeword q f → p ≡ q
-      → ChunksReadAs s 3 (record { number = p; chunk1 = Differing e; chunk2 = Differing f })
+      → ChunksReadAs s 3 (record { number = p; chunk1 = Some e; chunk2 = Some f })
   unfolding rows_seen rows_9_to_12 unreadable number_by number_read bits_needed first_refusal
   rule₃_read q f r r' same =
       record { number_is = rw r; chunk₁_is = rw r; chunk₂_is = rw r'; rows_left = λ R. rw (r, r', eq-eqb p q same) }
@@ -71,7 +60,7 @@ module _ (s : Seen) (p e : ℕ) where
 
 module _ (R : Rules) (s : Seen) (residual : ℕ → ℕ) (rule : ℕ) (read : ChunksRead) (as_read : ChunksReadAs s rule read) where
   answer_of_search : (range : Range) (scan : Scan) → SearchedRange residual range scan
-      → found_at scan rule read ≡ At (nearest_reading residual s rule range)
+      → found_at scan rule read ≡ Ok (nearest_reading residual s rule range)
   unfolding found_at nearest_reading nearest_in
   answer_of_search range scan searched =
       let scanned = searched.scanned in
@@ -87,7 +76,7 @@ module _ (R : Rules) (s : Seen) (residual : ℕ → ℕ) (rule : ℕ) (read : Ch
     contradicted differs = rw (as_read.rows_left R, block, differs)
 
     agreed : parity_differs (separator_by s rule) read.number ≡ false
-        → At (nearest_reading residual s rule (range_seen R s rule)) ≡ answer_by R s residual rule
+        → Ok (nearest_reading residual s rule (range_seen R s rule)) ≡ answer_by R s residual rule
     unfolding answer_by first_refusal unless_refused
     agreed agrees = rw (as_read.rows_left R, block, agrees)
 
@@ -96,5 +85,5 @@ module _ (R : Rules) (s : Seen) (residual : ℕ → ℕ) (rule : ℕ) (read : Ch
         → SearchedRange residual (R.range rule read.number) scan → found_at scan rule read ≡ answer_by R s residual rule
     answered agrees scan searched =
         answer_of_search (R.range rule read.number) scan searched
-        ∙ ap (λ (p : ℕ). At (nearest_reading residual s rule (R.range rule p))) as_read.number_is
+        ∙ ap (λ (p : ℕ). Ok (nearest_reading residual s rule (R.range rule p))) as_read.number_is
         ∙ agreed agrees

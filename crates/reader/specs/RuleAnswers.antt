@@ -10,13 +10,17 @@ use Rattle.model.specs.Words.{chunk₁, chunk₂}
 use Rattle.model.specs.Reading.{Seen, names_first, names_second, number_by, separator_by, parity_differs, Rules, rows_seen, range_seen}
 use Rattle.model.specs.Reading.{bits_needed, nearest_reading}
 use Rattle.model.specs.Levels.{erasure_reading}
-use Rattle.model.specs.declared.ReadAnswer.{ReadAnswer}
-use Rattle.model.specs.declared.ReadAnswer.TheVariants.{At, Refused}
 use Rattle.reader.specs.declared.chunks.ChunksRead.{ChunksRead}
-use Rattle.reader.specs.declared.chunks.NamedChunks.{NamedChunks}
-use Rattle.reader.specs.declared.chunks.NamedChunks.TheVariants.{Refused as ChunksRefused, Read}
+use Rattle.model.specs.declared.Refusal.{Refusal}
 use Rattle.nearest_position.specs.declared.received.ReceivedWord.{ReceivedWord}
 use Rattle.nearest_position.specs.declared.scan.Scan.{Scan}
+use Rattle.model.specs.ReadWord.{ReadAnswer}
+use Rattle.std.specs.Prelude.{Result, Ok, Err}
+use Rattle.model.specs.Refusals.{Refused}
+
+-- the refusal of a chunk that reads as no codeword
+abbrev pub unreadable_chunk : Refusal
+unreadable_chunk = record { number = 10 }
 
 -- s is what is seen of the code chunks of x
 pub record SeesIn (C : Code) (x : ReceivedWord) (s : Seen) : Type 0 where
@@ -26,13 +30,13 @@ pub record SeesIn (C : Code) (x : ReceivedWord) (s : Seen) : Type 0 where
 -- what is answered of a search that has come to the last position that the rule allows, with the bits that either code chunk needed
 unfoldable pub found_at : Scan → (rule : ℕ) → ChunksRead → ReadAnswer
 found_at s rule read =
-    At (record { position = s.best; residual = s.least; rule = rule; chunk1 = read.chunk1; chunk2 = read.chunk2 })
+    Ok (record { position = s.best; residual = s.least; rule = rule; chunk1 = read.chunk1; chunk2 = read.chunk2 })
 
 -- what the rule with this number answers of what is seen of a word: refusals 9 to 12 and 17, or the nearest position that it allows by
 -- this residual
 unfoldable pub answer_by : Rules → Seen → (residual : ℕ → ℕ) (rule : ℕ) → ReadAnswer
 answer_by R s residual rule =
-    unless_refused (first_refusal (rows_seen R s rule)) Refused (At (nearest_reading residual s rule (range_seen R s rule)))
+    unless_refused (first_refusal (rows_seen R s rule)) Refused (Ok (nearest_reading residual s rule (range_seen R s rule)))
 
 -- an answer by the rule with this number, whatever else is seen of the word: the rule goes by the code chunks, and by what the rule's
 -- separator reads
@@ -53,7 +57,7 @@ pub record ChunksReadAs (s : Seen) (rule : ℕ) (read : ChunksRead) : Type 0 whe
 
 -- what the chunks of x that the rule names read as, whatever else is seen of it: the rule's answer is this refusal, on every kind of
 -- track; or they are read, as a codeword of the code
-unfoldable pub ReadsNamed : Code → ReceivedWord → (rule : ℕ) → NamedChunks → Type 0
-ReadsNamed C x rule (ChunksRefused refusal) =
-    (s : Seen) → SeesIn C x s → (R : Rules) (residual : ℕ → ℕ) → Refused refusal ≡ answer_by R s residual rule
-ReadsNamed C x rule (Read read) = (read.number ≤ last_codeword C) × ((s : Seen) → SeesIn C x s → ChunksReadAs s rule read)
+unfoldable pub ReadsNamed : Code → ReceivedWord → (rule : ℕ) → Result ChunksRead Refusal → Type 0
+ReadsNamed C x rule (Err refusal) =
+    (s : Seen) → SeesIn C x s → (R : Rules) (residual : ℕ → ℕ) → ◌≡◌ {A = ReadAnswer} (Err refusal) (answer_by R s residual rule)
+ReadsNamed C x rule (Ok read) = (read.number ≤ last_codeword C) × ((s : Seen) → SeesIn C x s → ChunksReadAs s rule read)

@@ -6,52 +6,52 @@ ghost use Rattle.bits.specs.Places.{place};
 ghost use Rattle.model.specs.Decoded.{meaning};
 ghost use Rattle.model.specs.Reading.{majority, seen, rule_of, separator_of, parity_differs};
 ghost use Rattle.position.specs.LayoutOf.{LayoutOf};
+ghost use Rattle.nearest_position.specs.RuleNumbers.{rule_number, number_or_0};
 ghost use Rattle.reader.specs.Naming.{Names, NamesOf};
 
 use model::DecodedCode;
+use nearest_position::rule::Rule;
 use position::layout::Layout;
 use position::places;
 
-// A rule by its number, or 0 for none, and what the rule's separator reads.
+// A rule, and what the rule's separator reads.
 #[derive(Clone, Copy)]
 pub struct NamedRule {
-    pub rule: u32,
+    pub rule: Rule,
     pub separator: u32,
 }
 
-// The number of the rule that three separators name: 1 for b b c, 2 for b c c, 3 for b b b, and 0 for b c b.
-fn rule_of(s1: u32, s2: u32, s3: u32) -> u32
-    ensures { (result ≡ rule_of s1 s2 s3) × (result ≤ 3) }
+// The rule that three separators name: rule 1 for b b c, 2 for b c c, 3 for b b b, and none for b c b.
+fn rule_of(s1: u32, s2: u32, s3: u32) -> Option<Rule>
+    ensures { number_or_0 result ≡ rule_of s1 s2 s3 }
 {
-    if s1 == s2 {
-        if s2 == s3 {
-            return 3;
-        }
-        return 1;
+    match (s1 == s2, s2 == s3) {
+        (true, false) => Some(Rule::First),
+        (false, true) => Some(Rule::Second),
+        (true, true) => Some(Rule::Third),
+        (false, false) => None,
     }
-    if s2 == s3 {
-        return 2;
-    }
-    0
 }
 
 // What the rule's separator reads: separator 3 by rule 2, separator 1 by any other.
-fn separator_of(rule: u32, s1: u32, s3: u32) -> u32
-    ensures { result ≡ separator_of rule s1 s3 }
+fn separator_of(rule: Rule, s1: u32, s3: u32) -> u32
+    ensures { result ≡ separator_of (rule_number rule) s1 s3 }
 {
-    if rule == 2 {
-        return s3;
+    match rule {
+        Rule::Second => s3,
+        Rule::First | Rule::Third => s1,
     }
-    s1
 }
 
 // What three separators name, by what they read.
-pub fn named_by(s1: u32, s2: u32, s3: u32) -> NamedRule
+pub fn named_by(s1: u32, s2: u32, s3: u32) -> Option<NamedRule>
     ensures { Names s1 s2 s3 result }
 {
-    let rule = rule_of(s1, s2, s3);
-    let separator = separator_of(rule, s1, s3);
-    NamedRule { rule, separator }
+    let rule = rule_of(s1, s2, s3)?;
+    Some(NamedRule {
+        rule,
+        separator: separator_of(rule, s1, s3),
+    })
 }
 
 // What the separator of `distance` bits from place `at` on reads: 1 if more than half its bits are 1, else 0.
@@ -59,15 +59,11 @@ fn separator_at(w: [u8; 40], at: u32, distance: u32) -> u32
     requires { (at + distance ≤ 320) × (distance ≤ 64) }
     ensures { result ≡ majority distance (from_place at (place w)) }
 {
-    if distance < 2 * places::ones_from(w, at, distance) {
-        1
-    } else {
-        0
-    }
+    u32::from(distance < 2 * places::ones_from(w, at, distance))
 }
 
 // What the separators of a plain word name, by its bits.
-pub fn named_rule(code: DecodedCode, at: Layout, bits: [u8; 40]) -> NamedRule
+pub fn named_rule(code: DecodedCode, at: Layout, bits: [u8; 40]) -> Option<NamedRule>
     requires { LayoutOf (meaning code) at }
     ensures { NamesOf (seen (meaning code) (place bits)) result }
 {

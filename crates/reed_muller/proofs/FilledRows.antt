@@ -67,9 +67,6 @@ kept_parts b i l =
 kept_first : (b i : ℕ) (l : List ℕ) → length (kept b (take i l)) ≤ length (kept b l)
 kept_first b i l = omega (arith, kept_parts b i l)
 
-pub kept_last : (b i : ℕ) (l : List ℕ) → length (kept b (drop i l)) ≤ length (kept b l)
-kept_last b i l = omega (arith, kept_parts b i l)
-
 -- one entry more is kept, or left out
 module _ (b i : ℕ) (l : List ℕ) (inside : i < length l) where
   entry_more : kept b (take (i + 1) l) ≡ kept b (take i l) ++ kept b (get_or l i 0 ∷ [])

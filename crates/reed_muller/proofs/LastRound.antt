@@ -6,7 +6,7 @@ use native.Mathlib.Nat.{mod-eq_of_lt}
 use native.Mathlib.Omega.{arith}
 use lib.Bits.{bit_and, bit_xor, and_mask}
 use lib.Count.{ones}
-use lib.ListN.{get_or}
+use mathlib.Core.List.{[], ◌∷◌}
 use lib.Pow.{pow_pos}
 use Rattle.bits.specs.Sums.{sum_below, distance, difference}
 use Rattle.bits.specs.Places.{bit, weight}
@@ -14,12 +14,11 @@ use Rattle.bits.specs.Counting.{those}
 use Rattle.bits.proofs.Sums.{sum_ext, sum_add, sum_of_ones}
 use Rattle.bits.proofs.Binary.{bit_bit, weight_zero, weight_ones, ones_xor}
 use Rattle.bits.proofs.Shifts.{bit_all_ones}
-use Rattle.model.specs.ReedMuller.{sets_of, sets_up_to, count_of_sets, product_row, classes, votes_for_one}
+use Rattle.model.specs.ReedMuller.{sets_of, product_row, classes, votes_for_one}
 use Rattle.reed_muller_theory.proofs.Classes.{count_of_classes}
 use Rattle.reed_muller_theory.proofs.ClassSums.{product_of_none, class_sum_alone}
-use Rattle.reed_muller.specs.Table.{sets_before}
 use Rattle.reed_muller.proofs.ClassVotes.{votes_counted}
-use Rattle.reed_muller.proofs.RoundSteps.{RoundAt, round_starts, round_ends, most_for_one, not_most_for_one, not_voted, voted_for}
+use Rattle.reed_muller.proofs.RoundSteps.{RoundMet, round_starts, round_ends, most_for_one, not_most_for_one, not_voted, voted_for}
 use Rattle.reed_muller.proofs.VotedDown.{VotedDown, voting_goes_on}
 
 all_classes : (m : ℕ) → classes m 0 ≡ 2 ^ m
@@ -46,38 +45,27 @@ module _ (m left : ℕ) (six : m ≤ 6) (narrow : left < 2 ^ 2 ^ m) where
       one_of_two p l = rw (bit_all_ones (2 ^ m) p l) (omega (arith, bit_bit left p))
 
 module _ (r m chunk left rows : ℕ) (six : m ≤ 6) (here : VotedDown r m chunk 1 left rows) where
-  begun : RoundAt m 0 left rows (0 + 1) left rows
-  unfolding sum_below weight those sets_of sets_up_to count_of_sets sets_before
-  begun = round_starts m 0 left rows here.narrow (omega arith)
-
   -- the one set of this size
-  empty : get_or (sets_up_to 6 0) 0 0 ≡ 0
-  unfolding sum_below weight those sets_of sets_up_to
-  empty = refl
-
-  own : get_or (sets_up_to 6 0) 0 0 < 2 ^ m
-  own = rw empty (pow_pos m)
+  begun : RoundMet m 0 left rows (0 ∷ []) left rows
+  unfolding sum_below weight those sets_of
+  begun = round_starts m 0 left rows here.narrow
 
   twice_ones : 2 * ones left ≡ 2 * votes_for_one m 0 (bit left)
   twice_ones = ap (λ (v : ℕ). 2 * v) (sym (votes_of_none m left six here.narrow))
 
-  ended : (left' found : ℕ) → RoundAt m 0 left rows 0 left' found → VotedDown r m chunk 0 left' found
-  unfolding sets_before
+  ended : (left' found : ℕ) → RoundMet m 0 left rows [] left' found → VotedDown r m chunk 0 left' found
   ended left' found met =
-      let done = round_ends m 0 left rows 0 left' found six met refl in
-      voting_goes_on r m chunk 0 left rows here left' found done.0 done.1
+      let done = round_ends m 0 left rows left' found six met in voting_goes_on r m chunk 0 left rows here left' found done.0 done.1
 
   pub taken_off : 2 ^ m < 2 * ones left → VotedDown r m chunk 0 (bit_xor left (2 ^ 2 ^ m - 1)) (rows * 2 + 1)
-  unfolding sets_before
   taken_off most =
       ended (bit_xor left (2 ^ 2 ^ m - 1)) (rows * 2 + 1)
-      (voted_for m 0 left rows 0 left rows begun (omega arith) own
-      (rw empty (most_for_one m 0 (bit left) (2 * ones left) (2 ^ m) twice_ones (sym (all_classes m)) most))
-      (2 ^ 2 ^ m - 1) (rw empty (sym (product_of_none m))))
+      (voted_for m 0 left rows [] 0 left rows begun (pow_pos m)
+      (most_for_one m 0 (bit left) (2 * ones left) (2 ^ m) twice_ones (sym (all_classes m)) most)
+      (2 ^ 2 ^ m - 1) (sym (product_of_none m)))
 
   pub not_taken_off : 2 * ones left ≤ 2 ^ m → VotedDown r m chunk 0 left (rows * 2)
-  unfolding sets_before
-  not_taken_off no-most =
+  not_taken_off no_most =
       ended left (rows * 2)
-      (not_voted m 0 left rows 0 left rows begun (omega arith) own
-      (rw empty (not_most_for_one m 0 (bit left) (2 * ones left) (2 ^ m) twice_ones (sym (all_classes m)) no-most)))
+      (not_voted m 0 left rows [] 0 left rows begun (pow_pos m)
+      (not_most_for_one m 0 (bit left) (2 * ones left) (2 ^ m) twice_ones (sym (all_classes m)) no_most))

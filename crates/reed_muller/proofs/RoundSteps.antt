@@ -1,33 +1,25 @@
--- One round of votes, set by set from the table's end of that size down to its start: what is left of y and what was found stand for
--- the sets met so far. Assumes nothing.
-use mathlib.Core.Path.{◌≡◌, refl, sym, ap, ◌∙◌}
-use mathlib.Core.List.{List, [], ◌∷◌}
+-- One round of votes, set by set from the end of those of one size in the table down to their start: what is left of y and what was
+-- found stand for the sets met so far. Assumes nothing.
+use Rattle.std.proofs.Common.{◌≡◌, refl, sym, ap, ◌∙◌, List, [], ◌∷◌, ◌++◌, ℕ, zero, suc, ◌+◌, ◌-◌, ◌*◌, ◌%◌, ◌^◌, ◌≤◌, ◌<◌, length, get_or, append_assoc, length-append, arith}
+use Rattle.std.proofs.lemmas.List.{append-nil, get_or_at}
 use mathlib.Core.Logic.{⊎_elim}
-use Prim.Native.Nat.{ℕ, zero, suc, ◌+◌, ◌-◌, ◌*◌, ◌%◌, ◌^◌, ◌≤◌, ◌<◌}
-use native.Mathlib.Nat.{eq-zero-or-pos, le_dest, mul-le-mul_left}
-use native.Mathlib.Numerals.{add-one}
-use native.Mathlib.Omega.{arith}
+use native.Mathlib.Nat.{eq-zero-or-pos, mul-le-mul_left}
 use lib.Bits.{bit_xor, xor_lt}
 use lib.Dec.{eqb}
-use lib.ListN.{length, get_or, drop, length-append}
 use lib.Pow.{pow_mono}
-use lib.Seq.{drop-cons, drop-length, drop-append_seam, get_or-append-add}
 use borrow.Author.Tests.{lt-ltb, le-ltb, eqb-true}
 use Rattle.bits.specs.Sums.{sum_over, difference}
 use Rattle.bits.specs.Places.{bit, weight}
-use Rattle.bits.proofs.Sums.{sum_mono}
 use Rattle.bits.proofs.Binary.{bit_bit, bit_xor_lem, weight_zero, weight_wider}
-use Rattle.bits.proofs.Counting.{those_pass, kept, kept_below, kept_above}
-use Rattle.model.specs.ReedMuller.{product, sets_of, sets_up_to, count_of_sets, product_row, class_sum, classes, votes_for_one}
+use Rattle.bits.proofs.Counting.{those_pass, kept, kept_below, kept_above, kept_append}
+use Rattle.model.specs.ReedMuller.{product, sets_of, sets_up_to, count_of_sets, product_row, classes, votes_for_one}
 use Rattle.model.specs.ReedMuller.{coefficient, vote_round}
-use Rattle.reed_muller_theory.proofs.OrderLimits.{count_grows}
 use Rattle.reed_muller_theory.proofs.Vote.{vote_bit}
 use Rattle.reed_muller_theory.proofs.ReedMullerDistance.{classes_of_largest}
 use Rattle.reed_muller_theory.proofs.Polynomials.{product_row_bit, product_row_narrow}
-use Rattle.reed_muller_theory.proofs.FewerVariables.{kept_sets_of, kept_sets}
-use Rattle.reed_muller.specs.Table.{sets_before}
+use Rattle.reed_muller_theory.proofs.FewerVariables.{kept_sets_of}
 use Rattle.reed_muller.specs.RoundResult.{bits_then, rows_after, LeftBy}
-use Rattle.reed_muller.proofs.FilledRows.{kept_last}
+use Rattle.reed_muller.proofs.Tables.{set_narrow}
 
 -- ---- bits of the entries of a list
 
@@ -51,136 +43,120 @@ pub not_most_for_one : (m S : ℕ) (y : ℕ → ℕ) (twice classes' : ℕ) → 
 unfolding coefficient
 not_most_for_one m S y twice classes' is all no_more = rw (le-ltb (classes m S) (2 * votes_for_one m S y) (omega arith))
 
-sum_bit : (m S : ℕ) (y : ℕ → ℕ) (c : ℕ) → class_sum m S y c < 2
-unfolding class_sum
-sum_bit m S y c = omega arith
+-- ---- the sets of one size
 
--- no more classes sum to 1 than there are
-pub votes_bound : (m S : ℕ) (y : ℕ → ℕ) → votes_for_one m S y ≤ classes m S
-unfolding votes_for_one classes
-votes_bound m S y = sum_mono (2 ^ m) (λ c l. at_most (product S c) (class_sum m S y c) (sum_bit m S y c))
-  where
-    at_most : (a b : ℕ) → b < 2 → a * b ≤ a
-    at_most a b h = let m : a * b ≤ a * 1 = mul-le-mul_left a (omega arith) in omega arith
+module _ (s S : ℕ) (before after : List ℕ) (is : before ++ (S ∷ after) ≡ sets_of 6 s) where
+  inside : length before < length (sets_of 6 s)
+  inside = omega (arith, ap length is, length-append before (S ∷ after))
 
--- ---- the sets of one size in the table
+  here : get_or (sets_of 6 s) (length before) 0 ≡ S
+  here = rw (← is) (get_or_at before S after 0 (length before) refl)
 
--- they stand behind those of fewer variables
-block : (s : ℕ) → drop (sets_before s) (sets_up_to 6 s) ≡ sets_of 6 s
-unfolding sets_before count_of_sets sets_up_to
-block zero = refl
-block (suc s) = drop-append_seam (sets_up_to 6 s) (sets_of 6 (suc s))
+  narrow_set : S < 64
+  narrow_set = rw here at (set_narrow s (length before) inside)
 
--- each of them has s variables
-size_of_entry : (s i : ℕ) → sets_before s ≤ i → i < count_of_sets s 6 → weight 6 (get_or (sets_up_to 6 s) i 0) ≡ s
-unfolding sets_before count_of_sets sets_up_to sets_of
-size_of_entry zero i low high = eqb-true _ 0 (those_pass (λ S. eqb (weight 6 S) 0) (2 ^ 6) i high)
-size_of_entry (suc s) i low high =
-    let (j, is) = le_dest low in
-    let inside : j < length (sets_of 6 (suc s)) = omega (arith, length-append (sets_up_to 6 s) (sets_of 6 (suc s))) in
-    rw (← is, get_or-append-add (sets_up_to 6 s) (sets_of 6 (suc s)) j 0)
-    (eqb-true _ (suc s) (those_pass (λ S. eqb (weight 6 S) (suc s)) (2 ^ 6) j inside))
+  -- each of them has s variables
+  size_of_set : weight 6 S ≡ s
+  unfolding sets_of
+  size_of_set = rw here at (eqb-true _ s (those_pass (λ S. eqb (weight 6 S) s) (2 ^ 6) (length before) inside))
 
-pub before_all : (s : ℕ) → sets_before s ≤ count_of_sets s 6
-unfolding sets_before
-before_all zero = omega arith
-before_all (suc s) = count_grows s (suc s) 6 (omega arith)
+-- they are not more than the rows of order s
+few_sets : (m s : ℕ) → length (sets_of m s) ≤ count_of_sets s m
+unfolding count_of_sets sets_up_to
+few_sets m zero = omega arith
+few_sets m (suc s) = omega (arith, length-append (sets_up_to m s) (sets_of m (suc s)))
 
--- and so it is not empty where s is not 0
-pub entry_not_empty : (s i : ℕ) → 0 < s → sets_before s ≤ i → i < count_of_sets s 6 → 0 < get_or (sets_up_to 6 s) i 0
-entry_not_empty s i more low high =
-    ⊎_elim (λ (none : get_or (sets_up_to 6 s) i 0 ≡ 0). absurd (omega (arith, size_of_entry s i low high, ap (weight 6) none, weight_zero 6)))
-    (λ (some : 0 < get_or (sets_up_to 6 s) i 0). some)
-    (eq-zero-or-pos (get_or (sets_up_to 6 s) i 0))
+-- ---- the sets met so far, from the end of those of one size
 
--- so one that is a set of the m variables has 2^(m-s) classes
-module _ (m s i : ℕ) (six : m ≤ 6) (order : s ≤ m) (low : sets_before s ≤ i) (high : i < count_of_sets s 6)
-    (own : get_or (sets_up_to 6 s) i 0 < 2 ^ m) where
-  pub entry_size : weight m (get_or (sets_up_to 6 s) i 0) ≡ s
-  entry_size = sym (weight_wider m 6 (get_or (sets_up_to 6 s) i 0) six own) ∙ size_of_entry s i low high
-
-  pub entry_classes : classes m (get_or (sets_up_to 6 s) i 0) ≡ 2 ^ (m - s)
-  entry_classes = classes_of_largest s m order (get_or (sets_up_to 6 s) i 0) own entry_size
-
--- ---- the sets met so far, from the table's place `at` on
-
-abbrev pub met : (m s at : ℕ) → List ℕ
-met m s at = kept (2 ^ m) (drop at (sets_up_to 6 s))
-
-pub record RoundAt (m s y rows at left found : ℕ) : Type 0 where
-  pub low : sets_before s ≤ at
-  pub high : at ≤ count_of_sets s 6
+-- `rest` are those that are left to look at
+pub record RoundMet (m s y rows : ℕ) (rest : List ℕ) (left found : ℕ) : Type 0 where
+  pub met : List ℕ
+  pub parts : rest ++ met ≡ sets_of 6 s
   pub narrow : left < 2 ^ 2 ^ m
-  pub bits : (p : ℕ) → p < 2 ^ m → bit left p ≡ (bit y p + sum_over (met m s at) (λ S. coefficient m (bit y) S * product S p)) % 2
-  pub counted : found ≡ bits_then (met m s at) (coefficient m (bit y)) rows
+  pub bits : (p : ℕ) → p < 2 ^ m
+      → bit left p ≡ (bit y p + sum_over (kept (2 ^ m) met) (λ S. coefficient m (bit y) S * product S p)) % 2
+  pub counted : found ≡ bits_then (kept (2 ^ m) met) (coefficient m (bit y)) rows
 
 module _ (m s y rows : ℕ) where
-  -- none at the end of the sets of that size
-  pub round_starts : y < 2 ^ 2 ^ m → sets_before s ≤ count_of_sets s 6 → RoundAt m s y rows (count_of_sets s 6) y rows
-  unfolding count_of_sets kept sum_over bits_then
-  round_starts narrow low =
-      let none : drop (count_of_sets s 6) (sets_up_to 6 s) ≡ [] = drop-length (sets_up_to 6 s) in
-      record {
-        low = low;
-        high = omega arith;
-        narrow = narrow;
-        bits = λ p l. rw none (omega (arith, bit_bit y p));
-        counted = rw none;
-      }
+  -- none at first
+  pub round_starts : y < 2 ^ 2 ^ m → RoundMet m s y rows (sets_of 6 s) y rows
+  unfolding kept sum_over bits_then
+  round_starts narrow =
+      record { met = []; parts = append-nil (sets_of 6 s); narrow = narrow; bits = λ p l. omega (arith, bit_bit y p); counted = refl }
 
-  -- all at their start
-  pub round_ends : (at left found : ℕ) → m ≤ 6 → RoundAt m s y rows at left found → at ≡ sets_before s
-      → LeftBy m s y left × (found ≡ rows_after m s y rows)
+  -- all at the end
+  pub round_ends : (left found : ℕ) → m ≤ 6 → RoundMet m s y rows [] left found → LeftBy m s y left × (found ≡ rows_after m s y rows)
   unfolding vote_round
-  round_ends at left found six here done =
-      let all : met m s at ≡ sets_of m s = rw done (ap (kept (2 ^ m)) (block s) ∙ kept_sets_of m 6 s six) in
+  round_ends left found six here =
+      let all : kept (2 ^ m) here.met ≡ sets_of m s = rw here.parts (kept_sets_of m 6 s six) in
       (record { narrow = here.narrow; bits = λ p l. rw all at (here.bits p l) }, rw all at here.counted)
 
-  -- one set down
-  module _ (at left found : ℕ) (here : RoundAt m s y rows (at + 1) left found) (low : sets_before s ≤ at) where
-    abbrev S : ℕ
-    S = get_or (sets_up_to 6 s) at 0
+  -- one set more
+  module _ (rest : List ℕ) (S left found : ℕ) (here : RoundMet m s y rows (rest ++ (S ∷ [])) left found) where
+    more : rest ++ (S ∷ here.met) ≡ sets_of 6 s
+    more = sym (append_assoc rest (S ∷ []) here.met) ∙ here.parts
 
-    next : drop at (sets_up_to 6 s) ≡ S ∷ drop (at + 1) (sets_up_to 6 s)
-    unfolding count_of_sets
-    next = rw (add-one at) (drop-cons (sets_up_to 6 s) at 0 (omega (arith, here.high)))
+    size : weight 6 S ≡ s
+    size = size_of_set s S rest here.met more
+
+    pub narrow : S < 64
+    narrow = narrow_set s S rest here.met more
+
+    -- it is not empty where s is not 0
+    pub not_empty : 0 < s → 0 < S
+    not_empty some =
+        ⊎_elim (λ (none : S ≡ 0). absurd (omega (arith, size, ap (weight 6) none, weight_zero 6))) (λ (one : 0 < S). one) (eq-zero-or-pos S)
 
     -- a set with another variable is passed over
-    pub set_passed : 2 ^ m ≤ S → RoundAt m s y rows at left found
+    pub set_passed : 2 ^ m ≤ S → RoundMet m s y rows rest left found
     set_passed other =
-        let same : met m s at ≡ met m s (at + 1) = ap (kept (2 ^ m)) next ∙ kept_above (2 ^ m) S (drop (at + 1) (sets_up_to 6 s)) other in
+        let same : kept (2 ^ m) (S ∷ here.met) ≡ kept (2 ^ m) here.met = kept_above (2 ^ m) S here.met other in
         record {
-          low = low;
-          high = omega (arith, here.high);
+          met = S ∷ here.met;
+          parts = more;
           narrow = here.narrow;
           bits = λ p l. rw same (here.bits p l);
           counted = rw same here.counted;
         }
 
     module _ (own : S < 2 ^ m) where
-      grown : met m s at ≡ S ∷ met m s (at + 1)
-      grown = ap (kept (2 ^ m)) next ∙ kept_below (2 ^ m) S (drop (at + 1) (sets_up_to 6 s)) own
+      grown : kept (2 ^ m) (S ∷ here.met) ≡ S ∷ kept (2 ^ m) here.met
+      grown = kept_below (2 ^ m) S here.met own
+
+      -- so it has 2^(m-s) classes
+      pub own_size : m ≤ 6 → weight m S ≡ s
+      own_size six = sym (weight_wider m 6 S six own) ∙ size
+
+      pub classes_are : m ≤ 6 → s ≤ m → classes m S ≡ 2 ^ (m - s)
+      classes_are six order = classes_of_largest s m order S own (own_size six)
 
       -- there is room for one more bit
       pub found_bound : m ≤ 6 → (rows + 1) * 2 ^ count_of_sets s m ≤ 4096 → 2 * found + 2 ≤ 4096
-      unfolding count_of_sets
       found_bound six room =
-          let bound : found + 1 ≤ (rows + 1) * 2 ^ length (met m s (at + 1)) =
-          rw here.counted (bits_bound (met m s (at + 1)) (coefficient m (bit y)) rows (vote_bit m (bit y))) in
-          let longer : suc (length (met m s (at + 1))) ≤ count_of_sets s m =
-          omega (arith, ap length grown, kept_last (2 ^ m) at (sets_up_to 6 s), ap length (kept_sets m 6 s six)) in
-          let more : (rows + 1) * 2 ^ suc (length (met m s (at + 1))) ≤ (rows + 1) * 2 ^ count_of_sets s m =
+          let bound : found + 1 ≤ (rows + 1) * 2 ^ length (kept (2 ^ m) here.met) =
+          rw here.counted (bits_bound (kept (2 ^ m) here.met) (coefficient m (bit y)) rows (vote_bit m (bit y))) in
+          let longer : suc (length (kept (2 ^ m) here.met)) ≤ count_of_sets s m =
+          omega (
+            arith,
+            ap length grown,
+            ap length (kept_append (2 ^ m) rest (S ∷ here.met)),
+            length-append (kept (2 ^ m) rest) (kept (2 ^ m) (S ∷ here.met)),
+            ap (λ (l : List ℕ). length (kept (2 ^ m) l)) more,
+            ap length (kept_sets_of m 6 s six),
+            few_sets m s,
+          ) in
+          let room_left : (rows + 1) * 2 ^ suc (length (kept (2 ^ m) here.met)) ≤ (rows + 1) * 2 ^ count_of_sets s m =
           mul-le-mul_left (rows + 1) (pow_mono longer) in
-          let twice : 2 ^ suc (length (met m s (at + 1))) ≡ 2 * 2 ^ length (met m s (at + 1)) = omega arith in
-          omega (arith, bound, rw twice at more, room)
+          let twice : 2 ^ suc (length (kept (2 ^ m) here.met)) ≡ 2 * 2 ^ length (kept (2 ^ m) here.met) = omega arith in
+          omega (arith, bound, rw twice at room_left, room)
 
       -- a set that is not voted for
-      pub not_voted : coefficient m (bit y) S ≡ 0 → RoundAt m s y rows at left (found * 2)
+      pub not_voted : coefficient m (bit y) S ≡ 0 → RoundMet m s y rows rest left (found * 2)
       unfolding sum_over bits_then
       not_voted none =
           record {
-            low = low;
-            high = omega (arith, here.high);
+            met = S ∷ here.met;
+            parts = more;
             narrow = here.narrow;
             bits = λ p l. rw (grown, none) (here.bits p l ∙ ap (λ (x : ℕ). x % 2) (omega arith));
             counted = rw (grown, none) (omega (arith, here.counted));
@@ -188,19 +164,19 @@ module _ (m s y rows : ℕ) where
 
       -- a set that is
       pub voted_for : coefficient m (bit y) S ≡ 1 → (row : ℕ) → row ≡ product_row m S
-          → RoundAt m s y rows at (bit_xor left row) (found * 2 + 1)
+          → RoundMet m s y rows rest (bit_xor left row) (found * 2 + 1)
       unfolding sum_over bits_then
       voted_for one row is =
           record {
-            low = low;
-            high = omega (arith, here.high);
+            met = S ∷ here.met;
+            parts = more;
             narrow = xor_lt (2 ^ m) left row here.narrow (rw is (product_row_narrow m S));
             bits = λ p l.
                 rw (grown, one)
                 (bit_xor_lem left row p
                 ∙ ap (difference (bit left p)) (ap (λ (x : ℕ). bit x p) is ∙ product_row_bit m S p l)
                 ∙ ap (λ (x : ℕ). difference x (product S p)) (here.bits p l)
-                ∙ one_more (bit y p) (sum_over (met m s (at + 1)) (λ T. coefficient m (bit y) T * product T p)) (product S p));
+                ∙ one_more (bit y p) (sum_over (kept (2 ^ m) here.met) (λ T. coefficient m (bit y) T * product T p)) (product S p));
             counted = rw (grown, one) (omega (arith, here.counted));
           }
         where

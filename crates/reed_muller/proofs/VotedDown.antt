@@ -4,13 +4,13 @@ use mathlib.Core.Path.{◌≡◌, refl, sym, ap, ap₂, ◌∙◌, fun_ext}
 use mathlib.Core.Bool.{true, cond}
 use mathlib.Core.List.{List, [], ◌∷◌, ◌++◌}
 use Prim.Native.Nat.{ℕ, zero, suc, ◌+◌, ◌-◌, ◌*◌, ◌/◌, ◌%◌, ◌^◌, ◌≤◌, ◌<◌}
-use native.Mathlib.Nat.{mul-le-mul_left, mul-le-mul_right, le_trans, sub_self, sub-zero}
+use native.Mathlib.Nat.{mul-le-mul_right, le_trans, sub_self, sub-zero}
 use native.Mathlib.Omega.{arith}
 use lib.Bits.{bit_or}
 use lib.Count.{ones}
 use lib.Dec.{leb, ltb, eqb}
 use lib.ListN.{length, get_or, length-append}
-use lib.Pow.{pow_mono, pow_pos, pow-add}
+use lib.Pow.{pow_mono, pow-add}
 use borrow.Author.Tests.{eqb-true, lt-leb, le-leb}
 use Rattle.bits.specs.Sums.{sum_below, sum_over}
 use Rattle.bits.specs.Places.{bit, weight}
@@ -23,13 +23,13 @@ use Rattle.model.specs.Reading.{within_radius}
 use Rattle.model.specs.ReedMuller.{sets_of, sets_up_to, count_of_sets, reed_muller, class_sum, classes, votes_for_one}
 use Rattle.model.specs.ReedMuller.{coefficient, vote_round, after_rounds, voted}
 use Rattle.model.specs.ReedMuller.{product, voted_rows, voted_number, voted_distance, voted_within, voted_reading}
-use Rattle.model.specs.declared.Chunk.TheVariants.{Codeword, Unreadable}
 use Rattle.reed_muller_theory.proofs.Vote.{vote_bit}
 use Rattle.reed_muller_theory.proofs.ReedMullerDistance.{reed_muller_distance}
 use Rattle.reed_muller_theory.proofs.VotedReading.{voted_rows_below, number_is, tied_is_unreadable}
 use Rattle.reed_muller_theory.proofs.LeftOver.{left_count}
 use Rattle.reed_muller.specs.RoundResult.{bits_then, rows_after, Tied, LeftBy}
 use Rattle.reed_muller.proofs.RoundSteps.{bits_bound}
+use Rattle.model.specs.Reading.{Codeword, Unreadable}
 
 -- ---- a round depends on the positions alone
 
@@ -95,13 +95,6 @@ pub record VotedDown (r m chunk size left rows : ℕ) : Type 0 where
   pub bits : (p : ℕ) → p < 2 ^ m → bit left p ≡ after_rounds r m (bit chunk) (suc r - size) p
   pub counted : bits_then (sets_below m size) (voted r m (bit chunk)) rows ≡ voted_rows r m (bit chunk)
   pub room : (rows + 1) * 2 ^ length (sets_below m size) ≤ 4096
-
--- so the rows fit twelve bits
-pub few_rows : {r m chunk size left rows : ℕ} → VotedDown r m chunk size left rows → rows < 4096
-few_rows {m = m} {size = size} {rows = rows} here =
-    let once : (rows + 1) * 1 ≤ (rows + 1) * 2 ^ length (sets_below m size) =
-    mul-le-mul_left (rows + 1) (pow_pos (length (sets_below m size))) in
-    omega (arith, once, here.room)
 
 pub voting_starts : (r m chunk : ℕ) → chunk < 2 ^ 2 ^ m → count_of_sets r m ≤ 12 → VotedDown r m chunk (suc r) chunk 0
 unfolding sets_below after_rounds voted_rows count_of_sets

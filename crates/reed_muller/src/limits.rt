@@ -9,11 +9,8 @@ const GREATEST_ORDER: [u8; 7] = [0, 1, 2, 3, 2, 1, 1];
 pub fn order_within_limits(r: u32, m: u32) -> bool
     ensures { result ≡ order_within_limits r m }
 {
-    if m < 1 {
+    if m < 1 || 6 < m {
         return false;
     }
-    if 6 < m {
-        return false;
-    }
-    r <= GREATEST_ORDER[m as usize] as u32
+    r <= u32::from(GREATEST_ORDER[m as usize])
 }

@@ -39,9 +39,10 @@ pub fn classes_of(y: u64, set: u32, positions: u64, variables: &[u64; 6]) -> Cla
     let mut sums = y;
     let mut row = positions;
     let mut rest = set;
+    // A plain loop: it takes the lowest one off a number that has some, until none is left, and counts no index.
     loop {
         let others = rest & (rest - 1);
-        let v = u32::trailing_zeros(rest) as usize;
+        let v = rest.trailing_zeros() as usize;
         row &= variables[v];
         sums ^= sums << (rest - others);
         rest = others;

@@ -33,15 +33,13 @@ pub fn product_rows(r: u32, m: u32) -> Rows
     let mut rows = [0u64; 12];
     rows[0] = positions;
     let mut count: usize = 1;
-    let mut i: usize = 1;
-    while i < end {
-        let set = sets[i] as u32;
+    for &set in &sets[1..end] {
+        let set = u32::from(set);
         if sets::is_own(set, positions) {
             let classes = products::classes_of(0, set, positions, &variables);
             rows[count] = classes.row;
             count += 1;
         }
-        i += 1;
     }
     let count = count as u32;
     Rows { count, rows }

@@ -11,21 +11,22 @@ use Rattle.model.specs.Refusals.{refuses, first_refusal, unless_refused}
 use Rattle.model.specs.Card.{Code, code_of}
 use Rattle.model.specs.Reading.{chunk_reading, chunk_status, chunk_values}
 use Rattle.model.specs.ReedMuller.{reed_muller_card, order_within_limits, voted_number, voted_distance, voted_within, voted_reading}
-use Rattle.model.specs.VoteChunk.{vote_refusal, vote_answer, vote_status, vote_values}
-use Rattle.model.specs.declared.Chunk.{Chunk}
-use Rattle.model.specs.declared.Chunk.TheVariants.{Codeword, Unreadable}
-use Rattle.model.specs.declared.VoteAnswer.{VoteAnswer}
-use Rattle.model.specs.declared.VoteAnswer.TheVariants.{Voted, Refused}
+use Rattle.model.specs.VoteChunk.{vote_refusal, vote_answer, vote_values}
 use Rattle.reed_muller_theory.specs.Votes.{ReadAsPromised, KeepsPromise, AnswersAsSearch, VotePromises}
 use Rattle.reed_muller_theory.proofs.OrderLimits.{order_limits_of_test}
 use Rattle.reed_muller_theory.proofs.ReedMullerDistance.{sound_code}
 use Rattle.reed_muller_theory.proofs.MadeCards.{code_of_made}
 use Rattle.reed_muller_theory.proofs.VotedReading.{voting_keeps, votes_as_search}
+use Rattle.model.specs.Reading.{Chunk, Codeword, Unreadable}
+use Rattle.model.specs.VoteChunk.{VoteAnswer, Voted}
+use Rattle.model.specs.Refusals.{Refused, status_of}
+use Rattle.model.specs.Refusals.{values_by}
+use Rattle.std.specs.Prelude.{Ok, Some, None}
 
 -- the answer for what a chunk reads as
 unfoldable pub answer_for : Chunk → VoteAnswer
-answer_for (Codeword p e) = Voted p e
-answer_for Unreadable = Refused 10
+answer_for (Some read) = Ok read
+answer_for None = Refused 10
 
 module _ (r m chunk : ℕ) (within : order_within_limits r m ≡ true) (narrow : chunk < 2 ^ 2 ^ m) where
   pub answer_is : vote_answer r m chunk ≡ answer_for (voted_reading r m (bit chunk))
@@ -40,9 +41,9 @@ module _ (r m chunk : ℕ) (within : order_within_limits r m ≡ true) (narrow :
 
   -- an answer that a codeword was voted for is a reading of that codeword
   reading_of_lem : (read : Chunk) (p e : ℕ) → answer_for read ≡ Voted p e → read ≡ Codeword p e
-  unfolding answer_for
-  reading_of_lem (Codeword q d) p e is = let same_p : q ≡ p = cc in let same_e : d ≡ e = cc in rw (same_p, same_e)
-  reading_of_lem Unreadable p e is = let no : ◌≡◌ {A = ℕ} 0 1 = cc in absurd (omega arith)
+  unfolding answer_for status_of
+  reading_of_lem (Some read) p e is = cc
+  reading_of_lem None p e is = let no : ◌≡◌ {A = ℕ} 10 0 = ap status_of is in absurd (omega arith)
 
   promised : ReadAsPromised r m chunk (vote_answer r m chunk)
   unfolding answer_for
@@ -54,10 +55,10 @@ module _ (r m chunk : ℕ) (within : order_within_limits r m ≡ true) (narrow :
         within = λ p e is. keeps.within (bit chunk) p e (reading_of_lem (voted_reading r m (bit chunk)) p e (sym answer_is ∙ is));
       }
 
-  answered : (read : Chunk) → (vote_status (answer_for read) ≡ chunk_status read) × (vote_values (answer_for read) ≡ chunk_values read)
-  unfolding answer_for vote_status vote_values chunk_status chunk_values
-  answered (Codeword p e) = (refl, refl)
-  answered Unreadable = (refl, refl)
+  answered : (read : Chunk) → (status_of (answer_for read) ≡ chunk_status read) × (vote_values (answer_for read) ≡ chunk_values read)
+  unfolding answer_for status_of values_by chunk_status chunk_values
+  answered (Some read) = (refl, refl)
+  answered None = (refl, refl)
 
   alike : (track : ℕ) → vote_answer r m chunk ≡ answer_for (chunk_reading (code_of (reed_muller_card track r m)) (bit chunk))
   alike track =

@@ -1,8 +1,8 @@
 -- The reader that votes keeps the chunk promise's half of plain chunks: where a codeword lies within t of a chunk all votes find its
 -- coefficients, and what is answered has been tested. So it answers every chunk as the search does. No vote on a chunk that it reads is
 -- tied. Assumes nothing.
-use mathlib.Core.Path.{◌≡◌, refl, sym, ◌∙◌}
-use mathlib.Core.Bool.{Bool, true, false, cond}
+use mathlib.Core.Path.{◌≡◌, refl, sym, ◌∙◌, ap}
+use mathlib.Core.Bool.{Bool, true, false, cond, true≢false}
 use Prim.Native.Nat.{ℕ, ◌+◌, ◌-◌, ◌*◌, ◌%◌, ◌^◌, ◌≤◌, ◌<◌}
 use native.Mathlib.Nat.{mod-add-mod, add-mod-mod}
 use native.Mathlib.Omega.{arith}
@@ -20,7 +20,6 @@ use Rattle.model.specs.Order.{gray, codeword, last_codeword}
 use Rattle.model.specs.Reading.{chunk_distance, within_radius, chunk_reading}
 use Rattle.model.specs.ReedMuller.{set_of, count_of_sets, reed_muller, classes, votes_for_one, after_rounds, voted}
 use Rattle.model.specs.ReedMuller.{voted_rows, voted_number, voted_distance, voted_within, voted_reading}
-use Rattle.model.specs.declared.Chunk.TheVariants.{Codeword, Unreadable}
 use Rattle.code_theory.specs.Promise.{Sound, ReadsChunks}
 use Rattle.code_theory.proofs.Gray.{gray_below, gray_injective, gray_onto}
 use Rattle.code_theory.proofs.Promise.{promise, readers_agree}
@@ -29,6 +28,8 @@ use Rattle.reed_muller_theory.proofs.Polynomials.{value_at, coefficient_of, degr
 use Rattle.reed_muller_theory.proofs.ReedMullerDistance.{coefficient_bit, coefficient_of_row, reed_muller_distance}
 use Rattle.reed_muller_theory.proofs.Vote.{vote_bit, Damaged}
 use Rattle.reed_muller_theory.proofs.Rounds.{voted_right, voted_clear}
+use Rattle.model.specs.Reading.{Codeword, Unreadable}
+use Rattle.model.specs.Reading.{number_read, differing_read, unreadable}
 
 -- ---- the codeword that is voted for
 
@@ -115,17 +116,17 @@ module _ (r m : ℕ) (order : r ≤ m) (x : ℕ → ℕ) (p : ℕ) (last : p ≤
 -- what is read has been tested
 read_is_near : (r m : ℕ) (x : ℕ → ℕ) (p e : ℕ) → voted_reading r m x ≡ Codeword p e
     → (p ≤ last_codeword (reed_muller r m)) × (within_radius (reed_muller r m) x p ≡ true) × (e ≡ chunk_distance (reed_muller r m) x p)
-unfolding voted_reading voted_within voted_distance last_codeword
+unfolding voted_reading voted_within voted_distance last_codeword number_read differing_read unreadable
 read_is_near r m x p e = by_within (within_radius (reed_muller r m) x (voted_number r m x)) refl
   where
     by_within : (t : Bool) → within_radius (reed_muller r m) x (voted_number r m x) ≡ t
         → cond t (Codeword (voted_number r m x) (chunk_distance (reed_muller r m) x (voted_number r m x))) Unreadable ≡ Codeword p e
         → (p ≤ 2 ^ count_of_sets r m - 1) × (within_radius (reed_muller r m) x p ≡ true) × (e ≡ chunk_distance (reed_muller r m) x p)
     by_within true near read =
-        let is_p : voted_number r m x ≡ p = cc in
-        let is_e : chunk_distance (reed_muller r m) x (voted_number r m x) ≡ e = cc in
+        let is_p : voted_number r m x ≡ p = ap number_read read in
+        let is_e : chunk_distance (reed_muller r m) x (voted_number r m x) ≡ e = ap differing_read read in
         rw (← is_p) (le_ones (count_of_sets r m) (number_found r m x).0, near, sym is_e)
-    by_within false near read = let no : ◌≡◌ {A = ℕ} 0 1 = cc in absurd (omega arith)
+    by_within false near read = let no : ◌≡◌ {A = Bool} true false = ap unreadable read in absurd (true≢false no)
 
 pub voting_keeps : (r m : ℕ) → r ≤ m → ReadsChunks (reed_muller r m) (voted_reading r m)
 voting_keeps r m order =

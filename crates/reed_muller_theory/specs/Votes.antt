@@ -5,10 +5,10 @@ use Rattle.model.specs.Card.{code_of}
 use Rattle.model.specs.Order.{last_codeword}
 use Rattle.model.specs.Reading.{chunk_distance, within_radius, chunk_reading, chunk_status, chunk_values}
 use Rattle.model.specs.ReedMuller.{reed_muller, reed_muller_card, order_within_limits}
-use Rattle.model.specs.VoteChunk.{vote_status, vote_values}
-use Rattle.model.specs.declared.Chunk.{Chunk}
-use Rattle.model.specs.declared.VoteAnswer.{VoteAnswer}
-use Rattle.model.specs.declared.VoteAnswer.TheVariants.{Voted}
+use Rattle.model.specs.VoteChunk.{vote_values}
+use Rattle.model.specs.Reading.{Chunk}
+use Rattle.model.specs.VoteChunk.{VoteAnswer, Voted}
+use Rattle.model.specs.Refusals.{status_of}
 
 -- What `ReadsChunks` (code_theory) promises of every chunk, said of one answer: a codeword within t of the chunk is answered, with the
 -- count of bits by which they differ; and what is answered is a codeword of the code, within t, with that count.
@@ -28,7 +28,7 @@ abbrev pub AnswersAsSearch : (r m chunk : ℕ) (answer : VoteAnswer) → Type 0
 AnswersAsSearch r m chunk answer =
     (track : ℕ) → order_within_limits r m ≡ true → chunk < 2 ^ 2 ^ m
     → let read : Chunk = chunk_reading (code_of (reed_muller_card track r m)) (bit chunk) in
-    (vote_status answer ≡ chunk_status read) × (vote_values answer ≡ chunk_values read)
+    (status_of answer ≡ chunk_status read) × (vote_values answer ≡ chunk_values read)
 
 -- what is promised of a vote on a chunk beside the equation
 pub record VotePromises (r m chunk : ℕ) (answer : VoteAnswer) : Type 0 where

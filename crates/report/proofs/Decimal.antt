@@ -1,13 +1,14 @@
 -- Decimal digits, a digit at a time: a number below ten is one digit, any other is its tenth's digits and one more. How much
 -- room is allowed for the digits does not matter where there is enough. Assumes nothing.
-use Prim.Native.Nat.{ℕ, zero, suc, ◌+◌, ◌*◌, ◌/◌, ◌%◌, ◌^◌, ◌≤◌, ◌<◌}
-use mathlib.Core.Path.{◌≡◌, ◌∙◌}
+use Prim.Native.Nat.{ℕ, zero, suc, ◌/◌, ◌%◌, ◌^◌, ◌≤◌, ◌<◌}
+use mathlib.Core.Path.{◌≡◌, refl, sym, ◌∙◌}
 use mathlib.Core.Logic.{⊎_elim}
 use mathlib.Core.List.{[], ◌∷◌, ◌++◌}
 use native.Mathlib.Omega.{arith}
-use native.Mathlib.Nat.{pow-suc}
 use borrow.Author.Tests.{lt-ltb, le-ltb}
 use lib.ListN.{length, length-append}
+use Rattle.std.proofs.lemmas.Fmt.{decimal_by_steps}
+use Rattle.std.specs.Fmt.{decimal as printed}
 use Rattle.bits.proofs.Numbers.{lt_or_le}
 use Rattle.report.specs.Text.{digit, digits_within, decimal}
 
@@ -38,22 +39,15 @@ pub decimal_more : (x : ℕ) → 10 ≤ x → decimal x ≡ decimal (x / 10) ++ 
 unfolding decimal
 decimal_more x h = within_more x x h ∙ rw (within_enough x (suc (x / 10)) (x / 10) (omega arith) (omega arith))
 
--- one digit more than a tenth of it has
-pub length_more : (x : ℕ) → 10 ≤ x → length (decimal x) ≡ length (decimal (x / 10)) + 1
-length_more x h = rw (decimal_more x h, length-append)
-
 -- a number has a digit
 pub has_digit : (x : ℕ) → 1 ≤ length (decimal x)
 has_digit x =
-    ⊎_elim (λ below. rw (decimal_below_ten x below) (omega arith)) (λ more. rw (length_more x more) (omega arith))
+    ⊎_elim (λ below. rw (decimal_below_ten x below) (omega arith))
+    (λ more. rw (decimal_more x more, length-append) (omega arith))
     (lt_or_le x 10)
 
--- a number below 10^(m + 1) has at most m + 1 digits
-pub decimal_short : (m x : ℕ) → x < 10 ^ suc m → length (decimal x) ≤ suc m
-decimal_short zero x h = rw (decimal_below_ten x h) (omega arith)
-decimal_short (suc m) x h =
-    ⊎_elim (λ below. rw (decimal_below_ten x below) (omega arith))
-    (λ more.
-    let wide : x < 10 ^ suc m * 10 = rw pow-suc at h in
-    rw (length_more x more) (omega (arith, decimal_short m (x / 10) (omega arith))))
-    (lt_or_le x 10)
+-- it is what std prints of the number
+pub decimal_printed : (x : ℕ) → x < 2 ^ 64 → printed x ≡ decimal x
+decimal_printed x h =
+    decimal_by_steps (λ n digits. digits ≡ decimal n) (λ n below. sym (decimal_below_ten n below))
+    (λ n digits more tenth. rw (tenth, decimal_more n more) refl) x h

@@ -1,35 +1,44 @@
--- Texts put one after the other are one text put, and putting nothing changes nothing. Assumes nothing.
-use Prim.Native.Nat.{ℕ, ◌+◌, ◌≤◌, ◌<◌}
-use mathlib.Core.Path.{◌≡◌, refl, sym, ◌∙◌}
-use mathlib.Core.List.{List, [], ◌∷◌, ◌++◌, append_assoc, append-nil}
-use native.Mathlib.Nat.{add-zero, add_assoc}
-use native.Mathlib.Numerals.{add-one}
-use native.Mathlib.Omega.{arith}
-use lib.ListN.{length, take, drop, set, length-append, take-append-drop}
-use lib.Seq.{length-take-le, take_at, drop-append-add, drop-drop, set_split, append_snoc}
+-- Texts put one after the other are one text put, and a text copied behind what a buffer is filled with is put there. Assumes nothing.
+use Rattle.std.proofs.Common.{ℕ, ◌+◌, ◌-◌, ◌≤◌, ◌≡◌, refl, ◌∙◌, List, [], ◌++◌, length, take, drop, arith, append_assoc, append-nil, length-append, length-drop}
+use Rattle.std.proofs.lemmas.Slice.{take-put_mid, drop-put_mid}
+use borrow.Rule.Slice.PartMut.{put_mid}
+use lib.Seq.{drop-drop}
+use Rattle.report.specs.Filled.{Filled}
 use Rattle.report.specs.Puts.{Puts}
 
-module _ {before first middle : List ℕ} {at next : ℕ} (room : at ≤ length before) (p : Puts before at first middle next) where
-  -- the bytes up to the next place
-  head_length : length (take at before ++ first) ≡ next
-  head_length = rw (length-append, length-take-le at before room) (sym p.place)
-
-  pub puts_then : {second after : List ℕ} {last : ℕ} → Puts middle next second after last → Puts before at (first ++ second) after last
-  puts_then {second} {after} {last} q =
-      let rest = drop (at + length first) before in
-      let kept : take next middle ≡ take at before ++ first =
-      rw p.bytes (take_at (take at before ++ first) rest next head_length) in
-      let beyond : drop (next + length second) middle ≡ drop (at + length (first ++ second)) before =
-      rw (p.bytes, ← head_length, drop-append-add, drop-drop, length-append, add_assoc) in
+module _ {a b : Filled} {text : List ℕ} {most : ℕ} (p : Puts a text most b) where
+  pub puts_then : {c : Filled} {next : List ℕ} {more : ℕ} → Puts b next more c → Puts a (text ++ next) (most + more) c
+  puts_then q =
       record {
-        bytes = q.bytes ∙ rw (kept, beyond, append_assoc (take at before) first second);
-        place = omega (arith, p.place, q.place, length-append first second);
+        bytes = q.bytes ∙ rw (p.bytes, append_assoc) refl;
+        beyond = q.beyond ∙ rw (p.beyond, drop-drop, length-append) refl;
+        short = omega arith;
+        same_buffer = omega arith;
       }
 
--- nothing put
-pub puts_nothing : (before : List ℕ) (at : ℕ) → Puts before at [] before at
-puts_nothing before at = record { bytes = rw (add-zero, append-nil) (sym (take-append-drop at before)); place = sym (add-zero at) }
+  pub puts_within : {limit : ℕ} → most ≤ limit → Puts a text limit b
+  puts_within within = record { bytes = p.bytes; beyond = p.beyond; short = omega arith; same_buffer = p.same_buffer }
 
--- one byte put
-pub puts_byte : (before : List ℕ) (at b : ℕ) → at < length before → Puts before at (b ∷ []) (set before at b) (at + 1)
-puts_byte before at b h = record { bytes = rw (set_split before at b h, add-one, append_snoc); place = refl }
+pub puts_nothing : (a : Filled) (most : ℕ) → Puts a [] most a
+puts_nothing a most = record { bytes = rw append-nil; beyond = refl; short = omega arith; same_buffer = refl }
+
+-- one text put, or none
+pub ruleset puts_once = (puts_within, puts_nothing)
+
+pub puts_copied : (buffer text : List ℕ) (filled : ℕ) → filled + length text ≤ length buffer
+    → let end : ℕ = filled + length text in
+    let copied : List ℕ = put_mid filled (end - filled) buffer text in
+    Puts (record { text = take filled buffer; rest = drop filled buffer }) text (length text)
+    (record { text = take end copied; rest = drop end copied })
+puts_copied buffer text filled room =
+    let end : ℕ = filled + length text in
+    let copied : List ℕ = put_mid filled (end - filled) buffer text in
+    let bytes : take end copied ≡ take filled buffer ++ text = take-put_mid filled (end - filled) buffer text end refl (omega arith) in
+    let beyond : drop end copied ≡ drop (length text) (drop filled buffer) =
+    drop-put_mid filled (end - filled) buffer text end (omega arith) (omega arith) (omega arith) ∙ rw drop-drop refl in
+    record {
+      bytes = bytes;
+      beyond = beyond;
+      short = rw bytes (simp length-append (omega arith));
+      same_buffer = rw (bytes, beyond) (simp (length-append, length-drop) (omega arith));
+    }

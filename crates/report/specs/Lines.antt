@@ -1,13 +1,9 @@
 -- Document 01, "The program tramread", with document 02's P3: the lines that it prints. Assumes nothing.
-use Rattle.std.specs.Prelude.{ℕ, cond, List, [], ◌++◌, eqb}
+use Rattle.std.specs.Prelude.{ℕ, cond, List, [], ◌++◌, eqb, Option, Some, None, Ok, Err}
 use Prim.Native.String.{String}
-use Rattle.model.specs.declared.CardAnswer.{CardAnswer}
-use Rattle.model.specs.declared.CardAnswer.TheVariants.{Sound, Refused as CardRefused}
-use Rattle.model.specs.declared.ChunkBits.{ChunkBits}
-use Rattle.model.specs.declared.ChunkBits.TheVariants.{Differing, NotRead}
+use Rattle.model.specs.CheckCard.{CardAnswer}
+use Rattle.model.specs.ReadWord.{ReadAnswer}
 use Rattle.model.specs.declared.Reading.{Reading}
-use Rattle.model.specs.declared.ReadAnswer.{ReadAnswer}
-use Rattle.model.specs.declared.ReadAnswer.TheVariants.{At, Refused as ReadRefused}
 use Rattle.report.specs.Text.{ascii, decimal}
 
 -- a label and a number
@@ -24,13 +20,13 @@ last_field label value = text_field label value ++ line_end
 
 -- the line of the card: track, last position and radius, or the refusal
 unfoldable pub card_line : CardAnswer → List ℕ
-card_line (Sound s) = text_field "track " s.track ++ text_field " last " s.last ++ last_field " radius " s.radius
-card_line (CardRefused refusal) = last_field "card refused " refusal
+card_line (Ok s) = text_field "track " s.track ++ text_field " last " s.last ++ last_field " radius " s.radius
+card_line (Err refusal) = last_field "card refused " refusal.number
 
 -- document 02, P3: how many bits a code chunk needed, after a space; nothing where the chunk was not read
-unfoldable pub bits_text : ChunkBits → List ℕ
-bits_text (Differing count) = text_field " " count
-bits_text NotRead = []
+unfoldable pub bits_text : Option ℕ → List ℕ
+bits_text (Some count) = text_field " " count
+bits_text None = []
 
 -- the last part of the line of a word that is read: the rule, the bits that its chunks needed, chunk 1 first, and the line's end
 unfoldable pub rule_and_bits : Reading → List ℕ
@@ -38,8 +34,8 @@ rule_and_bits r = text_field " rule " r.rule ++ bits_text r.chunk1 ++ bits_text 
 
 -- the line of a word: its number, then position, residual, rule and bits, or the refusal
 unfoldable pub word_line : (number : ℕ) → ReadAnswer → List ℕ
-word_line number (At r) = decimal number ++ text_field " at " r.position ++ text_field " residual " r.residual ++ rule_and_bits r
-word_line number (ReadRefused refusal) = decimal number ++ last_field " refused " refusal
+word_line number (Ok r) = decimal number ++ text_field " at " r.position ++ text_field " residual " r.residual ++ rule_and_bits r
+word_line number (Err refusal) = decimal number ++ last_field " refused " refusal.number
 
 -- the line of the bytes short of a word at the end; no line where there are none
 unfoldable pub short_line : (bytes : ℕ) → List ℕ

@@ -1,7 +1,11 @@
--- What it is to put a text into a buffer. Assumes nothing.
-use Rattle.std.specs.Prelude.{ℕ, ◌+◌, ◌≡◌, List, ◌++◌, length, take, drop}
+-- What it is to put a text behind what a buffer is filled with. Assumes nothing.
+use Rattle.std.specs.Prelude.{ℕ, ◌≡◌, ◌+◌, ◌≤◌, List, ◌++◌, length, drop}
+use Rattle.report.specs.Filled.{Filled, capacity}
 
--- `before` with the text put over the bytes from `at` on is `after`, and `next` is the place past the text
-pub record Puts (before : List ℕ) (at : ℕ) (text after : List ℕ) (next : ℕ) : Type 0 where
-  pub bytes : after ≡ take at before ++ text ++ drop (at + length text) before
-  pub place : next ≡ at + length text
+-- `before` with the text put behind it, over the bytes that stood there, is `after`: the same buffer, in which the text takes no more
+-- than `most` bytes
+pub record Puts (before : Filled) (text : List ℕ) (most : ℕ) (after : Filled) : Type 0 where
+  pub bytes : after.text ≡ before.text ++ text
+  pub beyond : after.rest ≡ drop (length text) before.rest
+  pub short : length after.text ≤ length before.text + most
+  pub same_buffer : capacity after ≡ capacity before

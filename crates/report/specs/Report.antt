@@ -1,12 +1,10 @@
 -- Document 01, "The program tramread": all that it prints, as a function of all the bytes of its input. Assumes nothing.
-use Rattle.std.specs.Prelude.{ℕ, zero, suc, ◌+◌, ◌*◌, ◌/◌, ◌%◌, cond, List, [], ◌++◌, eqb, length, take, drop}
+use Rattle.std.specs.Prelude.{ℕ, zero, suc, ◌+◌, ◌*◌, ◌/◌, ◌%◌, cond, List, [], ◌++◌, eqb, length, take, drop, Ok, Err}
 use Rattle.bits.specs.Sums.{sum_below}
 use Rattle.model.specs.Card.{Code, card_refusal, code_of}
 use Rattle.model.specs.Words.{word_length}
 use Rattle.model.specs.CheckCard.{card_answer}
-use Rattle.model.specs.ReadWord.{read_word}
-use Rattle.model.specs.declared.ReadAnswer.{ReadAnswer}
-use Rattle.model.specs.declared.ReadAnswer.TheVariants.{At, Refused}
+use Rattle.model.specs.ReadWord.{ReadAnswer, read_word}
 use Rattle.report.specs.Lines.{card_line, word_line, short_line, last_line}
 
 -- the card of an input: its first 512 bytes, or all of them where there are fewer
@@ -32,8 +30,8 @@ word_lines C bytes met (suc m) = word_lines C bytes met m ++ word_line (met + m 
 
 -- 1 for a word that is read, 0 for one that is refused
 unfoldable pub count_if_read : ReadAnswer → ℕ
-count_if_read (At r) = 1
-count_if_read (Refused refusal) = 0
+count_if_read (Ok r) = 1
+count_if_read (Err refusal) = 0
 
 -- how many of the first m words of some bytes are read
 unfoldable pub words_read : Code → (bytes : List ℕ) (m : ℕ) → ℕ

@@ -2,4 +2,4 @@
 #![tactic(auto)]
 
 pub mod lines;
-pub mod pieces;
+pub mod text;

@@ -1,3 +1,2 @@
-pub mod YardRows
+pub mod Checked
 pub mod Handing
-pub mod YardAnswers

@@ -1,31 +1,47 @@
 // A tram releases the track of a sound card by its word: refusals 26, 20 and 21, then the word's; then the tram is not clear of the mark, or
 // the track is handed to the first of its queue, or freed.
-ghost use Rattle.std.specs.Prelude.{◌≡◌, ◌≤◌, ◌<◌};
+ghost use Rattle.std.specs.Prelude.{◌≡◌, ◌≤◌, ◌<◌, Ok};
 ghost use Rattle.model.specs.Decoded.{meaning};
-ghost use Rattle.model.specs.Refusals.{first_refusal};
+ghost use Rattle.model.specs.Refusals.{first_refusal, Refused, unless_refused};
+ghost use Rattle.model.specs.ReadWord.{read_word};
 ghost use Rattle.model.specs.Yard.{most_waiting, queue};
-ghost use Rattle.model.specs.ReleaseTrack.{rows_of_release, is_clear, handed_on, released_at, release_on};
+ghost use Rattle.model.specs.ReleaseTrack.{rows_of_release, is_clear, handed_on, release_on};
 ghost use Rattle.code_theory.specs.Promise.{Sound};
 
-use model::{DecodedCode, ReadAnswer, ReleaseAnswer, Released, Slot, Yard};
+use model::{DecodedCode, Reading, Refusal, Release, Released, Slot, TRACKS, Yard};
 use reader::reading;
 use trams::widening;
 use yard::{entries, soundness, tracks};
 
-// What is refused ahead of the word once the card is sound: the refusal's number, or 0.
-fn refusal_of(yard: Yard, tram: u16, track: u32) -> u32
-    ensures { result ≡ first_refusal (rows_of_release yard tram track) }
+// What refuses the release ahead of the word once the card is sound, if anything does.
+fn check(yard: Yard, tram: u16, track: u32) -> Result<(), Refusal>
+    ensures { result ≡ unless_refused (first_refusal (rows_of_release yard tram track)) Refused (Ok tt) }
 {
     if soundness::is_unsound(yard) {
-        return 26;
+        return Err(Refusal::UNSOUND_YARD);
     }
-    if 15 < track {
-        return 20;
+    if TRACKS <= track as usize {
+        return Err(Refusal::NO_SUCH_TRACK);
     }
     if !tracks::is_holder(yard, tram, track as usize) {
-        return 21;
+        return Err(Refusal::WRONG_TRAM);
     }
-    0
+    Ok(())
+}
+
+// What the word reads as, unless the release is refused ahead of it.
+fn read(
+    code: DecodedCode,
+    track: u32,
+    yard: Yard,
+    tram: u16,
+    word: &[u8],
+) -> Result<Reading, Refusal>
+    requires { Sound (meaning code) }
+    ensures { result ≡ unless_refused (first_refusal (rows_of_release yard tram track)) Refused (read_word (meaning code) word.now) }
+{
+    check(yard, tram, track)?;
+    reading::read(code, word)
 }
 
 // Whether the position less 10t is above the mark. In 64 bits the sum of mark and 10t is exact.
@@ -41,29 +57,20 @@ fn hand_on(yard: Yard, track: u32) -> Released
     requires { (track < 16) × (yard.count ≤ most_waiting) }
     ensures { result ≡ handed_on track yard (queue yard track) }
 {
-    let place = entries::first_for(yard, track);
-    let count = yard.count;
     let mut after = yard;
-    if place < count {
-        let waiting = yard.waiting;
-        let first = waiting[place];
-        after.slots[track as usize] = Slot {
-            held: true,
-            tram: first.tram,
-        };
-        after.count = count - 1;
-        after.waiting = entries::without(waiting, place);
+    let Some(place) = entries::first_for(yard, track) else {
+        after.slots[track as usize] = Slot::Free(0);
         return Released {
-            answer: ReleaseAnswer::HandedTo(first.tram),
+            answer: Ok(Release::Freed),
             yard: after,
         };
-    }
-    after.slots[track as usize] = Slot {
-        held: false,
-        tram: 0,
     };
+    let tram = yard.waiting[place].tram;
+    after.slots[track as usize] = Slot::Held(tram);
+    after.count -= 1;
+    after.waiting = entries::without(yard.waiting, place);
     Released {
-        answer: ReleaseAnswer::Freed,
+        answer: Ok(Release::HandedTo(tram)),
         yard: after,
     }
 }
@@ -80,27 +87,15 @@ pub fn release(
     requires { Sound (meaning code) }
     ensures { result ≡ release_on (meaning code) track yard tram word.now mark }
 {
-    let refusal = refusal_of(yard, tram, track);
-    if refusal != 0 {
-        return Released {
-            answer: ReleaseAnswer::Refused(refusal),
-            yard,
-        };
-    }
-    let answer = reading::read(code, word);
-    match answer {
-        ReadAnswer::Refused(number) => Released {
-            answer: ReleaseAnswer::Refused(number),
+    match read(code, track, yard, tram, word) {
+        Err(refusal) => Released {
+            answer: Err(refusal),
             yard,
         },
-        ReadAnswer::At(read) => {
-            if !is_clear(code, read.position, mark) {
-                return Released {
-                    answer: ReleaseAnswer::NotClear,
-                    yard,
-                };
-            }
-            hand_on(yard, track)
-        }
+        Ok(reading) if is_clear(code, reading.position, mark) => hand_on(yard, track),
+        Ok(_) => Released {
+            answer: Ok(Release::NotClear),
+            yard,
+        },
     }
 }

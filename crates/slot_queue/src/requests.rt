@@ -1,35 +1,36 @@
 // A tram requests a track: refusals 26, 20, 21 and 22; then it holds the track, or joins the end of its queue.
-ghost use Rattle.std.specs.Prelude.{◌≡◌, ◌&&◌, ◌<◌, leb};
+ghost use Rattle.std.specs.Prelude.{◌≡◌, ◌&&◌, ◌<◌, leb, Ok};
+ghost use Rattle.model.specs.Refusals.{Refused, unless_refused};
 ghost use Rattle.model.specs.Yard.{most_waiting, is_held, holding, joined};
-ghost use Rattle.model.specs.RequestTrack.{request_refusal, request_served, request_answer};
+ghost use Rattle.model.specs.RequestTrack.{request_refusal, request_answer};
 
-use model::{RequestAnswer, Requested, Slot, Waiting, Yard};
+use model::{MOST_WAITING, Refusal, Request, Requested, Slot, TRACKS, Waiting, Yard};
 use yard::{soundness, tracks};
 
 // Whether the track is held and 32 trams already wait over all tracks.
 fn has_no_room(yard: Yard, track: u32) -> bool
     ensures { result ≡ is_held yard track && leb most_waiting yard.count }
 {
-    tracks::is_held(yard, track as usize) && 32 <= yard.count
+    tracks::is_held(yard, track as usize) && MOST_WAITING <= yard.count
 }
 
-// The refusal's number, or 0.
-fn refusal_of(yard: Yard, tram: u16, track: u32) -> u32
-    ensures { result ≡ request_refusal yard tram track }
+// What refuses the request, if anything does.
+fn check(yard: Yard, tram: u16, track: u32) -> Result<(), Refusal>
+    ensures { result ≡ unless_refused (request_refusal yard tram track) Refused (Ok tt) }
 {
     if soundness::is_unsound(yard) {
-        return 26;
+        return Err(Refusal::UNSOUND_YARD);
     }
-    if 15 < track {
-        return 20;
+    if TRACKS <= track as usize {
+        return Err(Refusal::NO_SUCH_TRACK);
     }
     if soundness::is_in_yard(yard, tram) {
-        return 21;
+        return Err(Refusal::WRONG_TRAM);
     }
     if has_no_room(yard, track) {
-        return 22;
+        return Err(Refusal::QUEUE_FULL);
     }
-    0
+    Ok(())
 }
 
 // The tram holds the track.
@@ -38,7 +39,7 @@ fn hold(yard: Yard, tram: u16, track: u32) -> Yard
     ensures { result ≡ holding tram track yard }
 {
     let mut after = yard;
-    after.slots[track as usize] = Slot { held: true, tram };
+    after.slots[track as usize] = Slot::Held(tram);
     after
 }
 
@@ -47,13 +48,12 @@ fn join(yard: Yard, tram: u16, track: u32) -> Yard
     requires { (track < 16) × (yard.count < most_waiting) }
     ensures { result ≡ joined tram track yard }
 {
-    let count = yard.count;
     let mut after = yard;
-    after.waiting[count] = Waiting {
+    after.waiting[yard.count] = Waiting {
         tram,
         track: track as u16,
     };
-    after.count = count + 1;
+    after.count += 1;
     after
 }
 
@@ -61,21 +61,20 @@ fn join(yard: Yard, tram: u16, track: u32) -> Yard
 pub fn request(yard: Yard, tram: u16, track: u32) -> Requested
     ensures { result ≡ request_answer yard tram track }
 {
-    let refusal = refusal_of(yard, tram, track);
-    if refusal != 0 {
+    if let Err(refusal) = check(yard, tram, track) {
         return Requested {
-            answer: RequestAnswer::Refused(refusal),
+            answer: Err(refusal),
             yard,
         };
     }
     if tracks::is_held(yard, track as usize) {
         return Requested {
-            answer: RequestAnswer::Waits,
+            answer: Ok(Request::Waits),
             yard: join(yard, tram, track),
         };
     }
     Requested {
-        answer: RequestAnswer::Holds,
+        answer: Ok(Request::Holds),
         yard: hold(yard, tram, track),
     }
 }

@@ -1,20 +1,16 @@
--- A buffer from one of its places on: what stands there of a front part of the buffer, and what stands there while the rest of the
--- buffer is lent and after it is put back. Assumes nothing.
-use Prim.Native.Nat.{ℕ, ◌+◌, ◌-◌, ◌≤◌}
-use mathlib.Core.Path.{◌≡◌, ◌∙◌}
-use mathlib.Core.List.{List, append-nil}
-use native.Mathlib.Omega.{arith}
+-- A buffer from one of its places on: what stands there of a front part of the buffer, and what stands there after a part that was lent
+-- from there on is put back. Assumes nothing.
+use Prim.Native.Nat.{ℕ, ◌+◌, ◌≤◌}
+use mathlib.Core.Path.{◌≡◌, ap, ◌∙◌}
+use mathlib.Core.List.{List}
 use borrow.Rule.Slice.PartMut.{put_mid}
-use lib.ListN.{length, take, drop, length-drop}
-use lib.Seq.{length-take-le, take_all, take-add, drop_at, drop-length}
+use lib.ListN.{length, take, drop}
+use lib.Seq.{length-take-le, take-append-le, take-add, drop_at}
 
-module _ (a : ℕ) (bytes : List ℕ) where
-  pub behind_of_front : (n : ℕ) → a ≤ length bytes → drop a (take (a + n) bytes) ≡ take n (drop a bytes)
-  behind_of_front n inside = rw take-add (drop_at (take a bytes) (take n (drop a bytes)) a (length-take-le a bytes inside))
+module _ (a : ℕ) (bytes : List ℕ) (inside : a ≤ length bytes) where
+  pub behind_of_front : (n : ℕ) → drop a (take (a + n) bytes) ≡ take n (drop a bytes)
+  behind_of_front n = rw take-add (drop_at (take a bytes) (take n (drop a bytes)) a (length-take-le a bytes inside))
 
-  pub rest_lent : take (length bytes - a) (drop a bytes) ≡ drop a bytes
-  rest_lent = take_all (length bytes - a) (drop a bytes) (rw length-drop (omega arith))
-
-  pub rest_put_back : (rest : List ℕ) → a ≤ length bytes → drop a (put_mid a (length bytes - a) bytes rest) ≡ rest
-  rest_put_back rest inside =
-      drop_at (take a bytes) _ a (length-take-le a bytes inside) ∙ rw (← (length-drop a bytes), drop-length) (append-nil rest)
+  pub part_put_back : (k n : ℕ) (part : List ℕ) → n ≤ length part → take n (drop a (put_mid a k bytes part)) ≡ take n part
+  part_put_back k n part within =
+      ap (take n) (drop_at (take a bytes) _ a (length-take-le a bytes inside)) ∙ take-append-le n part _ within

@@ -1,5 +1,4 @@
 pub mod Behind
-pub mod Moving
 pub mod NextWord
 pub mod Pieces
 pub mod Whole

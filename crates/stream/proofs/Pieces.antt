@@ -1,13 +1,13 @@
 -- A report made piece by piece is the report of the whole input. Where the first piece has whole words, the words of the joined
 -- bytes are those of the first piece and then those of the second, so their lines follow one another and the counts add.
 -- Assumes nothing.
-use Prim.Native.Nat.{ℕ, zero, suc, ◌+◌, ◌-◌, ◌*◌, ◌/◌, ◌≤◌, ◌<◌}
-use mathlib.Core.Path.{◌≡◌, refl, sym, ap, ◌∙◌}
+use Prim.Native.Nat.{ℕ, zero, suc, ◌+◌, ◌*◌, ◌≤◌, ◌<◌}
+use mathlib.Core.Path.{◌≡◌, refl, ap, ◌∙◌}
 use mathlib.Core.List.{List, ◌++◌, append_assoc, append-nil}
-use native.Mathlib.Nat.{add-zero, add-suc, add_assoc, suc-mul, add-mul, mul-le-mul_right, div-mul-le_self}
+use native.Mathlib.Nat.{add-zero, add-suc, add_assoc, suc-mul, add-mul, mul-le-mul_right}
 use native.Mathlib.Omega.{arith}
-use lib.ListN.{length, take, drop, length-drop}
-use lib.Seq.{length-take-le, take-add, take-append-le, drop_at, drop-append-le, drop-append-add}
+use lib.ListN.{length, drop, length-drop}
+use lib.Seq.{take-append-le, drop-append-le, drop-append-add}
 use Rattle.bits.proofs.Sums.{sum_ext, sum_split}
 use Rattle.model.specs.Card.{Code}
 use Rattle.model.specs.Words.{word_length}
@@ -17,18 +17,6 @@ use Rattle.report.specs.Report.{word_part, answer_at, word_lines, count_if_read,
 -- word i lies within the first m words
 pub within : (w i m : ℕ) → i < m → i * w + w ≤ m * w
 within w i m h = rw suc-mul at (mul-le-mul_right w h)
-
--- the bytes short of a word, of the n bytes that have come in, are what is left behind the whole words
-pub tail_behind_words : (bytes : List ℕ) (n w : ℕ) → n ≤ length bytes
-    → take (n - n / w * w) (drop (n / w * w) bytes) ≡ drop (n / w * w) (take n bytes)
-tail_behind_words bytes n w room =
-    let whole : ℕ = n / w * w in
-    let within : whole ≤ n = div-mul-le_self n w in
-    let split : n ≡ whole + (n - whole) = omega arith in
-    let front : length (take whole bytes) ≡ whole = length-take-le whole bytes (omega arith) in
-    sym
-    (ap (λ (k : ℕ). drop whole (take k bytes)) split
-    ∙ rw take-add (drop_at (take whole bytes) (take (n - whole) (drop whole bytes)) whole front))
 
 module _ (w m : ℕ) (first second : List ℕ) (whole : length first ≡ m * w) where
   -- a word of the first piece

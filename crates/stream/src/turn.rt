@@ -4,6 +4,7 @@ ghost use Rattle.std.specs.Prelude.{◌≡◌, ◌++◌, ◌+◌, ◌*◌, ◌/�
 ghost use Rattle.model.specs.Words.{word_length};
 ghost use Rattle.model.specs.Decoded.{meaning};
 ghost use Rattle.code_theory.specs.Promise.{Sound};
+ghost use Rattle.report.specs.Filled.{capacity, unfilled};
 ghost use Rattle.report.specs.Lines.{short_line, last_line, line_room};
 ghost use Rattle.report.specs.Puts.{Puts};
 ghost use Rattle.stream.specs.Streamed.{Follows, Completes};
@@ -13,76 +14,57 @@ use super::{tail, words};
 use model::DecodedCode;
 use position::layout;
 use report::lines;
+use report::text::Text;
 
 // How a reader of words stands between two turns: the bytes short of a word, which it holds where the words start in its buffer, the
 // words that it met, and those of them that were read.
-#[derive(Clone, Copy)]
+#[derive(Clone, Copy, Default)]
 pub struct Progress {
     pub held: usize,
     pub met: u64,
     pub read: u64,
 }
 
-// What a turn gives: the place past its lines, and how the reader then stands.
-#[derive(Clone, Copy)]
-pub struct Taken {
-    pub next: usize,
-    pub progress: Progress,
-}
-
-// Before the first turn.
-pub fn nothing_yet() -> Progress
-    ensures { (result.held ≡ 0) × (result.met ≡ 0) × (result.read ≡ 0) }
-{
-    Progress {
-        held: 0,
-        met: 0,
-        read: 0,
-    }
-}
-
-// Takes in the `n` bytes of the buffer from place `start` on: those held, and behind them those that came in since the last turn.
+// Takes in the `n` bytes of the buffer from place `start` on: those held, and behind them those that came in since the last turn. The
+// lines of this turn are all that is then in `out`.
 pub fn take_in(
-    out: &mut [u8],
+    out: &mut Text,
     code: DecodedCode,
     input: &mut [u8],
     start: usize,
     n: usize,
     before: Progress,
-) -> Taken
+) -> Progress
     requires sound { Sound (meaning code) }
     requires within { (before.held ≤ n) × (start + n ≤ length input.old) × (before.read ≤ before.met) }
-    requires room { n / word_length (meaning code) * line_room ≤ length out.old }
+    requires room { n / word_length (meaning code) * line_room ≤ capacity out.old }
     requires met_fits { before.met + n / word_length (meaning code) < 2 ^ 64 }
     ensures taken { TakenIn (meaning code) (take n (drop start input.old)) before
-        (drop start input.new) out.old out.new result }
-    ensures follows { Follows (meaning code) (drop start input.old) n before
-        (take result.next out.new) (drop start input.new) result.progress }
+        (drop start input.new) (unfilled out.old) out.new result }
+    ensures follows { Follows (meaning code) (drop start input.old) n before out.new.text
+        (drop start input.new) result }
 {
     let w = layout::word_length(code);
     let m = n / w;
     let end = start + n;
-    let put = words::put_words(out, 0, code, &input[..end], start, before.met, m);
-    let held = tail::keep_tail(&mut input[start..], m * w, n);
-    let progress = Progress {
+    out.clear();
+    let read = words::put_words(out, code, &input[..end], start, before.met, m);
+    let held = tail::keep_tail(&mut input[start..end], m * w);
+    Progress {
         held,
         met: before.met + m as u64,
-        read: before.read + put.read,
-    };
-    Taken {
-        next: put.next,
-        progress,
+        read: before.read + read,
     }
 }
 
-// The end of the report: the bytes short of a word, and the last line.
-pub fn put_end(out: &mut [u8], progress: Progress) -> usize
-    requires { 2 * line_room ≤ length out.old }
-    ensures put { Puts out.old 0 (short_line progress.held ++ last_line progress.met progress.read)
-        out.new result }
-    ensures room { result ≤ 2 * line_room }
-    ensures whole { Completes progress (take result out.new) }
+// The end of the report, which is all that is then in `out`: the bytes short of a word, and the last line.
+pub fn put_end(out: &mut Text, progress: Progress)
+    requires { 2 * line_room ≤ capacity out.old }
+    ensures put { Puts (unfilled out.old) (short_line progress.held ++ last_line progress.met progress.read)
+        (2 * line_room) out.new }
+    ensures whole { Completes progress out.new.text }
 {
-    let last_at = lines::put_short_line(out, 0, progress.held as u64);
-    lines::put_last_line(out, last_at, progress.met, progress.read)
+    out.clear();
+    lines::put_short_line(out, progress.held as u64);
+    lines::put_last_line(out, progress.met, progress.read);
 }

@@ -7,60 +7,49 @@ ghost use Rattle.report.specs.Lines.{line_room};
 ghost use Rattle.report.specs.Puts.{Puts};
 ghost use Rattle.report.specs.Report.{count_if_read, word_lines, words_read};
 
-use model::{DecodedCode, ReadAnswer};
+use model::{DecodedCode, Reading, Refusal};
 use position::layout;
 use reader::reading;
 use report::lines;
+use report::text::Text;
 
 // 1 for a word that is read, 0 for one that is refused.
-fn count_if_read(answer: ReadAnswer) -> u64
+#[tactic(auto, unfolding(report::specs::Report::count_if_read))]
+fn count_if_read(answer: Result<Reading, Refusal>) -> u64
     ensures { (result ≡ count_if_read answer) × (result ≤ 1) }
 {
     match answer {
-        ReadAnswer::At(_) => 1,
-        ReadAnswer::Refused(_) => 0,
+        Ok(_) => 1,
+        Err(_) => 0,
     }
 }
 
-// What putting the lines of some words gives: the place past them, and how many of the words were read.
-#[derive(Clone, Copy)]
-pub struct WordsPut {
-    pub next: usize,
-    pub read: u64,
-}
-
 // Puts the lines of the `words` words that stand in the lent bytes from place `start` on, numbered on from `met`, the number of words
-// before them. The form is that of a part from the middle: for each word `&bytes[from..to]` is lent, a part that starts in the middle
-// of the lent bytes, and the reader's promise names that part.
+// before them, and answers how many of the words were read. The form is that of a part from the middle: for each word `&bytes[from..to]`
+// is lent, a part that starts in the middle of the lent bytes, and the reader's promise names that part.
 pub fn put_words(
-    out: &mut [u8],
-    at: usize,
+    out: &mut Text,
     code: DecodedCode,
     bytes: &[u8],
     start: usize,
     met: u64,
     words: usize,
-) -> WordsPut
+) -> u64
     requires sound { Sound (meaning code) }
-    requires fits { (start + words * word_length (meaning code) ≤ length bytes.now) × (at + words * line_room ≤ length out.old)
+    requires fits { (start + words * word_length (meaning code) ≤ length bytes.now) × (words * line_room ≤ length out.old.rest)
         × (met + words < 2 ^ 64) }
-    ensures puts { Puts out.old at (word_lines (meaning code) (drop start bytes.now) met words)
-        out.new result.next }
-    ensures room { result.next ≤ at + words * line_room }
-    ensures counted { (result.read ≡ words_read (meaning code) (drop start bytes.now) words) × (result.read ≤ words) }
+    ensures puts { Puts out.old (word_lines (meaning code) (drop start bytes.now) met words)
+        (words * line_room) out.new }
+    ensures counted { (result ≡ words_read (meaning code) (drop start bytes.now) words) × (result ≤ words) }
 {
     let w = layout::word_length(code);
-    let mut next = at;
     let mut read: u64 = 0;
-    let mut from = start;
-    let mut i: usize = 0;
-    while i < words {
+    for i in 0..words {
+        let from = start + i * w;
         let to = from + w;
         let answer = reading::read(code, &bytes[from..to]);
-        i += 1;
-        next = lines::put_word_line(out, next, met + i as u64, answer);
+        lines::put_word_line(out, met + i as u64 + 1, answer);
         read += count_if_read(answer);
-        from = to;
     }
-    WordsPut { next, read }
+    read
 }

@@ -8,15 +8,14 @@ use Prim.Native.Nat.{ℕ, zero, suc, ◌-◌, ◌≤◌, ◌<◌, min}
 use native.Mathlib.Nat.{eq-or-lt_of_le, le_of_suc-le-suc}
 use native.Mathlib.Omega.{arith}
 use lib.Dec.{ltb, eqb}
-use lib.ListN.{length}
 use borrow.Author.Tests.{ltb-true, ltb-false, eqb-true, eq-eqb}
 use Rattle.bits.proofs.Numbers.{not-true, lt_or_le, by_test, or_false_left, or_false_right, and_true_left, and_true_right}
 use Rattle.model.specs.TramsCrossing.{crosses}
-use Rattle.model.specs.NearestTram.{apart, distance_to, goes_before, nearest_up_to, nearest_of, nearest_status, nearest_values}
+use Rattle.model.specs.NearestTram.{apart, distance_to, goes_before, nearest_up_to, nearest_of}
 use Rattle.model.specs.declared.Stretch.{Stretch}
-use Rattle.model.specs.declared.NearestAnswer.TheVariants.{Tram, NoTram}
 use Rattle.tram_theory.specs.Stretches.{Holds}
 use Rattle.tram_theory.proofs.Stretches.{crosses_if, crosses_only_if}
+use Rattle.std.specs.Prelude.{Some, None}
 
 -- ---- distances
 
@@ -140,7 +139,7 @@ module _ (mark : ℕ) (stretch : ℕ → Stretch) where
       (eq-or-lt_of_le l))
 
   -- a place that is answered is in the list, and what is kept there holds against every place
-  pub found : (count place : ℕ) → nearest_of mark stretch count ≡ Tram place
+  pub found : (count place : ℕ) → nearest_of mark stretch count ≡ Some place
       → (place < count) × ((i : ℕ) → i < count → Kept mark stretch place i)
   unfolding nearest_of
   found zero place e = let z : ◌≡◌ {A = ℕ} 0 1 = cc in absurd (omega arith)
@@ -149,28 +148,17 @@ module _ (mark : ℕ) (stretch : ℕ → Stretch) where
       rw (← same) (omega (arith, in_list m), λ i l. kept m i (le_of_suc-le-suc l))
 
   -- some place is answered of some trams; none of no trams, and only of none
-  pub some_found : (count : ℕ) → 0 < count → (place : ℕ) × (nearest_of mark stretch count ≡ Tram place)
+  pub some_found : (count : ℕ) → 0 < count → (place : ℕ) × (nearest_of mark stretch count ≡ Some place)
   unfolding nearest_of
   some_found zero inhabited = absurd (omega arith)
   some_found (suc m) inhabited = (nearest_up_to mark stretch m, refl)
 
-  pub of_no_trams : (count : ℕ) → count ≡ 0 → nearest_of mark stretch count ≡ NoTram
+  pub of_no_trams : (count : ℕ) → count ≡ 0 → nearest_of mark stretch count ≡ None
   unfolding nearest_of
   of_no_trams zero e = refl
   of_no_trams (suc m) e = absurd (omega arith)
 
-  pub none_found : (count : ℕ) → nearest_of mark stretch count ≡ NoTram → count ≡ 0
+  pub none_found : (count : ℕ) → nearest_of mark stretch count ≡ None → count ≡ 0
   unfolding nearest_of
   none_found zero e = refl
   none_found (suc m) e = let z : ◌≡◌ {A = ℕ} 0 1 = cc in absurd (omega arith)
-
-  -- of no trams or of some, no refusal is answered, and there is a value
-  pub no_refusal : (count : ℕ) → nearest_status (nearest_of mark stretch count) ≡ 0
-  unfolding nearest_of nearest_status
-  no_refusal zero = refl
-  no_refusal (suc m) = refl
-
-  pub one_value : (count : ℕ) → eqb (length (nearest_values (nearest_of mark stretch count))) 0 ≡ false
-  unfolding nearest_of nearest_values
-  one_value zero = refl
-  one_value (suc m) = refl

@@ -14,11 +14,12 @@ use Rattle.model.specs.Trams.{stretch_at, margin, widened, misplaced_pair, any_m
 use Rattle.model.specs.TramsCrossing.{crosses}
 use Rattle.model.specs.TramsWithin.{lies_within}
 use Rattle.model.specs.declared.Stretch.{Stretch}
-use Rattle.model.specs.declared.Trams.{Trams}
 use Rattle.code_theory.proofs.RefusalRows.{NoneHolds, numbered, none_holds}
 use Rattle.position_theory.proofs.Margin.{read_within_margin}
 use Rattle.position_theory.specs.Margin.{ReadWithinMargin}
 use Rattle.tram_theory.specs.Stretches.{Holds, WithinMarks, OnTrack, WidenedHoldsBoth}
+use Rattle.model.specs.Trams.{Trams}
+use Rattle.std.specs.Prelude.{length}
 
 -- ---- refusals
 
@@ -31,8 +32,8 @@ pub on_track : (last : ℕ) (trams : Trams) (first second : ℕ) → first_refus
 unfolding any_misplaced rows_of_trams numbered NoneHolds
 on_track last trams first second none =
     let (few, (placed, _)) = none_holds (rows_of_trams last trams first second) refl none in
-    let each : (i : ℕ) → i < trams.count → ((stretch_at trams i).low ≤ (stretch_at trams i).high) × ((stretch_at trams i).high ≤ last) =
-    λ i below. well_placed last _ _ (none_of_any _ trams.count (or_false_right (misplaced_pair last first second) _ placed) i below) in
+    let each : (i : ℕ) → i < length trams → ((stretch_at trams i).low ≤ (stretch_at trams i).high) × ((stretch_at trams i).high ≤ last) =
+    λ i below. well_placed last _ _ (none_of_any _ (length trams) (or_false_right (misplaced_pair last first second) _ placed) i below) in
     record {
       few = ltb-false _ _ few;
       in_order = λ i below. (each i below).0;

@@ -1,22 +1,20 @@
 -- The theorems of the searches among trams, of the answer that the definition gives to any card, trams and marks: tests of widened
 -- stretches for the equations, and for what stands on the track that a widened stretch holds both true positions. Assumes nothing.
-use mathlib.Core.Path.{◌≡◌, refl, sym, ◌∙◌}
+use mathlib.Core.Path.{◌≡◌, refl, sym, ◌∙◌, ap}
 use mathlib.Core.Bool.{Bool, true}
 use mathlib.Core.List.{List}
 use mathlib.Core.Logic.{⊎_elim}
 use Prim.Native.Nat.{ℕ, ◌≤◌, ◌<◌}
 use native.Mathlib.Omega.{arith}
-use Rattle.bits.proofs.Numbers.{lt_or_le, eq_or_ne}
+use Rattle.bits.proofs.Numbers.{lt_or_le}
 use Rattle.model.specs.Card.{card_refusal, code_of, SoundCard}
 use Rattle.model.specs.Order.{last_position}
 use Rattle.model.specs.Trams.{stretch_at, margin, widened_at, rows_of_trams, trams_refusal, each_tram_answer}
 use Rattle.model.specs.TramsCrossing.{crosses, crossing_answer}
 use Rattle.model.specs.TramsWithin.{lies_within, within_answer}
-use Rattle.model.specs.NearestTram.{nearest_of, nearest_on, nearest_answer, nearest_status}
+use Rattle.model.specs.NearestTram.{nearest_of, nearest_on, nearest_answer}
 use Rattle.model.specs.declared.Stretch.{Stretch}
-use Rattle.model.specs.declared.Trams.{Trams}
-use Rattle.model.specs.declared.NearestAnswer.TheVariants.{Tram, NoTram, Refused}
-use Rattle.code_theory.proofs.RefusalRows.{none_past_card, past_card, served_if_none, refused_if_some}
+use Rattle.code_theory.proofs.RefusalRows.{none_past_card, past_card, served_if_none}
 use Rattle.tram_theory.specs.Stretches.{Holds, WithinMarks, Between, OnTrack, StandsFrom, WidenedHoldsBoth}
 use Rattle.tram_theory.specs.TramPromises.{YesExactlyIf, NoneMissed, TrulyWithin, CrossingPromises, WithinPromises}
 use Rattle.tram_theory.specs.TramPromises.{NearestOfAll, ZeroExactlyIfCrossing, NoneCloser, NearestPromises}
@@ -24,6 +22,13 @@ use Rattle.tram_theory.proofs.Stretches.{on_track, widened_in_order, widened_hol
 use Rattle.tram_theory.proofs.Stretches.{crosses_if, crosses_only_if, within_if, within_only_if}
 use Rattle.tram_theory.proofs.ServedTrams.{yes_if, yes_only_if, each_refusal, each_answers, each_status, served_if_told}
 use Rattle.tram_theory.proofs.NearestTrams.{crossing_at_0, at_0_crossing, no_farther, found, some_found, none_found, of_no_trams}
+use Rattle.model.specs.Trams.{Trams}
+use Rattle.model.specs.NearestTram.{NoTram, Tram}
+use Rattle.model.specs.Refusals.{Refused, status_of}
+use Rattle.std.specs.Prelude.{length}
+use Rattle.std.specs.Prelude.{Option, Some, None, Ok, []}
+use Rattle.code_theory.proofs.RefusalRows.{status_and_values}
+use Rattle.model.specs.NearestTram.{NearestAnswer, NoTram}
 
 -- ---- trams of a search that is served
 
@@ -34,7 +39,7 @@ module _ (card : List ℕ) (trams : Trams) where
       let (sound, rows) = none_past_card (card_refusal card) (rows_of_trams (last_position (code_of card)) trams first second) none in
       (sound, on_track (last_position (code_of card)) trams first second rows)
 
-  module _ (sound : SoundCard card) (placed : OnTrack (last_position (code_of card)) trams) (i : ℕ) (below : i < trams.count) where
+  module _ (sound : SoundCard card) (placed : OnTrack (last_position (code_of card)) trams) (i : ℕ) (below : i < length trams) where
     in_order : (widened_at (code_of card) trams i).low ≤ (widened_at (code_of card) trams i).high
     unfolding widened_at
     in_order =
@@ -70,11 +75,11 @@ module _ (Test : Stretch → Type 0) (test : Stretch → Bool)
             let is : refusal ≡ 0 = sym number ∙ none in
             let (_, placed) = served card trams first second is in
             rw (each_answers test C trams refusal is)
-            (yes_if test (widened_at C trams) trams.count i placed.few below (if (widened_at C trams i) holds));
+            (yes_if test (widened_at C trams) (length trams) i placed.few below (if (widened_at C trams i) holds));
         only = λ i told.
             let is = served_if_told test C trams refusal i told in
             let (below, holds) =
-            yes_only_if test (widened_at C trams) trams.count i (rw (each_answers test C trams refusal is) at told) in
+            yes_only_if test (widened_at C trams) (length trams) i (rw (each_answers test C trams refusal is) at told) in
             (number ∙ is, below, only_if (widened_at C trams i) holds);
       }
 
@@ -85,7 +90,7 @@ crossing_promises card trams mark =
     record {
       exactly = exactly;
       none_missed = λ i a b none below stands between.
-          let inside : i < trams.count = omega arith in
+          let inside : i < length trams = omega arith in
           let (sound, placed) = served card trams mark mark (sym (each_status (crosses mark) card trams mark mark) ∙ none) in
           exactly.yes i none inside (holds_between card trams sound placed i inside a b mark stands between);
     }
@@ -117,30 +122,32 @@ module _ (card : List ℕ) (trams : Trams) (mark : ℕ) where
   stretch = widened_at (code_of card) trams
 
   -- a search that is answered otherwise than by a refusal is served
-  answered : refusal ≡ 0 → nearest_answer card trams mark ≡ nearest_of mark stretch trams.count
+  answered : refusal ≡ 0 → nearest_answer card trams mark ≡ Ok (nearest_of mark stretch (length trams))
   unfolding nearest_answer
   answered none = served_if_none refusal Refused _ none
 
-  status_0 : nearest_status (nearest_answer card trams mark) ≡ 0 → refusal ≡ 0
-  unfolding nearest_answer nearest_status
-  status_0 e =
-      ⊎_elim (λ (none : refusal ≡ 0). none)
-      (λ (ne : refusal ≡ 0 → ⊥). rw (refused_if_some refusal Refused (nearest_of mark stretch trams.count) ne) at e) (eq_or_ne refusal 0)
+  status_0 : status_of (nearest_answer card trams mark) ≡ 0 → refusal ≡ 0
+  unfolding nearest_answer
+  status_0 e = sym (status_and_values {B = ℕ} (λ (place : Option ℕ). []) refusal _).0 ∙ e
 
   tram_answered : (place : ℕ) → nearest_answer card trams mark ≡ Tram place
-      → (refusal ≡ 0) × (nearest_of mark stretch trams.count ≡ Tram place)
-  unfolding nearest_status
-  tram_answered place e = let none = status_0 (rw e refl) in (none, sym (answered none) ∙ e)
+      → (refusal ≡ 0) × (nearest_of mark stretch (length trams) ≡ Some place)
+  unfolding status_of
+  tram_answered place e =
+      let none = status_0 (rw e refl) in
+      let same : ◌≡◌ {A = NearestAnswer} (Ok (nearest_of mark stretch (length trams))) (Tram place) = sym (answered none) ∙ e in
+      (none, cc)
 
-  none_answered : nearest_answer card trams mark ≡ NoTram → nearest_of mark stretch trams.count ≡ NoTram
-  unfolding nearest_status
-  none_answered e = sym (answered (status_0 (rw e refl))) ∙ e
+  none_answered : nearest_answer card trams mark ≡ NoTram → nearest_of mark stretch (length trams) ≡ None
+  unfolding status_of
+  none_answered e =
+      let same : ◌≡◌ {A = NearestAnswer} (Ok (nearest_of mark stretch (length trams))) NoTram = sym (answered (status_0 (rw e refl))) ∙ e in cc
 
   nearest_of_all : NearestOfAll card trams mark (nearest_answer card trams mark)
   nearest_of_all =
       record {
         nearest = λ place e.
-            let (below, best) = found mark stretch trams.count place (tram_answered place e).1 in
+            let (below, best) = found mark stretch (length trams) place (tram_answered place e).1 in
             record {
               in_list = below;
               none_nearer = λ i l. (best i l).no_farther_off;
@@ -150,9 +157,9 @@ module _ (card : List ℕ) (trams : Trams) (mark : ℕ) where
                   (lt_or_le i place);
             };
         some = λ zero_is inhabited.
-            let (place, is) = some_found mark stretch trams.count inhabited in (place, answered (status_0 zero_is) ∙ is);
-        none = λ e. none_found mark stretch trams.count (none_answered e);
-        of_none = λ zero_is empty. answered (status_0 zero_is) ∙ of_no_trams mark stretch trams.count empty;
+            let (place, is) = some_found mark stretch (length trams) inhabited in (place, answered (status_0 zero_is) ∙ ap Ok is);
+        none = λ e. none_found mark stretch (length trams) (none_answered e);
+        of_none = λ zero_is empty. answered (status_0 zero_is) ∙ ap Ok (of_no_trams mark stretch (length trams) empty);
       }
 
   zero_exactly_if_crossing : ZeroExactlyIfCrossing card trams mark (nearest_answer card trams mark)
@@ -167,7 +174,7 @@ module _ (card : List ℕ) (trams : Trams) (mark : ℕ) where
       let (none, is) = tram_answered place e in
       let (sound, placed) = served card trams mark mark none in
       let near = no_farther mark (stretch i) position (holds_between card trams sound placed i below a b position stands between) in
-      omega (arith, ((found mark stretch trams.count place is).1 i below).no_farther_off)
+      omega (arith, ((found mark stretch (length trams) place is).1 i below).no_farther_off)
 
   pub nearest_promises : NearestPromises card trams mark (nearest_answer card trams mark)
   nearest_promises = record { of_all = nearest_of_all; crossing = zero_exactly_if_crossing; none_closer = none_closer }

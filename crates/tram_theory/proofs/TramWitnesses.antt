@@ -22,12 +22,9 @@ use Rattle.model.specs.ReadWord.{spare_set, rows_of_word, read_word}
 use Rattle.model.specs.CardsToTry.{card_a, card_b}
 use Rattle.model.specs.Trams.{widened, widened_at}
 use Rattle.model.specs.TramsCrossing.{crosses}
-use Rattle.model.specs.NearestTram.{distance_to, nearest_status}
-use Rattle.model.specs.declared.ChunkBits.TheVariants.{Differing, NotRead}
+use Rattle.model.specs.NearestTram.{distance_to}
 use Rattle.model.specs.declared.Reading.{Reading}
-use Rattle.model.specs.declared.ReadAnswer.TheVariants.{At}
 use Rattle.model.specs.declared.Stretch.{Stretch}
-use Rattle.model.specs.declared.NearestAnswer.TheVariants.{Tram}
 use Rattle.code_theory.proofs.CodeWitnesses.{card_b_sound}
 use Rattle.position_theory.specs.Damage.{damaged_in, WithinRadius}
 use Rattle.position_theory.specs.Margin.{ReadFrom}
@@ -37,11 +34,14 @@ use Rattle.position_theory.proofs.SoundCards.{read_sound}
 use Rattle.tram_theory.specs.Stretches.{StandsFrom, WidenedHoldsBoth}
 use Rattle.tram_theory.specs.TramPromises.{NoneMissed, TrulyWithin, IsNearest, ZeroExactlyIfCrossing, NoneCloser}
 use Rattle.tram_theory.specs.TramWitnesses.{from_to, at15, from12, from11, exchanged, TramsWitnessed}
+use Rattle.std.specs.Prelude.{None, Ok, Some}
+use Rattle.model.specs.NearestTram.{Tram}
+use Rattle.model.specs.Refusals.{status_of}
 
 -- ---- positions of card B that are read from words within the radius
 
 read_as : (position : ℕ) (received : List ℕ) (reading : Reading) → position ≤ last_position (code_of card_b)
-    → WithinRadius (code_of card_b) position received → read_word (code_of card_b) received ≡ At reading
+    → WithinRadius (code_of card_b) position received → read_word (code_of card_b) received ≡ Ok reading
     → ReadFrom card_b position reading.position
 read_as position received reading on_track near is =
     record {
@@ -54,10 +54,10 @@ read_as position received reading on_track near is =
     }
 
 abbrev by_rule1 : (position : ℕ) → Reading
-by_rule1 position = record { position = position; residual = 0; rule = 1; chunk1 = Differing 0; chunk2 = NotRead }
+by_rule1 position = record { position = position; residual = 0; rule = 1; chunk1 = Some 0; chunk2 = None }
 
 abbrev by_rule3 : (position residual : ℕ) → Reading
-by_rule3 position residual = record { position = position; residual = residual; rule = 3; chunk1 = Differing 0; chunk2 = Differing 0 }
+by_rule3 position residual = record { position = position; residual = residual; rule = 3; chunk1 = Some 0; chunk2 = Some 0 }
 
 record Reads : Type 0 where
   15-as-13 : ReadFrom card_b 15 13
@@ -110,7 +110,7 @@ pub trams_witnessed : TramsWitnessed
 unfolding sum_below weight place list_of any_below
     high_first row_of sum_of_rows least_weight code_of bytes_of row_bytes sealed card_of card_a card_b
     gray last_codeword start last_position
-    widened widened_at crosses distance_to nearest_status
+    widened widened_at crosses distance_to status_of
     WidenedHoldsBoth NoneMissed TrulyWithin ZeroExactlyIfCrossing NoneCloser
 trams_witnessed =
     record {

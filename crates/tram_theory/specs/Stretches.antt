@@ -5,8 +5,9 @@ use Rattle.model.specs.Card.{code_of, SoundCard}
 use Rattle.model.specs.Order.{last_position}
 use Rattle.model.specs.Trams.{most_trams, stretch_at, margin, widened}
 use Rattle.model.specs.declared.Stretch.{Stretch}
-use Rattle.model.specs.declared.Trams.{Trams}
 use Rattle.position_theory.specs.Margin.{ReadFrom}
+use Rattle.model.specs.Trams.{Trams}
+use Rattle.std.specs.Prelude.{length}
 
 -- a position lies in a stretch; and a stretch lies within two marks
 abbrev pub Holds : Stretch → (position : ℕ) → Type 0
@@ -22,9 +23,9 @@ Between a b position = ((a ≤ position) × (position ≤ b)) ⊎ ((b ≤ positi
 -- trams whose count 18 and whose stretches 19 does not refuse: at most 64, each with its low end at most its high end, and that at most
 -- the last position
 pub record OnTrack (last : ℕ) (trams : Trams) : Type 0 where
-  pub few : trams.count ≤ most_trams
-  pub in_order : (i : ℕ) → i < trams.count → (stretch_at trams i).low ≤ (stretch_at trams i).high
-  pub below_last : (i : ℕ) → i < trams.count → (stretch_at trams i).high ≤ last
+  pub few : length trams ≤ most_trams
+  pub in_order : (i : ℕ) → i < length trams → (stretch_at trams i).low ≤ (stretch_at trams i).high
+  pub below_last : (i : ℕ) → i < length trams → (stretch_at trams i).high ≤ last
 
 -- a tram truly stands at a and b and between them: the low end of its stretch was read from a word of a, and the high end from one of b,
 -- each with at most t damaged bits in every chunk

@@ -3,30 +3,31 @@
 use Rattle.std.specs.Prelude.{◌≡◌, true, false, List, ℕ, ◌≤◌, ◌<◌, get_or}
 use Rattle.model.specs.Card.{code_of}
 use Rattle.model.specs.Trams.{stretch_at, widened_at}
-use Rattle.model.specs.NearestTram.{apart, distance_to, nearest_status}
+use Rattle.model.specs.NearestTram.{apart, distance_to}
 use Rattle.model.specs.declared.Stretch.{Stretch}
-use Rattle.model.specs.declared.Trams.{Trams}
-use Rattle.model.specs.declared.TramsAnswer.{TramsAnswer}
-use Rattle.model.specs.declared.NearestAnswer.{NearestAnswer}
-use Rattle.model.specs.declared.NearestAnswer.TheVariants.{Tram, NoTram}
 use Rattle.tram_theory.specs.Stretches.{Holds, WithinMarks, Between, StandsFrom}
+use Rattle.model.specs.Trams.{Trams, TramsAnswer}
+use Rattle.model.specs.NearestTram.{NearestAnswer, NoTram, Tram}
+use Rattle.model.specs.Refusals.{status_of}
+use Rattle.std.specs.Prelude.{length}
+use Rattle.model.specs.Trams.{answers_of}
 
 -- ---- yes or no for each tram
 
 -- the answer for the tram at place i is yes
 abbrev pub AnsweredYes : TramsAnswer → (i : ℕ) → Type 0
-AnsweredYes answer i = get_or answer.yes i false ≡ true
+AnsweredYes answer i = get_or (answers_of answer) i false ≡ true
 
 -- Where the search is served, the answer for a tram is yes if this holds of its widened stretch, and only then. Past the count, and where
 -- the search is refused, it never is.
 pub record YesExactlyIf (Test : Stretch → Type 0) (card : List ℕ) (trams : Trams) (answer : TramsAnswer) : Type 0 where
-  pub yes : (i : ℕ) → answer.refusal ≡ 0 → i < trams.count → Test (widened_at (code_of card) trams i) → AnsweredYes answer i
-  pub only : (i : ℕ) → AnsweredYes answer i → (answer.refusal ≡ 0) × (i < trams.count) × Test (widened_at (code_of card) trams i)
+  pub yes : (i : ℕ) → status_of answer ≡ 0 → i < length trams → Test (widened_at (code_of card) trams i) → AnsweredYes answer i
+  pub only : (i : ℕ) → AnsweredYes answer i → (status_of answer ≡ 0) × (i < length trams) × Test (widened_at (code_of card) trams i)
 
 -- a tram that truly stands at the mark, since the mark lies between its true positions a and b, is never missed
 unfoldable pub NoneMissed : (card : List ℕ) → Trams → (mark : ℕ) → TramsAnswer → Type 0
 NoneMissed card trams mark answer =
-    (i a b : ℕ) → answer.refusal ≡ 0 → i < trams.count → StandsFrom card (stretch_at trams i) a b → Between a b mark → AnsweredYes answer i
+    (i a b : ℕ) → status_of answer ≡ 0 → i < length trams → StandsFrom card (stretch_at trams i) a b → Between a b mark → AnsweredYes answer i
 
 -- a tram that is reported as within two marks truly is: both its true positions lie between them
 unfoldable pub TrulyWithin : (card : List ℕ) → Trams → (first second : ℕ) → TramsAnswer → Type 0
@@ -57,22 +58,22 @@ pub record IsNearest (mark : ℕ) (stretch : ℕ → Stretch) (count place : ℕ
 
 -- where the search is served, the nearest in the widened list is answered if there are trams, and of no trams none
 pub record NearestOfAll (card : List ℕ) (trams : Trams) (mark : ℕ) (answer : NearestAnswer) : Type 0 where
-  pub nearest : (place : ℕ) → answer ≡ Tram place → IsNearest mark (widened_at (code_of card) trams) trams.count place
-  pub some : nearest_status answer ≡ 0 → 0 < trams.count → (place : ℕ) × (answer ≡ Tram place)
-  pub none : answer ≡ NoTram → trams.count ≡ 0
-  pub of_none : nearest_status answer ≡ 0 → trams.count ≡ 0 → answer ≡ NoTram
+  pub nearest : (place : ℕ) → answer ≡ Tram place → IsNearest mark (widened_at (code_of card) trams) (length trams) place
+  pub some : status_of answer ≡ 0 → 0 < length trams → (place : ℕ) × (answer ≡ Tram place)
+  pub none : answer ≡ NoTram → length trams ≡ 0
+  pub of_none : status_of answer ≡ 0 → length trams ≡ 0 → answer ≡ NoTram
 
 -- where the search is served, a tram is at distance 0 if it crosses the mark, and only then
 unfoldable pub ZeroExactlyIfCrossing : (card : List ℕ) → Trams → (mark : ℕ) → NearestAnswer → Type 0
 ZeroExactlyIfCrossing card trams mark answer =
-    (i : ℕ) → nearest_status answer ≡ 0 → i < trams.count
+    (i : ℕ) → status_of answer ≡ 0 → i < length trams
     → (Holds (widened_at (code_of card) trams i) mark → distance_to mark (widened_at (code_of card) trams i) ≡ 0)
     × (distance_to mark (widened_at (code_of card) trams i) ≡ 0 → Holds (widened_at (code_of card) trams i) mark)
 
 -- no part of any tram, at a position between its true positions a and b, is nearer to the mark than the distance of the tram answered
 unfoldable pub NoneCloser : (card : List ℕ) → Trams → (mark : ℕ) → NearestAnswer → Type 0
 NoneCloser card trams mark answer =
-    (place i a b position : ℕ) → answer ≡ Tram place → i < trams.count → StandsFrom card (stretch_at trams i) a b
+    (place i a b position : ℕ) → answer ≡ Tram place → i < length trams → StandsFrom card (stretch_at trams i) a b
     → Between a b position → distance_to mark (widened_at (code_of card) trams place) ≤ apart mark position
 
 pub record NearestPromises (card : List ℕ) (trams : Trams) (mark : ℕ) (answer : NearestAnswer) : Type 0 where

@@ -12,9 +12,9 @@ use Rattle.model.specs.CheckCard.{card_answer}
 use Rattle.report.specs.Lines.{card_line}
 use Rattle.report.specs.Report.{words_report, report_of}
 use Rattle.stream.proofs.Whole.{report_of_sound, report_of_refused}
+use Rattle.std.specs.Prelude.{Result, Ok, Err}
+use Rattle.standard_io.specs.declared.Failure.{Failure}
 use Rattle.standard_io.specs.declared.Received.{Received}
-use Rattle.word_loop.specs.declared.Ended.{Ended}
-use Rattle.word_loop.specs.declared.Ended.TheVariants.{At, Failed}
 use Rattle.word_loop.specs.Parts.{PartOfReport, Completed, LastPart}
 
 -- the report, as a function of what comes in behind the card
@@ -33,35 +33,21 @@ card_line_part card short line =
       whole = rw (all, line);
     }
 
--- the last part
-pub last_part : (card : List ℕ) {last : List ℕ} → Completed (behind card) last → PartOfReport last
-last_part card completed =
-    record {
-      input = card ++ completed.came;
-      before = completed.text;
-      after = [];
-      whole = completed.whole ∙ sym (append-nil _);
-    }
-
-pub refused_card_line : (card : List ℕ) → length card ≤ 512 → (SoundCard card → ⊥) → (end : ℕ) (out : List ℕ) → end ≤ length out
-    → take end out ≡ card_line (card_answer card) → (last : Received) → LastPart (behind card) out (At end last)
-unfolding LastPart
-refused_card_line card short refused end out room line last =
+pub refused_card_line : (card : List ℕ) → length card ≤ 512 → (SoundCard card → ⊥) → {text : List ℕ}
+    → text ≡ card_line (card_answer card) → Completed (behind card) text
+refused_card_line card short refused line =
     let all : take 512 card ≡ card = take_all 512 card short in
     let whole : report_of card ≡ card_line (card_answer card) = rw all at (report_of_refused card (rw all refused)) in
-    (room, record { came = []; text = []; whole = rw append-nil (whole ∙ sym line) })
+    record { came = []; text = []; whole = rw append-nil (whole ∙ sym line) }
 
-pub words_behind_card : (card : List ℕ) → SoundCard card → (C : Code) → C ≡ code_of card → (out : List ℕ) (r : Ended)
-    → LastPart (words_report C) out r → LastPart (behind card) out r
-unfolding LastPart
-words_behind_card card sound C is out (At end read) last = (
-  last.0,
-  record {
-    came = last.1.came;
-    text = card_line (card_answer card) ++ last.1.text;
-    whole =
-        report_of_sound card sound last.1.came
-        ∙ rw (← is, last.1.whole) (sym (append_assoc (card_line (card_answer card)) last.1.text (take end out)));
-  },
-)
-words_behind_card card sound C is out Failed last = tt
+pub words_behind_card : (card : List ℕ) → SoundCard card → (C : Code) → C ≡ code_of card → (text : List ℕ) (r : Result Received Failure)
+    → LastPart (words_report C) text r → LastPart (behind card) text r
+words_behind_card card sound C is text (Ok read) last =
+    record {
+      came = last.came;
+      text = card_line (card_answer card) ++ last.text;
+      whole =
+          report_of_sound card sound last.came
+          ∙ rw (← is, last.whole) (sym (append_assoc (card_line (card_answer card)) last.text text));
+    }
+words_behind_card card sound C is text (Err failure) last = tt

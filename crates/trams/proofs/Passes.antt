@@ -2,32 +2,26 @@
 use mathlib.Core.Path.{◌≡◌, ◌∙◌}
 use mathlib.Core.Bool.{Bool, true, false, cond}
 use mathlib.Core.List.{List}
-use Prim.Native.Nat.{ℕ, zero, suc, ◌+◌, ◌-◌, ◌≤◌, ◌<◌, min}
+use Prim.Native.Nat.{ℕ, zero, suc, ◌+◌, ◌≤◌, ◌<◌}
 use native.Mathlib.Numerals.{add-one}
 use native.Mathlib.Omega.{arith}
-use lib.ListN.{get_or, set, replicate}
+use lib.ListN.{length, get_or, set, replicate}
+use Rattle.std.specs.Prelude.{Some}
 use Rattle.bits.proofs.FilledLists.{filled_none, filled_more}
-use Rattle.model.specs.Trams.{most_trams, stretch_at, widened, answers_by}
+use Rattle.model.specs.Trams.{Trams, most_trams, stretch_at, widened, answers_by}
 use Rattle.model.specs.NearestTram.{goes_before, nearest_up_to, nearest_of}
 use Rattle.model.specs.declared.Stretch.{Stretch}
-use Rattle.model.specs.declared.Trams.{Trams}
-use Rattle.model.specs.declared.NearestAnswer.TheVariants.{Tram}
 use Rattle.tram_theory.specs.Stretches.{OnTrack}
 use Rattle.tram_theory.proofs.Stretches.{widened_in_order}
 
 -- ---- widening
 
-pub is_widened : (margin last : ℕ) (s : Stretch) (low high : ℕ) → low ≡ s.low - margin → high ≡ min (s.high + margin) last
-    → ◌≡◌ {A = Stretch} (record { low = low; high = high }) (widened margin last s)
-unfolding widened
-is_widened margin last s low high low_is high_is = rw (low_is, high_is)
-
 -- the stretch at place i of a list, widened
 abbrev pub wide_at : (margin last : ℕ) (stretches : List Stretch) (i : ℕ) → Stretch
 wide_at margin last stretches i = widened margin last (get_or stretches i (record { low = 0; high = 0 }))
 
-pub wide_in_order : (margin last : ℕ) (trams : Trams) → OnTrack last trams → (i : ℕ) → i < trams.count
-    → (wide_at margin last trams.stretches i).low ≤ (wide_at margin last trams.stretches i).high
+pub wide_in_order : (margin last : ℕ) (trams : Trams) → OnTrack last trams → (i : ℕ) → i < length trams
+    → (wide_at margin last trams i).low ≤ (wide_at margin last trams i).high
 wide_in_order margin last trams placed i below =
     widened_in_order margin last (stretch_at trams i) (placed.in_order i below) (placed.below_last i below)
 
@@ -45,16 +39,16 @@ module _ (test : Stretch → Bool) (stretch : ℕ → Stretch) where
 -- ---- the nearest
 
 module _ (mark : ℕ) (stretch : ℕ → Stretch) where
-  next : (i place : ℕ) → nearest_of mark stretch i ≡ Tram place
-      → nearest_of mark stretch (i + 1) ≡ Tram (cond (goes_before mark (stretch i) (stretch place)) i place)
+  next : (i place : ℕ) → nearest_of mark stretch i ≡ Some place
+      → nearest_of mark stretch (i + 1) ≡ Some (cond (goes_before mark (stretch i) (stretch place)) i place)
   unfolding nearest_of nearest_up_to
   next zero place e = let z : ◌≡◌ {A = ℕ} 0 1 = cc in absurd (omega arith)
   next (suc m) place e = let same : nearest_up_to mark stretch m ≡ place = cc in rw (add-one (suc m), ← same)
 
-  pub nearer : (i place : ℕ) → nearest_of mark stretch i ≡ Tram place → goes_before mark (stretch i) (stretch place) ≡ true
-      → nearest_of mark stretch (i + 1) ≡ Tram i
+  pub nearer : (i place : ℕ) → nearest_of mark stretch i ≡ Some place → goes_before mark (stretch i) (stretch place) ≡ true
+      → nearest_of mark stretch (i + 1) ≡ Some i
   nearer i place e before = next i place e ∙ rw before
 
-  pub no_nearer : (i place : ℕ) → nearest_of mark stretch i ≡ Tram place → goes_before mark (stretch i) (stretch place) ≡ false
-      → nearest_of mark stretch (i + 1) ≡ Tram place
+  pub no_nearer : (i place : ℕ) → nearest_of mark stretch i ≡ Some place → goes_before mark (stretch i) (stretch place) ≡ false
+      → nearest_of mark stretch (i + 1) ≡ Some place
   no_nearer i place e after = next i place e ∙ rw after

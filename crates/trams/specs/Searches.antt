@@ -1,11 +1,7 @@
--- The test of a stretch that a search makes. Assumes nothing.
-use Rattle.std.specs.Prelude.{Bool}
-use Rattle.model.specs.TramsCrossing.{crosses}
-use Rattle.model.specs.TramsWithin.{lies_within}
+-- What a search among trams asks of each stretch. Assumes nothing.
+use Rattle.std.specs.Prelude.{◌≡◌, Bool}
 use Rattle.model.specs.declared.Stretch.{Stretch}
-use Rattle.trams.specs.declared.each_tram.Search.{Search}
-use Rattle.trams.specs.declared.each_tram.Search.TheVariants.{Crossing, Within}
 
-unfoldable pub test_of : Search → Stretch → Bool
-test_of (Crossing mark) = crosses mark
-test_of (Within first second) = lies_within first second
+-- whatever is answered of a stretch is what this test is of it
+abbrev pub Computes : (answers : Stretch → Bool → Type 0) (test : Stretch → Bool) → Type 0
+Computes answers test = (s : Stretch) (answer : Bool) → answers s answer → answer ≡ test s

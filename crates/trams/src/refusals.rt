@@ -1,11 +1,15 @@
 // Refusals 18 and 19, which look at stretches and marks as they are given: one function for all three searches.
-ghost use Rattle.std.specs.Prelude.{◌≡◌, ◌≤◌};
-ghost use Rattle.model.specs.Refusals.{first_refusal};
-ghost use Rattle.model.specs.Trams.{most_trams, misplaced_pair, any_misplaced, rows_of_trams};
+ghost use Rattle.std.specs.Prelude.{◌≡◌};
+ghost use Rattle.model.specs.Refusals.{first_refusal, Refused, unless_refused};
+ghost use Rattle.model.specs.Trams.{misplaced_pair, any_misplaced, rows_of_trams};
 
-use model::Trams;
+use model::{Refusal, Stretch};
+
+// The most trams of a track.
+const MOST_TRAMS: usize = 64;
 
 // Whether a stretch or a pair of marks has its low end above its high end, or its high end above the last position.
+#[tactic(auto, unfolding(model::specs::Trams::misplaced_pair))]
 fn misplaced(last: u32, low: u32, high: u32) -> bool
     ensures { result ≡ misplaced_pair last low high }
 {
@@ -13,35 +17,22 @@ fn misplaced(last: u32, low: u32, high: u32) -> bool
 }
 
 // Whether the pair of marks is misplaced, or the stretch of any tram.
-fn any_misplaced(last: u32, trams: Trams, first: u32, second: u32) -> bool
-    requires { trams.count ≤ most_trams }
-    ensures { result ≡ any_misplaced last trams first second }
+#[tactic(auto, unfolding(model::specs::Trams::any_misplaced))]
+fn any_misplaced(last: u32, trams: &[Stretch], first: u32, second: u32) -> bool
+    ensures { result ≡ any_misplaced last trams.now first second }
 {
-    if misplaced(last, first, second) {
-        return true;
-    }
-    let count = trams.count;
-    let stretches = trams.stretches;
-    let mut i: usize = 0;
-    while i < count {
-        let s = stretches[i];
-        if misplaced(last, s.low, s.high) {
-            return true;
-        }
-        i += 1;
-    }
-    false
+    misplaced(last, first, second) || trams.iter().any(|s| misplaced(last, s.low, s.high))
 }
 
-// The refusal's number, or 0. A search for one mark has it as both marks of the pair.
-pub fn refusal_of(last: u32, trams: Trams, first: u32, second: u32) -> u32
-    ensures { result ≡ first_refusal (rows_of_trams last trams first second) }
+// The refusal, if there is one. A search for one mark has it as both marks of the pair.
+pub fn refusal_of(last: u32, trams: &[Stretch], first: u32, second: u32) -> Result<(), Refusal>
+    ensures { result ≡ unless_refused (first_refusal (rows_of_trams last trams.now first second)) Refused (Ok tt) }
 {
-    if 64 < trams.count {
-        return 18;
+    if MOST_TRAMS < trams.len() {
+        return Err(Refusal::TOO_MANY_TRAMS);
     }
     if any_misplaced(last, trams, first, second) {
-        return 19;
+        return Err(Refusal::MISPLACED_STRETCH);
     }
-    0
+    Ok(())
 }

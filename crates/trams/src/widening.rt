@@ -16,6 +16,7 @@ pub fn margin_of(code: DecodedCode) -> u32
 }
 
 // A stretch that does not end above the last position, widened.
+#[tactic(auto, unfolding(model::specs::Trams::widened))]
 pub fn widened_stretch(margin: u32, last: u32, s: Stretch) -> Stretch
     requires { (s.high ≤ last) × (last + margin < 4294967296) }
     ensures { result ≡ widened margin last s }

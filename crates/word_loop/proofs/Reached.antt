@@ -8,6 +8,8 @@ use mathlib.Core.List.{List, [], ◌++◌, append_assoc}
 use native.Mathlib.Omega.{arith}
 use lib.ListN.{length, take, drop, length-append, length-drop}
 use lib.Seq.{length-take-le}
+use borrow.Rule.Slice.PartMut.{put_mid}
+use Rattle.std.proofs.lemmas.Slice.{take-put_mid_below}
 use Rattle.model.specs.Card.{Code}
 use Rattle.model.specs.CheckCard.{card_answer}
 use Rattle.report.specs.Lines.{card_line, short_line, last_line}
@@ -28,17 +30,18 @@ pub reached_first : (C : Code) (input : List ℕ) {p : Progress} → p.held ≡ 
 reached_first C input held met read =
     record { all = []; text = []; streamed = streamed_nothing C input held met read; each_turn = omega arith }
 
--- the bytes up to those held stand in the buffer as they stood
-pub reached_still : {C : Code} (start : ℕ) (buffer buffer' : List ℕ) {p : Progress} {turns : ℕ} → start ≤ length buffer
-    → start ≤ length buffer'
-    → take (start + p.held) buffer' ≡ take (start + p.held) buffer
-    → Reached C (drop start buffer) p turns → Reached C (drop start buffer') p turns
-reached_still start buffer buffer' {p} inside inside' same reached =
+-- bytes are written into the buffer behind those held
+pub reached_behind : {C : Code} (start : ℕ) (buffer behind : List ℕ) (k : ℕ) {p : Progress} {turns : ℕ} → start + p.held ≤ length buffer
+    → Reached C (drop start buffer) p turns → Reached C (drop start (put_mid (start + p.held) k buffer behind)) p turns
+reached_behind start buffer behind k {p} inside reached =
     let s = reached.streamed in
+    let buffer' : List ℕ = put_mid (start + p.held) k buffer behind in
+    let same : take (start + p.held) buffer' ≡ take (start + p.held) buffer = take-put_mid_below _ k buffer behind _ (omega arith) inside in
+    let inside' : start ≤ length buffer' = simp length-append (omega (arith, length-take-le (start + p.held) buffer inside)) in
     let front : take p.held (drop start buffer') ≡ take p.held (drop start buffer) =
-    sym (behind_of_front start buffer' p.held inside')
+    sym (behind_of_front start buffer' inside' p.held)
     ∙ ap (drop start) same
-    ∙ behind_of_front start buffer p.held inside in
+    ∙ behind_of_front start buffer (omega arith) p.held in
     record {
       all = reached.all;
       text = reached.text;

@@ -1,10 +1,10 @@
 -- The parts in which a report is put out: the card's line, the lines of each turn's words, and the last part. Which bytes came in, no
 -- contract can say: each statement is of some input. Assumes nothing.
-use Rattle.std.specs.Prelude.{◌≡◌, false, List, ◌++◌, ℕ, ◌≤◌, length, take}
+use Rattle.std.specs.Prelude.{◌≡◌, List, ◌++◌, ℕ, Result, Ok, Err}
 use Rattle.model.specs.Card.{Code, code_of, SoundCard}
 use Rattle.report.specs.Report.{report_of}
-use Rattle.word_loop.specs.declared.Ended.{Ended}
-use Rattle.word_loop.specs.declared.Ended.TheVariants.{At, Failed}
+use Rattle.standard_io.specs.declared.Failure.{Failure}
+use Rattle.standard_io.specs.declared.Received.{Received}
 
 -- a code that a sound card gives
 pub record FromCard (C : Code) : Type 0 where
@@ -25,12 +25,12 @@ pub record Completed (report : List ℕ → List ℕ) (last : List ℕ) : Type 0
   pub text : List ℕ
   pub whole : report came ≡ text ++ last
 
--- where all the input was read, the last part of its report is at the front of `out`; nothing is said where it failed
-unfoldable pub LastPart : (report : List ℕ → List ℕ) (out : List ℕ) → Ended → Type 0
-LastPart report out (At end last) = (end ≤ length out) × Completed report (take end out)
-LastPart report out Failed = Unit {0}
+-- where all the input was read, the last part of its report is `text`; nothing is said where it failed
+abbrev pub LastPart : (report : List ℕ → List ℕ) (text : List ℕ) → Result Received Failure → Type 0
+LastPart report text (Ok last) = Completed report text
+LastPart report text (Err failure) = Unit {0}
 
--- a report is completed only at the end of the input: there the last read brought nothing, and did not fail
-unfoldable pub OnlyAtEnd : Ended → Type 0
-OnlyAtEnd (At end last) = (last.count ≡ 0) × (last.failed ≡ false)
-OnlyAtEnd Failed = Unit {0}
+-- a report is completed only at the end of the input: there the last read, which did not fail, brought nothing
+abbrev pub OnlyAtEnd : Result Received Failure → Type 0
+OnlyAtEnd (Ok last) = last.count ≡ 0
+OnlyAtEnd (Err failure) = Unit {0}

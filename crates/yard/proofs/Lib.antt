@@ -1,5 +1,3 @@
 pub mod TramLists
 pub mod EntryPlaces
-pub mod Unsound
-pub mod HeldTracks
 pub mod QueueFront

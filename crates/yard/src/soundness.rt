@@ -1,48 +1,28 @@
 // Refusal 26, the yard handed in: a tram twice, a tram waiting for a free track, or more than 32 waiting. And whether a tram is in the yard.
 ghost use Rattle.std.specs.Prelude.{◌≡◌, ◌≤◌};
-ghost use Rattle.model.specs.Yard.{most_waiting, entries, trams_of, among, any_for_free, unsound};
+ghost use Rattle.model.specs.Yard.{most_waiting, trams_of, among, any_for_free, unsound};
 
-use super::trams;
-use model::Yard;
+use super::{tracks, trams};
+use model::{MOST_WAITING, Waiting, Yard};
 
-// Whether a tram waits for a free track.
-fn any_for_free(yard: Yard) -> bool
-    requires { yard.count ≤ most_waiting }
-    ensures { result ≡ any_for_free yard (entries yard) }
+// Whether one of these waits for a free track.
+fn any_for_free(yard: Yard, entries: &[Waiting]) -> bool
+    ensures { result ≡ any_for_free yard entries.now }
 {
-    let slots = yard.slots;
-    let waiting = yard.waiting;
-    let count = yard.count;
-    let mut i: usize = 0;
-    while i < count {
-        let entry = waiting[i];
-        let track = entry.track as usize;
-        if 15 < track {
-            return true;
-        }
-        let slot = slots[track];
-        if !slot.held {
-            return true;
-        }
-        i += 1;
-    }
-    false
+    entries
+        .iter()
+        .any(|entry| !tracks::is_held(yard, entry.track as usize))
 }
 
 // Whether the yard is refused by 26.
 pub fn is_unsound(yard: Yard) -> bool
     ensures { result ≡ unsound yard }
 {
-    if 32 < yard.count {
+    if MOST_WAITING < yard.count {
         return true;
     }
-    if any_for_free(yard) {
-        return true;
-    }
-    let list = trams::trams_of(yard);
-    let count = list.count;
-    let trams = list.trams;
-    trams::any_is_twice(&trams[0..count])
+    let entries = &yard.waiting[..yard.count];
+    any_for_free(yard, entries) || trams::any_is_twice(&yard.slots, entries)
 }
 
 // Whether a tram holds or waits for any track.
@@ -50,8 +30,5 @@ pub fn is_in_yard(yard: Yard, tram: u16) -> bool
     requires { yard.count ≤ most_waiting }
     ensures { result ≡ among tram (trams_of yard) }
 {
-    let list = trams::trams_of(yard);
-    let count = list.count;
-    let trams = list.trams;
-    trams::is_among(tram, &trams[0..count])
+    trams::is_among(tram, &yard.slots, &yard.waiting[..yard.count])
 }

@@ -11,14 +11,15 @@ use borrow.Author.Tests.{eq-eqb, ne_eqb}
 use lib.ListN.{length, get_or, set, length-set}
 use lib.Seq.{get_or-set_same, get_or-set_other, take-suc-set}
 use Rattle.bits.proofs.Numbers.{eq_or_ne}
-use Rattle.model.specs.Yard.{track_count, most_waiting, free_slot, slot_at, is_held, entries, queue_in, queue, holders, trams_of}
+use Rattle.model.specs.Yard.{track_count, most_waiting, free_slot, taken, number_in, slot_at, is_held, entries, queue_in, queue, holders, trams_of}
 use Rattle.model.specs.Yard.{holding, joined, freed, handed_to}
 use Rattle.model.specs.declared.Slot.{Slot}
+use Rattle.model.specs.declared.Slot.TheVariants.{Held}
 use Rattle.model.specs.declared.Waiting.{Waiting}
 use Rattle.model.specs.declared.Yard.{Yard}
 use Rattle.yard_theory.specs.Lines.{HoldsTrack, WaitsBehind, line}
 use Rattle.yard_theory.specs.YardPromises.{OtherLinesStay}
-use Rattle.yard_theory.proofs.TramCounts.{is_tram, times, times_append, in_slot, times_set}
+use Rattle.yard_theory.proofs.TramCounts.{is_tram, times, times_append, in_free, times_set}
 use Rattle.yard_theory.proofs.Queues.{trams_in, queue_append, queue_of_one, queue_of_other, trams_append}
 use Rattle.yard_theory.proofs.Queues.{removed, length_without, removed_entries, removed_queue, removed_other, removed_times}
 use Rattle.yard_theory.proofs.OrderlyYards.{Orderly}
@@ -27,7 +28,7 @@ use Rattle.yard_theory.proofs.OrderlyYards.{Orderly}
 
 pub line_held : (yard : Yard) (track tram : ℕ) → HoldsTrack yard track tram → line yard track ≡ tram ∷ queue yard track
 unfolding line
-line_held yard track tram holds = ap (λ (s : Slot). cond s.held (s.tram ∷ queue yard track) (queue yard track)) holds
+line_held yard track tram holds = ap (λ (s : Slot). cond (taken s) (number_in s ∷ queue yard track) (queue yard track)) holds
 
 pub line_free : (yard : Yard) (track : ℕ) → Orderly yard → is_held yard track ≡ false → line yard track ≡ []
 unfolding line
@@ -38,8 +39,8 @@ same_line : (before after : Yard) (track : ℕ) → slot_at after track ≡ slot
     → line after track ≡ line before track
 unfolding line
 same_line before after track slot waiting =
-    ap (λ (s : Slot). cond s.held (s.tram ∷ queue after track) (queue after track)) slot
-    ∙ ap (λ (q : List ℕ). cond (is_held before track) ((slot_at before track).tram ∷ q) q) waiting
+    ap (λ (s : Slot). cond (taken s) (number_in s ∷ queue after track) (queue after track)) slot
+    ∙ ap (λ (q : List ℕ). cond (is_held before track) (number_in (slot_at before track) ∷ q) q) waiting
 
 -- the trams of the yard are those that hold a track and those that wait
 pub in_all : (x : ℕ) (yard : Yard) → times x (trams_of yard) ≡ times x (holders yard.slots) + times x (trams_in (entries yard))
@@ -68,7 +69,7 @@ module _ (yard : Yard) (orderly : Orderly yard) (tram track : ℕ) (inside : tra
   slots_16 = orderly.sized.tracks
 
   abbrev mine : Slot
-  mine = record { held = true; tram = tram }
+  mine = Held tram
 
   abbrev entry : Waiting
   entry = record { tram = tram; track = track }
@@ -100,17 +101,17 @@ module _ (yard : Yard) (orderly : Orderly yard) (tram track : ℕ) (inside : tra
           few = orderly.few;
           at_most_once = λ x.
               let now_held = times_set x yard.slots track mine (omega (arith, inside, slots_16)) in
-              let was_free : in_slot x (slot_at yard track) ≡ 0 = rw free in
+              let was_free = in_free x (slot_at yard track) free in
               let before = in_all x yard in
               let after = in_all x (holding tram track yard) in
               omega (arith, now_held, was_free, before, after, one_more yard orderly tram new x);
           none_for_free = λ other still-free.
               ⊎_elim
               (λ (here : other ≡ track).
-              absurd (false≢true (sym still-free ∙ ap (λ (t : ℕ). is_held (holding tram track yard) t) here ∙ ap (λ (s : Slot). s.held) holding_holds)))
+              absurd (false≢true (sym still-free ∙ ap (λ (t : ℕ). is_held (holding tram track yard) t) here ∙ ap taken holding_holds)))
               (λ (ne : other ≡ track → ⊥).
               orderly.none_for_free other
-              (sym (ap (λ (s : Slot). s.held) (slot_as_before yard.slots track mine (omega (arith, inside, slots_16)) other ne)) ∙ still-free))
+              (sym (ap taken (slot_as_before yard.slots track mine (omega (arith, inside, slots_16)) other ne)) ∙ still-free))
               (eq_or_ne other track);
         }
 
@@ -170,13 +171,13 @@ module _ (yard : Yard) (orderly : Orderly yard) (tram track : ℕ) (inside : tra
   module _ (none : queue yard track ≡ []) where
     pub freed_free : is_held (freed track yard) track ≡ false
     unfolding freed
-    freed_free = ap (λ (s : Slot). s.held) (slot_changed yard.slots track free_slot tracks_16)
+    freed_free = ap taken (slot_changed yard.slots track free_slot tracks_16)
 
     pub freed_line : line yard track ≡ tram ∷ line (freed track yard) track
     unfolding line freed
     freed_line =
         line_held yard track tram holds
-        ∙ sym (ap (λ (b : Bool). tram ∷ cond b ((slot_at (freed track yard) track).tram ∷ queue yard track) (queue yard track)) freed_free)
+        ∙ sym (ap (λ (b : Bool). tram ∷ cond b (number_in (slot_at (freed track yard) track) ∷ queue yard track) (queue yard track)) freed_free)
 
     pub freed_others : OtherLinesStay track yard (freed track yard)
     unfolding OtherLinesStay freed
@@ -197,14 +198,14 @@ module _ (yard : Yard) (orderly : Orderly yard) (tram track : ℕ) (inside : tra
               ⊎_elim (λ (here : other ≡ track). ap (queue yard) here ∙ none)
               (λ (ne : other ≡ track → ⊥).
               orderly.none_for_free other
-              (sym (ap (λ (s : Slot). s.held) (slot_as_before yard.slots track free_slot tracks_16 other ne)) ∙ still-free))
+              (sym (ap taken (slot_as_before yard.slots track free_slot tracks_16 other ne)) ∙ still-free))
               (eq_or_ne other track);
         }
 
   -- the first of the queue holds the track
   module _ (first : ℕ) (rest : List ℕ) (waits : queue yard track ≡ first ∷ rest) where
     abbrev next : Slot
-    next = record { held = true; tram = first }
+    next = Held first
 
     pub handed_holds : HoldsTrack (handed_to first track yard) track first
     unfolding handed_to
@@ -245,10 +246,10 @@ module _ (yard : Yard) (orderly : Orderly yard) (tram track : ℕ) (inside : tra
           none_for_free = λ other still-free.
               ⊎_elim
               (λ (here : other ≡ track).
-              absurd (false≢true (sym still-free ∙ ap (λ (t : ℕ). is_held (handed_to first track yard) t) here ∙ ap (λ (s : Slot). s.held) handed_holds)))
+              absurd (false≢true (sym still-free ∙ ap (λ (t : ℕ). is_held (handed_to first track yard) t) here ∙ ap taken handed_holds)))
               (λ (ne : other ≡ track → ⊥).
               other_queues_stay other ne
               ∙ orderly.none_for_free other
-              (sym (ap (λ (s : Slot). s.held) (slot_as_before yard.slots track next tracks_16 other ne)) ∙ still-free))
+              (sym (ap taken (slot_as_before yard.slots track next tracks_16 other ne)) ∙ still-free))
               (eq_or_ne other track);
         }

@@ -1,17 +1,18 @@
 -- What is known of a request or a release once none of its rows holds. Assumes nothing.
-use mathlib.Core.Path.{◌≡◌, refl, sym, ap, ◌∙◌}
-use mathlib.Core.Bool.{Bool, true, false, ◌&&◌, false≢true}
+use mathlib.Core.Path.{◌≡◌, refl, sym, ap}
+use mathlib.Core.Bool.{true, false, ◌&&◌, false≢true}
 use mathlib.Core.Logic.{⊎_elim}
 use Prim.Native.Nat.{ℕ, ◌≤◌, ◌<◌}
 use native.Mathlib.Omega.{arith}
 use borrow.Author.Tests.{ltb-false, le-leb, eqb-true, not-false}
 use lib.Dec.{eqb}
-use Rattle.bits.proofs.Numbers.{lt_or_le, and_true_left, and_true_right}
+use Rattle.bits.proofs.Numbers.{lt_or_le}
 use Rattle.model.specs.Refusals.{first_refusal}
-use Rattle.model.specs.Yard.{track_count, most_waiting, slot_at, is_held, trams_of, among, unsound}
+use Rattle.model.specs.Yard.{track_count, most_waiting, taken, number_in, slot_at, is_held, trams_of, among, unsound}
 use Rattle.model.specs.RequestTrack.{rows_of_request, request_refusal}
 use Rattle.model.specs.ReleaseTrack.{is_holder, rows_of_release}
 use Rattle.model.specs.declared.Slot.{Slot}
+use Rattle.model.specs.declared.Slot.TheVariants.{Free, Held}
 use Rattle.model.specs.declared.Yard.{Yard}
 use Rattle.code_theory.proofs.RefusalRows.{NoneHolds, numbered, none_holds}
 use Rattle.yard_theory.specs.Lines.{HoldsTrack}
@@ -41,11 +42,9 @@ pub record ReleasePassed (yard : Yard) (tram track : ℕ) : Type 0 where
   pub on_yard : track < track_count
   pub holds : HoldsTrack yard track tram
 
-is_holder_lem : (s : Slot) (tram : ℕ) → (s.held && eqb s.tram tram) ≡ true → s ≡ record { held = true; tram = tram }
-is_holder_lem s tram is =
-    let held = and_true_left s.held (eqb s.tram tram) is in
-    let same = eqb-true s.tram tram (and_true_right s.held (eqb s.tram tram) is) in
-    ap (λ (b : Bool). record { held = b; tram = s.tram }) held ∙ ap (λ (x : ℕ). record { held = true; tram = x }) same
+is_holder_lem : (s : Slot) (tram : ℕ) → (taken s && eqb (number_in s) tram) ≡ true → s ≡ Held tram
+is_holder_lem (Free number) tram is = absurd (false≢true is)
+is_holder_lem (Held holder) tram is = ap (λ (x : ℕ). Held x) (eqb-true holder tram is)
 
 pub release_passed : (yard : Yard) (tram track : ℕ) → first_refusal (rows_of_release yard tram track) ≡ 0 → ReleasePassed yard tram track
 unfolding is_holder rows_of_release NoneHolds numbered

@@ -2,7 +2,7 @@
 -- end. So a tram in the line has one fewer ahead of it after each accepted release of the track, and as many as before after any other
 -- call; the line's first is the holder, the others are the queue. Assumes nothing.
 use mathlib.Core.Path.{◌≡◌, refl, sym, ap, ◌∙◌}
-use mathlib.Core.Bool.{Bool, true, false, false≢true}
+use mathlib.Core.Bool.{true, false, false≢true}
 use mathlib.Core.List.{List, [], ◌∷◌, ◌++◌, append-nil}
 use mathlib.Core.Logic.{⊎_elim}
 use Prim.Native.Nat.{ℕ, suc, ◌+◌}
@@ -12,10 +12,12 @@ use lib.Dec.{eqb}
 use lib.ListN.{length, get_or, length-append}
 use Rattle.bits.proofs.Numbers.{eq_or_ne, true_or_false, and_true_left, and_true_right}
 use Rattle.model.specs.Card.{track_of}
-use Rattle.model.specs.Yard.{empty_yard, slot_at, is_held, entries, queue_in, queue}
+use Rattle.model.specs.Yard.{empty_yard, taken, number_in, slot_at, is_held, entries, queue_in, queue}
 use Rattle.model.specs.Yard.{holders, trams_of}
-use Rattle.model.specs.RequestTrack.{request_answer, request_status}
+use Rattle.model.specs.RequestTrack.{request_answer}
 use Rattle.model.specs.ReleaseTrack.{release_answer, accepted}
+use Rattle.model.specs.declared.Slot.{Slot}
+use Rattle.model.specs.declared.Slot.TheVariants.{Free, Held}
 use Rattle.model.specs.declared.Yard.{Yard}
 use Rattle.yard_theory.specs.Lines.{HasAhead, WaitsBehind, HoldsTrack, HoldsNone, line}
 use Rattle.yard_theory.specs.YardPromises.{OtherLinesStay}
@@ -27,6 +29,7 @@ use Rattle.yard_theory.proofs.SizedYards.{sized_after}
 use Rattle.yard_theory.proofs.Changes.{line_free, in_all}
 use Rattle.yard_theory.proofs.RequestPromises.{request_promises}
 use Rattle.yard_theory.proofs.ReleasePromises.{release_promises}
+use Rattle.model.specs.Refusals.{status_of}
 
 -- ---- the empty yard
 
@@ -64,14 +67,14 @@ module _ (yard : Yard) (orderly : Orderly yard) where
         head_leaves = λ is. absurd (false≢true is);
         may_grow = λ _.
             ⊎_elim
-            (λ (served : request_status left.answer ≡ 0).
+            (λ (served : status_of left.answer ≡ 0).
             ⊎_elim
             (λ (here : track ≡ requested). rw here (tram ∷ [], promised.joins served))
             (λ (other : track ≡ requested → ⊥). unchanged track yard left.yard (promised.others served track other))
             (eq_or_ne track requested))
-            (λ (refused : request_status left.answer ≡ 0 → ⊥).
+            (λ (refused : status_of left.answer ≡ 0 → ⊥).
             unchanged track yard left.yard (ap (λ (y : Yard). line y track) (promised.unchanged refused)))
-            (eq_or_ne (request_status left.answer) 0);
+            (eq_or_ne (status_of left.answer) 0);
       }
 
   request_orderly : (tram requested : ℕ) → Orderly (yard_after (request tram requested) yard)
@@ -80,10 +83,10 @@ module _ (yard : Yard) (orderly : Orderly yard) where
       let promised = request_promises yard tram requested orderly.sized in
       let left = request_answer yard tram requested in
       ⊎_elim
-      (λ (served : request_status left.answer ≡ 0).
+      (λ (served : status_of left.answer ≡ 0).
       sound_orderly left.yard (sized_after yard orderly.sized (request tram requested)) (promised.sound served))
-      (λ (refused : request_status left.answer ≡ 0 → ⊥). rw (promised.unchanged refused) orderly)
-      (eq_or_ne (request_status left.answer) 0)
+      (λ (refused : status_of left.answer ≡ 0 → ⊥). rw (promised.unchanged refused) orderly)
+      (eq_or_ne (status_of left.answer) 0)
 
   -- ---- a release
 
@@ -175,6 +178,10 @@ first_is head rest {tram} has = by_front has.ahead has.in_list has.as_many
     by_front [] is none = ap (λ (l : List ℕ). get_or l 0 0) is
     by_front (a ∷ ahead) is none = absurd (omega (arith, none))
 
+held_slot : (s : Slot) → taken s ≡ true → s ≡ Held (number_in s)
+held_slot (Free number) is = absurd (false≢true is)
+held_slot (Held tram) is = refl
+
 module _ (yard : Yard) (orderly : Orderly yard) (tram track : ℕ) where
   -- of a track whose line is not empty, the line is the holder and then the queue
   held_by_some : (many : ℕ) → HasAhead (line yard track) tram many → is_held yard track ≡ true
@@ -183,7 +190,7 @@ module _ (yard : Yard) (orderly : Orderly yard) (tram track : ℕ) where
       (λ (free : is_held yard track ≡ false). absurd (none_in_empty tram many (rw (line_free yard track orderly free) at has)))
       (true_or_false (is_held yard track))
 
-  in_two : is_held yard track ≡ true → line yard track ≡ (slot_at yard track).tram ∷ queue yard track
+  in_two : is_held yard track ≡ true → line yard track ≡ number_in (slot_at yard track) ∷ queue yard track
   unfolding line
   in_two held = rw held
 
@@ -194,9 +201,9 @@ module _ (yard : Yard) (orderly : Orderly yard) (tram track : ℕ) where
       (λ (held : is_held yard track ≡ true).
       rw (in_two held)
       record {
-        ahead = (slot_at yard track).tram ∷ waits.ahead;
+        ahead = number_in (slot_at yard track) ∷ waits.ahead;
         behind = waits.behind;
-        in_list = ap (λ (r : List ℕ). (slot_at yard track).tram ∷ r) waits.in_list;
+        in_list = ap (λ (r : List ℕ). number_in (slot_at yard track) ∷ r) waits.in_list;
         as_many = ap suc waits.as_many;
       })
       (λ (free : is_held yard track ≡ false). absurd (none_in_empty tram q (rw (orderly.none_for_free track free) at waits)))
@@ -204,14 +211,14 @@ module _ (yard : Yard) (orderly : Orderly yard) (tram track : ℕ) where
 
   line_waits : (left : ℕ) → HasAhead (line yard track) tram (suc left) → WaitsBehind yard track tram left
   line_waits left has =
-      one_less_ahead (slot_at yard track).tram (queue yard track) tram left (rw (in_two (held_by_some (suc left) has)) at has)
+      one_less_ahead (number_in (slot_at yard track)) (queue yard track) tram left (rw (in_two (held_by_some (suc left) has)) at has)
 
   -- the first of the line holds the track
   line_holds : HasAhead (line yard track) tram 0 → HoldsTrack yard track tram
   line_holds has =
       let held = held_by_some 0 has in
-      ap (λ (b : Bool). record { held = b; tram = (slot_at yard track).tram }) held
-      ∙ ap (λ (x : ℕ). record { held = true; tram = x }) (first_is (slot_at yard track).tram (queue yard track) (rw (in_two held) at has))
+      held_slot (slot_at yard track) held
+      ∙ ap (λ (x : ℕ). Held x) (first_is (number_in (slot_at yard track)) (queue yard track) (rw (in_two held) at has))
 
   -- a tram is in the yard at most once, so that one that waits holds no track
   waits_holds_none : (q : ℕ) → WaitsBehind yard track tram q → HoldsNone yard tram

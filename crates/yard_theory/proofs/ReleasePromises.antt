@@ -15,11 +15,7 @@ use Rattle.model.specs.ReadWord.{read_answer}
 use Rattle.model.specs.Yard.{queue, freed, handed_to}
 use Rattle.model.specs.ReleaseTrack.{rows_of_release, refusal_ahead_of_word, is_clear, handed_on, released_at, released_by, release_answer, accepted}
 use Rattle.model.specs.declared.Yard.{Yard}
-use Rattle.model.specs.declared.ReadAnswer.{ReadAnswer}
-use Rattle.model.specs.declared.ReadAnswer.TheVariants.{At, Refused as ReadRefused}
 use Rattle.model.specs.declared.Released.{Released}
-use Rattle.model.specs.declared.ReleaseAnswer.{ReleaseAnswer}
-use Rattle.model.specs.declared.ReleaseAnswer.TheVariants.{NotClear, Freed, HandedTo, Refused}
 use Rattle.code_theory.proofs.RefusalRows.{served_if_none, refused_if_some, none_past_card}
 use Rattle.position_theory.specs.Damage.{WithinRadius, Near}
 use Rattle.position_theory.proofs.Margin.{near_margin}
@@ -28,13 +24,18 @@ use Rattle.yard_theory.proofs.OrderlyYards.{Sized, Orderly, sound_orderly, order
 use Rattle.yard_theory.proofs.Changes.{freed_free, freed_line, freed_others, freed_orderly}
 use Rattle.yard_theory.proofs.Changes.{handed_holds, handed_line, handed_others, handed_orderly}
 use Rattle.yard_theory.proofs.PassedRows.{ReleasePassed, release_passed}
+use Rattle.model.specs.ReadWord.{ReadAnswer}
+use Rattle.std.specs.Prelude.{Ok, Err}
+use Rattle.model.specs.Refusals.{Refused}
+use Rattle.model.specs.ReleaseTrack.{Freed, HandedTo, NotClear, ReleaseAnswer}
+use Rattle.model.specs.ReleaseTrack.{accepted_release}
 
 -- one above the tram that an answer hands the track to, or 0: so that answers are told apart
 unfoldable taker : ReleaseAnswer → ℕ
 taker NotClear = 0
 taker Freed = 0
 taker (HandedTo tram) = suc tram
-taker (Refused refusal) = 0
+taker (Err refusal) = 0
 
 zero_is_not_suc : {n : ℕ} → 0 ≡ suc n → ⊥
 zero_is_not_suc {n} is = omega (arith, is)
@@ -44,7 +45,7 @@ module _ (yard : Yard) (tram : ℕ) (word : List ℕ) (mark : ℕ) (card : List 
 
   not_accepted : (r : Released) → accepted r.answer ≡ false → r.yard ≡ yard → ClearNeverKept yard tram word mark card r
       → ReleasePromises yard tram word mark card r
-  unfolding accepted OnlyClearGivenAway
+  unfolding accepted accepted_release OnlyClearGivenAway
   not_accepted r kept stays never =
       record {
         unchanged = λ _. stays;
@@ -63,7 +64,7 @@ module _ (yard : Yard) (tram : ℕ) (word : List ℕ) (mark : ℕ) (card : List 
     handed_on_lem : (waiting : List ℕ) → queue yard (track_of card) ≡ waiting
         → OnlyClearGivenAway word mark card (handed_on (track_of card) yard waiting)
         → ReleasePromises yard tram word mark card (handed_on (track_of card) yard waiting)
-    unfolding handed_on accepted ClearNeverKept taker
+    unfolding handed_on accepted accepted_release ClearNeverKept taker
     handed_on_lem [] none clear =
         record {
           unchanged = λ kept. absurd (false≢true (sym kept));
@@ -109,7 +110,7 @@ module _ (yard : Yard) (tram : ℕ) (word : List ℕ) (mark : ℕ) (card : List 
 
       not_clear : is_clear (code_of card) read mark ≡ false
           → ReleasePromises yard tram word mark card (record { answer = NotClear; yard = yard })
-      unfolding is_clear accepted ClearNeverKept
+      unfolding is_clear accepted accepted_release ClearNeverKept
       not_clear is =
           not_accepted (record { answer = NotClear; yard = yard }) refl refl
           (λ position on_track within far ahead.
@@ -126,14 +127,14 @@ module _ (yard : Yard) (tram : ℕ) (word : List ℕ) (mark : ℕ) (card : List 
         → ((position : ℕ) → position ≤ last_position (code_of card) → WithinRadius (code_of card) position word
         → Near answer position (margin (code_of card)))
         → ReleasePromises yard tram word mark card (released_by (code_of card) (track_of card) yard answer mark)
-    unfolding released_by Near accepted ClearNeverKept
-    released_by_lem (At reading) near = released_at_lem reading.position near
-    released_by_lem (ReadRefused refusal) near =
-        not_accepted (record { answer = Refused refusal; yard = yard }) refl refl
+    unfolding released_by Near accepted accepted_release ClearNeverKept
+    released_by_lem (Ok reading) near = released_at_lem reading.position near
+    released_by_lem (Err refusal) near =
+        not_accepted (record { answer = Err refusal; yard = yard }) refl refl
         (λ position on_track within far ahead. absurd (near position on_track within))
 
   pub release_promises : Sized yard → ReleasePromises yard tram word mark card (release_answer yard tram word mark card)
-  unfolding release_answer refusal_ahead_of_word accepted ClearNeverKept
+  unfolding release_answer refusal_ahead_of_word accepted accepted_release ClearNeverKept
   release_promises sized =
       ⊎_elim
       (λ (none : refusal_ahead_of_word yard tram card ≡ 0).

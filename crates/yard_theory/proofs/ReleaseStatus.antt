@@ -12,32 +12,32 @@ use Rattle.model.specs.Refusals.{first_refusal, unless_refused}
 use Rattle.model.specs.Card.{Code, card_refusal, code_of, track_of, SoundCard}
 use Rattle.model.specs.ReadWord.{reading_of, read_answer, read_refusal}
 use Rattle.model.specs.Yard.{is_held, queue}
-use Rattle.model.specs.RequestTrack.{request_served, request_status}
+use Rattle.model.specs.RequestTrack.{request_served}
 use Rattle.model.specs.ReleaseTrack.{refusal_ahead_of_word, release_refusal, is_clear, handed_on, released_at, released_by}
-use Rattle.model.specs.ReleaseTrack.{release_on, release_answer, release_status}
+use Rattle.model.specs.ReleaseTrack.{release_on, release_answer}
 use Rattle.model.specs.declared.Yard.{Yard}
 use Rattle.model.specs.declared.Requested.{Requested}
 use Rattle.model.specs.declared.Released.{Released}
-use Rattle.model.specs.declared.ReleaseAnswer.TheVariants.{Refused}
 use Rattle.position_theory.proofs.SoundCards.{read_sound}
+use Rattle.model.specs.Refusals.{Refused, status_of}
 
 -- a request that is served has no refusal
-pub request_served_status : (yard : Yard) (tram track : ℕ) → request_status (request_served yard tram track).answer ≡ 0
-unfolding request_served request_status
+pub request_served_status : (yard : Yard) (tram track : ℕ) → status_of (request_served yard tram track).answer ≡ 0
+unfolding request_served status_of
 request_served_status yard tram track =
-    by_test (λ (r : Requested). request_status r.answer ≡ 0) (is_held yard track) (λ _. refl) (λ _. refl)
+    by_test (λ (r : Requested). status_of r.answer ≡ 0) (is_held yard track) (λ _. refl) (λ _. refl)
 
 -- nor has a release whose word is read
-handed_on_status : (track : ℕ) (yard : Yard) (waiting : List ℕ) → release_status (handed_on track yard waiting).answer ≡ 0
-unfolding handed_on release_status
+handed_on_status : (track : ℕ) (yard : Yard) (waiting : List ℕ) → status_of (handed_on track yard waiting).answer ≡ 0
+unfolding handed_on status_of
 handed_on_status track yard [] = refl
 handed_on_status track yard (first ∷ others) = refl
 
 pub released_status : (C : Code) (track : ℕ) (yard : Yard) (position mark : ℕ)
-    → release_status (released_at C track yard position mark).answer ≡ 0
-unfolding released_at release_status
+    → status_of (released_at C track yard position mark).answer ≡ 0
+unfolding released_at status_of
 released_status C track yard position mark =
-    by_test (λ (r : Released). release_status r.answer ≡ 0) (is_clear C position mark)
+    by_test (λ (r : Released). status_of r.answer ≡ 0) (is_clear C position mark)
     (λ _. handed_on_status track yard (queue yard track)) (λ _. refl)
 
 -- a refusal that is the only row is the answer

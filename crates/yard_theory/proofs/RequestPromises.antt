@@ -8,10 +8,8 @@ use native.Mathlib.Omega.{arith}
 use lib.ListN.{get_or}
 use Rattle.bits.proofs.Numbers.{eq_or_ne, true_or_false}
 use Rattle.model.specs.Yard.{is_held, trams_of, holding, joined}
-use Rattle.model.specs.RequestTrack.{request_refusal, request_served, request_answer, request_status, request_values}
+use Rattle.model.specs.RequestTrack.{request_refusal, request_served, request_answer, request_values}
 use Rattle.model.specs.declared.Yard.{Yard}
-use Rattle.model.specs.declared.RequestAnswer.{RequestAnswer}
-use Rattle.model.specs.declared.RequestAnswer.TheVariants.{Holds, Waits, Refused}
 use Rattle.code_theory.proofs.RefusalRows.{served_if_none, refused_if_some}
 use Rattle.yard_theory.specs.YardPromises.{RequestPromises}
 use Rattle.yard_theory.proofs.TramCounts.{times, among_times}
@@ -19,6 +17,12 @@ use Rattle.yard_theory.proofs.OrderlyYards.{Sized, Orderly, sound_orderly, order
 use Rattle.yard_theory.proofs.Changes.{holding_holds, holding_line, holding_others, holding_orderly}
 use Rattle.yard_theory.proofs.Changes.{joined_waits, joined_line, joined_others, joined_orderly}
 use Rattle.yard_theory.proofs.PassedRows.{RequestPassed, request_passed}
+use Rattle.model.specs.RequestTrack.{Holds, RequestAnswer, Waits}
+use Rattle.model.specs.Refusals.{Refused, status_of}
+use Rattle.model.specs.Refusals.{values_by}
+use Rattle.std.specs.Prelude.{Err}
+use Rattle.model.specs.RequestTrack.{request_value}
+use Rattle.model.specs.declared.Refusal.{Refusal}
 
 -- the value of an answer tells a tram that holds from one that waits
 abbrev value : RequestAnswer → ℕ
@@ -28,13 +32,13 @@ zero_is_not_one : ◌≡◌ {A = ℕ} 0 1 → ⊥
 zero_is_not_one is = omega (arith, is)
 
 module _ (yard : Yard) (tram track : ℕ) where
-  request_refused : (number : ℕ) → (number ≡ 0 → ⊥) → RequestPromises yard tram track (record { answer = Refused number; yard = yard })
-  unfolding request_status
-  request_refused number some =
+  request_refused : (refusal : Refusal) → (refusal.number ≡ 0 → ⊥) → RequestPromises yard tram track (record { answer = Err refusal; yard = yard })
+  unfolding status_of
+  request_refused refusal some =
       record {
         unchanged = λ _. refl;
-        holds = λ is. absurd (some (ap request_status is));
-        waits = λ is. absurd (some (ap request_status is));
+        holds = λ is. absurd (some (ap status_of is));
+        waits = λ is. absurd (some (ap status_of is));
         joins = λ none. absurd (some none);
         others = λ none. absurd (some none);
         sound = λ none. absurd (some none);
@@ -45,7 +49,7 @@ module _ (yard : Yard) (tram track : ℕ) where
     new = among_times tram (trams_of yard) passed.new
 
     request_holds : is_held yard track ≡ false → RequestPromises yard tram track (record { answer = Holds; yard = holding tram track yard })
-    unfolding request_status request_values
+    unfolding status_of values_by request_value
     request_holds free =
         record {
           unchanged = λ refused. absurd (refused refl);
@@ -57,7 +61,7 @@ module _ (yard : Yard) (tram track : ℕ) where
         }
 
     request_waits : is_held yard track ≡ true → RequestPromises yard tram track (record { answer = Waits; yard = joined tram track yard })
-    unfolding request_status request_values
+    unfolding status_of values_by request_value
     request_waits held =
         let room = passed.room held in
         record {
@@ -85,5 +89,5 @@ module _ (yard : Yard) (tram track : ℕ) where
       (request_served_lem (sound_orderly yard sized passed.sound) passed))
       (λ (some : request_refusal yard tram track ≡ 0 → ⊥).
       rw (refused_if_some (request_refusal yard tram track) (λ number. record { answer = Refused number; yard = yard }) (request_served yard tram track) some)
-      (request_refused (request_refusal yard tram track) some))
+      (request_refused (record { number = request_refusal yard tram track }) some))
       (eq_or_ne (request_refusal yard tram track) 0)

@@ -14,12 +14,12 @@ use Rattle.model.specs.ReleaseTrack.{refusal_ahead_of_word, is_clear, handed_on,
 use Rattle.model.specs.declared.Slot.{Slot}
 use Rattle.model.specs.declared.Yard.{Yard}
 use Rattle.model.specs.declared.Requested.{Requested}
-use Rattle.model.specs.declared.ReadAnswer.{ReadAnswer}
-use Rattle.model.specs.declared.ReadAnswer.TheVariants.{At, Refused}
 use Rattle.model.specs.declared.Released.{Released}
 use Rattle.yard_theory.specs.Runs.{Call, request, release, yard_after}
 use Rattle.yard_theory.proofs.Queues.{length_without}
 use Rattle.yard_theory.proofs.OrderlyYards.{Sized}
+use Rattle.model.specs.ReadWord.{ReadAnswer}
+use Rattle.std.specs.Prelude.{Ok, Err}
 
 module _ (yard : Yard) (sized : Sized yard) where
   tracks_stay : (track : ℕ) (s : Slot) → length (set yard.slots track s) ≡ track_count
@@ -43,10 +43,10 @@ module _ (yard : Yard) (sized : Sized yard) where
 
   after_reading : (C : Code) (track : ℕ) (answer : ReadAnswer) (mark : ℕ) → Sized (released_by C track yard answer mark).yard
   unfolding released_by released_at
-  after_reading C track (At reading) mark =
+  after_reading C track (Ok reading) mark =
       by_test (λ (r : Released). Sized r.yard) (is_clear C reading.position mark)
       (λ _. after_handing_on track (queue yard track)) (λ _. sized)
-  after_reading C track (Refused refusal) mark = sized
+  after_reading C track (Err refusal) mark = sized
 
   after_release : (tram : ℕ) (word : List ℕ) (mark : ℕ) (card : List ℕ) → Sized (release_answer yard tram word mark card).yard
   unfolding release_answer unless_refused

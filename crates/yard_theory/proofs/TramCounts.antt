@@ -11,8 +11,9 @@ use borrow.Author.Tests.{eq-eqb, ne_eqb}
 use lib.Dec.{eqb}
 use lib.ListN.{length, get_or, set}
 use Rattle.bits.proofs.Numbers.{eq_or_ne, true_or_false, or_false_left, or_false_right}
-use Rattle.model.specs.Yard.{free_slot, holders, among, any_twice}
+use Rattle.model.specs.Yard.{free_slot, taken, holders, among, any_twice}
 use Rattle.model.specs.declared.Slot.{Slot}
+use Rattle.model.specs.declared.Slot.TheVariants.{Free, Held}
 
 -- 1 for the tram itself, and 0 for any other
 abbrev pub is_tram : (x y : ℕ) → ℕ
@@ -72,12 +73,17 @@ none_twice (y ∷ ys) at_most =
 -- ---- the trams that hold a track, when a slot changes
 
 abbrev pub in_slot : (x : ℕ) → Slot → ℕ
-in_slot x s = cond s.held (is_tram x s.tram) 0
+in_slot x (Free number) = 0
+in_slot x (Held tram) = is_tram x tram
+
+pub in_free : (x : ℕ) (s : Slot) → taken s ≡ false → in_slot x s ≡ 0
+in_free x (Free number) is = refl
+in_free x (Held tram) is = absurd (false≢true (sym is))
 
 times_slot : (x : ℕ) (s : Slot) (slots : List Slot) → times x (holders (s ∷ slots)) ≡ in_slot x s + times x (holders slots)
 unfolding times holders
-times_slot x s slots =
-    ⊎_elim (λ (held : s.held ≡ true). rw held) (λ (free : s.held ≡ false). rw free (sym (zero-add (times x (holders slots))))) (true_or_false s.held)
+times_slot x (Free number) slots = sym (zero-add (times x (holders slots)))
+times_slot x (Held tram) slots = refl
 
 pub times_set : (x : ℕ) (slots : List Slot) (track : ℕ) (s : Slot) → track < length slots
     → times x (holders (set slots track s)) + in_slot x (get_or slots track free_slot) ≡ times x (holders slots) + in_slot x s
@@ -91,8 +97,8 @@ times_set x (s₀ ∷ slots) (suc track) s inside =
     omega (arith, before, after, rest)
 
 -- a tram that holds a track is among the holders
-pub holds_once : (x : ℕ) (slots : List Slot) (track : ℕ) → get_or slots track free_slot ≡ record { held = true; tram = x } → 1 ≤ times x (holders slots)
-holds_once x [] track is = absurd (false≢true (ap (λ (s : Slot). s.held) is))
+pub holds_once : (x : ℕ) (slots : List Slot) (track : ℕ) → get_or slots track free_slot ≡ Held x → 1 ≤ times x (holders slots)
+holds_once x [] track is = absurd (false≢true (ap taken is))
 holds_once x (s ∷ slots) zero is =
     let own : in_slot x s ≡ 1 = ap (in_slot x) is ∙ itself x in let all = times_slot x s slots in omega (arith, own, all)
 holds_once x (s ∷ slots) (suc track) is =

@@ -18,7 +18,7 @@ use Rattle.model.specs.Words.{chunk_size, places_before, five_chunks, word, bloc
 use Rattle.model.specs.ReadWord.{spare_set}
 use Rattle.model.specs.CardsToTry.{card_b}
 use Rattle.model.specs.Yard.{empty_yard, queue_in, holders, trams_of, among, any_twice, any_for_free, unsound, holding, joined}
-use Rattle.model.specs.RequestTrack.{rows_of_request, request_refusal, request_served, request_answer, request_status}
+use Rattle.model.specs.RequestTrack.{rows_of_request, request_refusal, request_served, request_answer}
 use Rattle.model.specs.ReleaseTrack.{is_holder, rows_of_release, refusal_ahead_of_word, accepted}
 use Rattle.position_theory.specs.Damage.{damaged_in}
 use Rattle.position_theory.specs.PositionWitnesses.{last_damaged}
@@ -27,6 +27,8 @@ use Rattle.yard_theory.specs.Lines.{line}
 use Rattle.yard_theory.specs.Runs.{yard_after, run, NeverUnsound, ServedInTurn}
 use Rattle.yard_theory.specs.YardPromises.{OtherLinesStay, OnlyClearGivenAway, ClearNeverKept}
 use Rattle.yard_theory.specs.YardWitnesses.{longer, last_of_longer, three_requests, alone, YardWitnessed}
+use Rattle.model.specs.Refusals.{status_of}
+use Rattle.model.specs.ReleaseTrack.{accepted_release}
 
 longer_sound : SoundCard longer
 unfolding sum_below any_below first_refusal high_first row_of twos_complement offset_of stored_check computed_check sum_of_rows
@@ -46,7 +48,7 @@ unfolding sum_below distance join_at walk weight place cut byte_of list_of pack
     gray last_codeword codeword changed_row changed_weight start last_position
     chunk_size places_before five_chunks word block_of word_at word_bytes spare_set damaged_in
     empty_yard queue_in holders trams_of among any_twice any_for_free unsound holding joined
-    rows_of_request request_refusal request_served request_answer request_status accepted
+    rows_of_request request_refusal request_served request_answer status_of accepted accepted_release
     line OtherLinesStay yard_after run NeverUnsound ServedInTurn OnlyClearGivenAway ClearNeverKept
 yard_witnessed =
     record {

@@ -1,6 +1,7 @@
 -- Who holds a track, and who waits for it with how many trams ahead. Assumes nothing.
-use Rattle.std.specs.Prelude.{◌≡◌, true, cond, List, ◌∷◌, ◌++◌, ℕ, length}
-use Rattle.model.specs.Yard.{slot_at, is_held, queue}
+use Rattle.std.specs.Prelude.{◌≡◌, cond, List, ◌∷◌, ◌++◌, ℕ, length}
+use Rattle.model.specs.Yard.{number_in, slot_at, is_held, queue}
+use Rattle.model.specs.declared.Slot.TheVariants.{Held}
 use Rattle.model.specs.declared.Yard.{Yard}
 
 -- the tram is in the list, with so many ahead of it
@@ -16,7 +17,7 @@ WaitsBehind yard track tram q = HasAhead (queue yard track) tram q
 
 -- the tram holds the track
 abbrev pub HoldsTrack : Yard → (track tram : ℕ) → Type 0
-HoldsTrack yard track tram = slot_at yard track ≡ record { held = true; tram = tram }
+HoldsTrack yard track tram = slot_at yard track ≡ Held tram
 
 -- the tram holds no track
 unfoldable pub HoldsNone : Yard → (tram : ℕ) → Type 0
@@ -24,4 +25,4 @@ HoldsNone yard tram = (track : ℕ) → HoldsTrack yard track tram → ⊥
 
 -- the line of a track: the tram that holds it, and then its queue
 unfoldable pub line : Yard → (track : ℕ) → List ℕ
-line yard track = cond (is_held yard track) ((slot_at yard track).tram ∷ queue yard track) (queue yard track)
+line yard track = cond (is_held yard track) (number_in (slot_at yard track) ∷ queue yard track) (queue yard track)

@@ -5,15 +5,15 @@ use Rattle.model.specs.Card.{code_of, track_of}
 use Rattle.model.specs.Order.{last_position}
 use Rattle.model.specs.Trams.{margin}
 use Rattle.model.specs.Yard.{is_held, queue, unsound}
-use Rattle.model.specs.RequestTrack.{request_status}
 use Rattle.model.specs.ReleaseTrack.{refusal_ahead_of_word, accepted}
 use Rattle.model.specs.declared.Yard.{Yard}
 use Rattle.model.specs.declared.Requested.{Requested}
-use Rattle.model.specs.declared.RequestAnswer.TheVariants.{Holds, Waits}
 use Rattle.model.specs.declared.Released.{Released}
-use Rattle.model.specs.declared.ReleaseAnswer.TheVariants.{Freed, HandedTo}
 use Rattle.position_theory.specs.Damage.{WithinRadius}
 use Rattle.yard_theory.specs.Lines.{HoldsTrack, WaitsBehind, line}
+use Rattle.model.specs.RequestTrack.{Holds, Waits}
+use Rattle.model.specs.ReleaseTrack.{Freed, HandedTo}
+use Rattle.model.specs.Refusals.{status_of}
 
 -- the lines of all other tracks stay as they are
 unfoldable pub OtherLinesStay : (track : ℕ) (before after : Yard) → Type 0
@@ -21,15 +21,15 @@ OtherLinesStay track before after = (other : ℕ) → (other ≡ track → ⊥) 
 
 pub record RequestPromises (yard : Yard) (tram track : ℕ) (r : Requested) : Type 0 where
   -- a refused request leaves the yard as it was
-  pub unchanged : (request_status r.answer ≡ 0 → ⊥) → r.yard ≡ yard
+  pub unchanged : (status_of r.answer ≡ 0 → ⊥) → r.yard ≡ yard
   -- the tram holds the track, or waits for it behind all that waited for it
   pub holds : r.answer ≡ Holds → HoldsTrack r.yard track tram
   pub waits : r.answer ≡ Waits → WaitsBehind r.yard track tram (length (queue yard track))
   -- a request that is served puts the tram at the end of the track's line, and no other line changes
-  pub joins : request_status r.answer ≡ 0 → line r.yard track ≡ line yard track ++ (tram ∷ [])
-  pub others : request_status r.answer ≡ 0 → OtherLinesStay track yard r.yard
+  pub joins : status_of r.answer ≡ 0 → line r.yard track ≡ line yard track ++ (tram ∷ [])
+  pub others : status_of r.answer ≡ 0 → OtherLinesStay track yard r.yard
   -- and it leaves a yard that is not refused by 26
-  pub sound : request_status r.answer ≡ 0 → unsound r.yard ≡ false
+  pub sound : status_of r.answer ≡ 0 → unsound r.yard ≡ false
 
 -- What a release means on the track, of the word of a true position with at most t damaged bits in each chunk. No track is given away while
 -- the tram stands on it: if the release is accepted, the true position is above the mark.

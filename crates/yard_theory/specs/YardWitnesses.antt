@@ -4,24 +4,25 @@
 use Rattle.std.specs.Prelude.{◌≡◌, true, false, List, [], ◌∷◌, ℕ, set, replicate}
 use Rattle.model.specs.CardsToTry.{card_with, card_b}
 use Rattle.model.specs.Yard.{track_count, free_slot, no_entry, empty_yard, is_held, unsound}
-use Rattle.model.specs.RequestTrack.{request_status}
 use Rattle.model.specs.ReleaseTrack.{accepted}
 use Rattle.model.specs.declared.Slot.{Slot}
+use Rattle.model.specs.declared.Slot.TheVariants.{Held}
 use Rattle.model.specs.declared.Waiting.{Waiting}
 use Rattle.model.specs.declared.Yard.{Yard}
 use Rattle.model.specs.declared.Requested.{Requested}
-use Rattle.model.specs.declared.RequestAnswer.TheVariants.{Holds, Waits}
 use Rattle.model.specs.declared.Released.{Released}
-use Rattle.model.specs.declared.ReleaseAnswer.TheVariants.{NotClear, Freed, HandedTo}
 use Rattle.position_theory.specs.PositionWitnesses.{last_damaged}
 use Rattle.yard_theory.specs.Lines.{WaitsBehind, HoldsTrack, HoldsNone, line}
 use Rattle.yard_theory.specs.Runs.{Call, request, run, accepted_releases, NeverUnsound, ServedInTurn}
 use Rattle.yard_theory.specs.YardPromises.{RequestPromises, ReleasePromises, OnlyClearGivenAway, ClearNeverKept}
+use Rattle.model.specs.RequestTrack.{Holds, Waits}
+use Rattle.model.specs.ReleaseTrack.{Freed, HandedTo, NotClear}
+use Rattle.model.specs.Refusals.{status_of}
 
 -- ---- yards and words
 
 abbrev by : (tram : ℕ) → Slot
-by tram = record { held = true; tram = tram }
+by tram = Held tram
 
 abbrev for : (tram track : ℕ) → Waiting
 for tram track = record { tram = tram; track = track }
@@ -64,12 +65,12 @@ ReleasedBy tram r = ReleasePromises busy tram last_damaged 4 card_b r
 
 pub record YardWitnessed : Type 0 where
   -- a request: refused, on a free track, the last of them, and behind the two that wait for that track among three
-  pub request_refused : (r : Requested) → request_status r.answer ≡ 21 → RequestPromises busy 12 2 r → r.yard ≡ busy
+  pub request_refused : (r : Requested) → status_of r.answer ≡ 21 → RequestPromises busy 12 2 r → r.yard ≡ busy
   pub holds : (r : Requested) → r.answer ≡ Holds → Asked 15 r → HoldsTrack r.yard 15 13
   pub waits : (r : Requested) → r.answer ≡ Waits → Asked 14 r → WaitsBehind r.yard 14 13 2
-  pub joins : (r : Requested) → request_status r.answer ≡ 0 → Asked 14 r → line r.yard 14 ≡ 9 ∷ 10 ∷ 12 ∷ 13 ∷ []
-  pub others_stay : (r : Requested) → request_status r.answer ≡ 0 → Asked 14 r → line r.yard 2 ≡ 8 ∷ 11 ∷ []
-  pub stays_sound : (r : Requested) → request_status r.answer ≡ 0 → Asked 14 r → unsound r.yard ≡ false
+  pub joins : (r : Requested) → status_of r.answer ≡ 0 → Asked 14 r → line r.yard 14 ≡ 9 ∷ 10 ∷ 12 ∷ 13 ∷ []
+  pub others_stay : (r : Requested) → status_of r.answer ≡ 0 → Asked 14 r → line r.yard 2 ≡ 8 ∷ 11 ∷ []
+  pub stays_sound : (r : Requested) → status_of r.answer ≡ 0 → Asked 14 r → unsound r.yard ≡ false
   -- a release: not clear, freed, handed to the first of the queue, and by nobody but the holder
   pub not_clear : (r : Released) → r.answer ≡ NotClear → ReleasedBy 9 r → r.yard ≡ busy
   pub freed : (r : Released) → r.answer ≡ Freed → ReleasePromises (alone 14) 9 last_damaged 4 card_b r → is_held r.yard 14 ≡ false

@@ -1,45 +1,32 @@
-use Prim.Native.Nat.{◌<◌}
-use native.Mathlib.Omega.{arith}
-use Rattle.card_request.proofs.Digits.{empty_text, none_read, all_read, not_a_digit, above_most, digit_read}
-use Rattle.card_request.proofs.Digits.{below_digits, above_digits, among_digits}
-use Rattle.card_request.proofs.number_in.Goals.{Else-byte-gt57}
+use Rattle.std.proofs.Common.{◌≡◌, get_or, sym, ◌∙◌, arith}
+use Rattle.std.proofs.lemmas.Bool.Decides.{nat_tests}
+use Rattle.card_request.proofs.Digits.{empty_text, all_read, not_a_digit, too_large, digit_read, further}
 use Rattle.card_request.proofs.number_in.Goals as goal
 
-pub returns-then-text-eq0 : goal.returns-then-text-eq0
-returns-then-text-eq0 c = empty_text _ _ c.if-text-eq0.true
+pub returns-then-is_empty : goal.returns-then-is_empty
+returns-then-is_empty c = empty_text _ _ (grind (arith, nat_tests))
 
-pub loop-i-init : goal.loop-i-init
-loop-i-init c = none_read _ _
+pub returns-then-not-is_ascii_digit : goal.returns-then-not-is_ascii_digit
+returns-then-not-is_ascii_digit c =
+    not_a_digit _ _ _ c.loop-byte.invariant c.loop-byte-test.true _ (sym c.is_ascii_digit.ensures.value ∙ c.if-not-is_ascii_digit.true)
 
-pub returns-then-byte-lt48 : goal.returns-then-byte-lt48
-returns-then-byte-lt48 c = not_a_digit _ _ _ _ c.loop-i.invariant c.loop-i-test.true (below_digits _ c.if-byte-lt48.true)
+pub returns-in_err-checked_mul : goal.returns-in_err-checked_mul
+returns-in_err-checked_mul c =
+    c.from_residual.ensures ∙ too_large _ _ _ c.loop-byte.invariant c.loop-byte-test.true _ (omega (arith, c.in_err-checked_mul.ensures))
 
-pub returns-then-byte-gt57 : goal.returns-then-byte-gt57
-returns-then-byte-gt57 c = not_a_digit _ _ _ _ c.loop-i.invariant c.loop-i-test.true (above_digits _ c.if-byte-gt57.true)
+pub returns-in_err-number : goal.returns-in_err-number
+returns-in_err-number c =
+    c.from_residual-in_err-number.ensures
+    ∙ too_large _ _ _ c.loop-byte.invariant c.loop-byte-test.true _
+    (omega (arith, c.in_ok-checked_mul.ensures, c.in_err-number.ensures))
 
--- the number so far is one of 32 bits
-fits : (c : Else-byte-gt57) → c.loop-i.number < 4294967296
-fits c = omega (arith, c.loop-i.invariant.fits, c.ranges.most.fits)
-
-pub overflow_mul-number : goal.overflow_mul-number
-overflow_mul-number c = omega (arith, fits c)
-
-pub overflow_cast-number : goal.overflow_cast-number
-overflow_cast-number c = omega arith
-
-pub overflow_add-number : goal.overflow_add-number
-overflow_add-number c = omega (arith, fits c)
-
-pub returns-then-most-number : goal.returns-then-most-number
-returns-then-most-number c = above_most _ _ _ _ c.loop-i.invariant c.loop-i-test.true c.if-most-number.true
-
-pub loop-i-preserved : goal.loop-i-preserved
-loop-i-preserved c =
-    digit_read _ _ _ _ c.loop-i.invariant c.loop-i-test.true
-    (among_digits _ c.if-byte-lt48.false c.if-byte-gt57.false) c.if-most-number.false
-
-pub overflow_cast-result : goal.overflow_cast-result
-overflow_cast-result c = omega (arith, c.loop-i.invariant.fits, c.ranges.most.fits)
+pub loop-byte-preserved : goal.loop-byte-preserved
+loop-byte-preserved c =
+    let is : c.in_ok-number.number ≡ further c.loop-byte.number (get_or c.args.text.now c.loop-byte.byte-index 0) =
+    omega (arith, c.in_ok-checked_mul.ensures, c.in_ok-number.ensures) in
+    rw is (digit_read _ _ _ c.loop-byte.invariant c.loop-byte-test.true
+    (sym c.is_ascii_digit.ensures.value ∙ c.if-not-is_ascii_digit.false))
 
 pub returns : goal.returns
-returns c = all_read _ _ _ _ c.loop-i.invariant c.loop-i-test.false c.if-text-eq0.false
+returns c =
+    c.then_some.ensures ∙ all_read _ _ _ _ c.loop-byte.invariant c.loop-byte-test.false (grind (arith, nat_tests))

@@ -12,40 +12,37 @@ use Rattle.model.specs.Decoded.{meaning}
 use Rattle.model.specs.Words.{word_bits}
 use Rattle.model.specs.Levels.{any_outside, received_at, seen_in_levels}
 use Rattle.model.specs.Reading.{rule_seen, two_ends}
-use Rattle.model.specs.declared.ReadAnswer.{ReadAnswer}
 use Rattle.model.specs.declared.ReceivedLevel.{ReceivedLevel}
-use Rattle.position.specs.LayoutOf.{LayoutOf}
-use Rattle.position.specs.declared.layout.Layout.{Layout}
 use Rattle.nearest_position.specs.Residuals.{residual_in}
+use Rattle.nearest_position.specs.RuleNumbers.{rule_number}
+use Rattle.std.specs.Prelude.{Some, None}
+use Rattle.std.proofs.lemmas.Option.{MatchOption-at_some, MatchOption-at_none}
+use Rattle.reader.specs.declared.naming.NamedRule.{NamedRule}
 use Rattle.reader.specs.Naming.{NamesOf}
 use Rattle.reader.specs.RuleAnswers.{AnswersRule}
 use Rattle.level_reader.proofs.LevelAnswers.{answer_in_levels, nothing_past, named_by_levels, rule_of_levels}
 use Rattle.level_reader.proofs.LevelAnswers.{refused_15, refused_16, refused_9, word_read, rule_refused}
-use Rattle.level_reader.proofs.read_level_word.Goals.{After-rule_by_sums-named}
+use Rattle.level_reader.proofs.read_level_word.Goals.{After-rule_by_sums}
+use Rattle.std.proofs.lemmas.Result.{err_from_is_err_and}
 use Rattle.level_reader.proofs.read_level_word.Goals as goal
+use Rattle.model.specs.ReadWord.{ReadAnswer}
 
 pub returns-then-levels-at : goal.returns-then-levels-at
 returns-then-levels-at c =
     refused_15 _ _ (λ e. c.if-levels-at.true (e ∙ sym c.layout_of-at.ensures.bits_are))
 
--- what the test of the levels has shown is so of the word's d levels
-module _ (C : Code) (levels : List Float) (at : Layout) (laid : LayoutOf C at) where
-  shown : (tested outside : Bool) → tested ≡ any_outside at.bits levels → tested ≡ outside → any_outside (word_bits C) levels ≡ outside
-  shown tested outside is known = ap (λ (d : ℕ). any_outside d levels) (sym laid.bits_are) ∙ sym is ∙ known
-
-pub any_outside-requires : goal.any_outside-requires
-any_outside-requires c = omega (arith, c.if-levels-at.false)
+-- what the test of all levels has shown is so of the first d, where there are d
+shown : (levels : List Float) (d : ℕ) → length levels ≡ d → (tested outside : Bool)
+    → tested ≡ any_outside (length levels) levels → tested ≡ outside → any_outside d levels ≡ outside
+shown levels d whole tested outside is known = ap (λ (count : ℕ). any_outside count levels) (sym whole) ∙ sym is ∙ known
 
 pub returns-then-any_outside : goal.returns-then-any_outside
 returns-then-any_outside c =
-    let laid = c.layout_of-at.ensures in
-    refused_16 _ _ (c.if-levels-at.false ∙ laid.bits_are) (shown _ _ _ laid _ _ c.any_outside.ensures c.if-any_outside.true)
+    let whole = c.if-levels-at.false ∙ c.layout_of-at.ensures.bits_are in
+    refused_16 _ _ whole (shown _ _ whole _ _ c.any_outside.ensures c.if-any_outside.true)
 
-pub word_of_levels-received-requires : goal.word_of_levels-received-requires
-word_of_levels-received-requires c = let laid = c.layout_of-at.ensures in (laid, c.if-levels-at.false ∙ laid.bits_are)
-
--- there are as many levels as a word has, none is outside, and the sums name the rule of the levels
-module _ (c : After-rule_by_sums-named) where
+-- there are as many levels as a word has, none is outside, and the sums name the rule of the levels, or none
+module _ (c : After-rule_by_sums) where
   abbrev C : Code
   C = meaning c.args.code
 
@@ -59,43 +56,46 @@ module _ (c : After-rule_by_sums-named) where
   whole = c.if-levels-at.false ∙ c.layout_of-at.ensures.bits_are
 
   inside : any_outside (word_bits C) levels ≡ false
-  inside = shown _ _ _ c.layout_of-at.ensures _ _ c.any_outside.ensures c.if-any_outside.false
+  inside = shown _ _ whole _ _ c.any_outside.ensures c.if-any_outside.false
 
-  names : NamesOf (seen_in_levels C word) c.rule_by_sums-named.result
-  names = named_by_levels C word _ c.word_of_levels-received.ensures _ c.rule_by_sums-named.ensures
+  names : NamesOf (seen_in_levels C word) c.rule_by_sums.result
+  names = named_by_levels C word _ c.word_of_levels-received.ensures _ c.rule_by_sums.ensures
 
-  -- what the rule answers
-  answered : (answer : ReadAnswer)
-      → let named = c.rule_by_sums-named.result in
-      let received = c.word_of_levels-received.result.word in
-      AnswersRule (two_ends C) C (residual_in C received) received named.rule named.separator answer
-      → answer_in_levels C word (rule_seen (seen_in_levels C word)) ≡ answer
-  answered answer by_named =
-      let by_rule = rw names.separator at by_named in
-      ap (answer_in_levels C word) (sym names.rule)
-      ∙ sym (rule_of_levels C word _ c.word_of_levels-received.ensures _ _ by_rule)
+  module _ (named : NamedRule) (is : c.rule_by_sums.result ≡ Some named) where
+    -- what the rule answers
+    answered : (answer : ReadAnswer)
+        → let received = c.word_of_levels-received.result.word in
+        AnswersRule (two_ends C) C (residual_in C received) received (rule_number named.rule) named.separator answer
+        → answer_in_levels C word (rule_seen (seen_in_levels C word)) ≡ answer
+    answered answer by_named =
+        let known = MatchOption-at_some _ _ _ is names in
+        let by_rule = rw known.separator at by_named in
+        ap (answer_in_levels C word) (sym known.rule)
+        ∙ sym (rule_of_levels C word _ c.word_of_levels-received.ensures _ _ by_rule)
 
-pub returns-then-rule-eq0 : goal.returns-then-rule-eq0
-returns-then-rule-eq0 c =
-    let named = (goal.at.returns-then-rule-eq0 c).After-rule_by_sums-named in
-    refused_9 _ _ (whole named) (inside named) (sym (names named).rule ∙ c.if-rule-eq0.true)
+pub returns-in_err-named : goal.returns-in_err-named
+returns-in_err-named c =
+    let after = (goal.at.returns-in_err-named c).After-rule_by_sums in
+    let none : c.rule_by_sums.result ≡ None = grind arith in
+    let refused : c.in_err-named.field-0.0 ≡ record { number = 9 } = grind arith in
+    let p = err_from_is_err_and c.from_residual.result c.from_residual.ensures.1 in
+    rw (p.1, p.2, refused) (refused_9 _ _ (whole after) (inside after) (MatchOption-at_none _ _ none (names after)))
 
 pub by_rule-requires : goal.by_rule-requires
 by_rule-requires c =
-    let named = (goal.at.by_rule-requires c).After-rule_by_sums-named in
-    let spare = nothing_past (C named) (word named) _ c.word_of_levels-received.ensures in (
-      (c.requires, c.layout_of-at.ensures, spare),
-      omega (arith, c.if-rule-eq0.false),
-      (names named).at_most_three,
-    )
+    let after = (goal.at.by_rule-requires c).After-rule_by_sums in
+    (c.requires, c.layout_of-at.ensures, nothing_past (C after) (word after) _ c.word_of_levels-received.ensures)
 
-pub returns-in-At : goal.returns-in-At
-returns-in-At c =
-    let named = (goal.at.returns-in-At c).After-rule_by_sums-named in
+pub returns : goal.returns
+returns c =
+    let after = (goal.at.returns c).After-rule_by_sums in
+    let is : c.rule_by_sums.result ≡ Some c.in_ok-named.named = grind arith in
     rw c.word_of_levels-received.ensures.strength_is
-    (word_read _ _ (whole named) (inside named) _ (answered named _ c.by_rule.ensures ∙ c.in-At.is))
+    (word_read _ _ (whole after) (inside after) _ (answered after _ is _ c.by_rule.ensures ∙ c.in_ok-reading.was))
 
-pub returns-in-Refused : goal.returns-in-Refused
-returns-in-Refused c =
-    let named = (goal.at.returns-in-Refused c).After-rule_by_sums-named in
-    rule_refused _ _ (whole named) (inside named) _ (answered named _ c.by_rule.ensures ∙ c.in-Refused.is)
+pub returns-in_err-reading : goal.returns-in_err-reading
+returns-in_err-reading c =
+    let after = (goal.at.returns-in_err-reading c).After-rule_by_sums in
+    let is : c.rule_by_sums.result ≡ Some c.in_ok-named.named = grind arith in
+    let p = err_from_is_err_and c.from_residual-in_err-reading.result c.from_residual-in_err-reading.ensures.1 in
+    rw (p.1, p.2) (rule_refused _ _ (whole after) (inside after) _ (answered after _ is _ c.by_rule.ensures ∙ c.in_err-reading.was))

@@ -1,9 +1,9 @@
--- No more of the buffer's bytes are in use than it has. The measure is the bytes that are left.
-use Rattle.std.proofs.Common.{◌-◌, ◌≤◌}
+-- No more bytes have come than the buffer has. The measure is the bytes that there is still room for.
+use Rattle.std.proofs.Common.{◌-◌, ◌≤◌, length}
 use Rattle.standard_io.proofs.receive_all.Given as goal
 
-abbrev pub invariant-loop-held : goal.invariant-loop-held
-invariant-loop-held l = l.held ≤ l.full
+abbrev pub invariant-loop-count : goal.invariant-loop-count
+invariant-loop-count l = l.count ≤ length l.buffer
 
-abbrev pub decreases-loop-held : goal.decreases-loop-held
-decreases-loop-held l = l.full - l.held
+abbrev pub decreases-loop-count : goal.decreases-loop-count
+decreases-loop-count l = length l.buffer - l.count

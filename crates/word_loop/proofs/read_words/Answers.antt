@@ -1,146 +1,90 @@
-use Prim.Native.Nat.{ℕ, ◌+◌, ◌-◌, ◌*◌, ◌/◌, ◌≤◌, ◌<◌}
-use mathlib.Core.Path.{◌≡◌, sym, ◌∙◌}
+use Prim.Native.Nat.{ℕ, ◌+◌, ◌-◌, ◌*◌, ◌/◌, ◌≤◌}
+use mathlib.Core.Path.{◌≡◌, ◌∙◌}
+use mathlib.Core.List.{List}
 use native.Mathlib.Nat.{div-le_of_le-mul}
 use native.Mathlib.Omega.{arith}
-use lib.ListN.{length, take, drop, length-drop}
+use borrow.Rule.Slice.PartMut.{put_mid, same_len_mid}
+use lib.ListN.{length, take, drop, length-append, length-drop}
 use lib.Seq.{length-take-le}
-use mathlib.Core.List.{List}
 use Rattle.model.specs.Card.{Code}
 use Rattle.model.specs.Decoded.{meaning}
 use Rattle.model.specs.Words.{word_length}
 use Rattle.stream.specs.Streamed.{Follows, Completes}
-use Rattle.stream.proofs.Streaming.{few_held, few_read}
-use Rattle.stream.specs.TakenIn.{TakenIn}
-use Rattle.stream.specs.declared.turn.Progress.{Progress}
-use Rattle.stream.specs.declared.turn.Taken.{Taken}
-use Rattle.word_loop.specs.Parts.{LastPart, OnlyAtEnd}
-use Rattle.word_loop.proofs.Reached.{Reached, reached_first, reached_still, reached_turn, turn_lines_part}
-use Rattle.word_loop.proofs.read_words.Goals.{After-count-count, After-receive_words-came, At-loop-turns}
+use Rattle.stream.proofs.Streaming.{few_read}
+use Rattle.word_loop.proofs.Reached.{Reached, reached_first, reached_behind, reached_turn, turn_lines_part}
+use Rattle.word_loop.proofs.read_words.Goals.{After-count-count}
 use Rattle.word_loop.proofs.read_words.Goals as goal
 
-pub loop-turns-init : goal.loop-turns-init
-loop-turns-init c =
-    let begun = c.nothing_yet-progress.ensures in
-    (omega arith, omega arith, omega arith, omega arith, reached_first _ _ begun.0 begun.1 begun.2)
+pub loop-turn-init : goal.loop-turn-init
+loop-turn-init c =
+    let begun = c.default-progress.ensures in
+    record {
+      input_long = omega arith;
+      out_long = c.requires.room;
+      numbered = omega arith;
+      reached = reached_first _ _ begun.0 begun.1.0 begun.1.1;
+    }
 
--- fewer bytes are held than a word has
-held_short : (c : At-loop-turns) → c.loop-turns.progress.held < c.word_length.result
-held_short c =
-    let long = c.word_length in
-    let some : 1 ≤ word_length (meaning c.args.code) = rw long.ensures.0 at long.ensures.1 in
-    rw long.ensures.0 (few_held (meaning c.args.code) c.loop-turns.invariant.4.streamed some)
-
-pub overflow_add-at : goal.overflow_add-at
-overflow_add-at c = let short = held_short (goal.at.overflow_add-at c).At-loop-turns in omega arith
-
-pub receive_words-came-requires : goal.receive_words-came-requires
-receive_words-came-requires c = let short = held_short (goal.at.receive_words-came-requires c).At-loop-turns in (omega arith, omega arith)
-
--- what is held is still there, with what was received behind it
-reached_again : (c : After-receive_words-came)
-    → let loop = c.loop-turns in
-    Reached (meaning c.args.code) (drop 512 c.receive_words-came.new.buffer) loop.progress (9007199254740992 - loop.turns)
-reached_again c =
-    let loop = c.loop-turns in
-    reached_still 512 loop.input c.receive_words-came.new.buffer (omega arith) (omega (arith, c.receive_words-came.auto.buffer))
-    c.receive_words-came.ensures.buffer_unchanged loop.invariant.4
-
--- the bytes that a turn takes in, those held and those that came, stand within the buffer, behind the card
+-- the buffer of bytes after a read: what it brought stands behind the bytes that were held
 module _ (c : After-count-count) where
+  abbrev code : Code
+  code = meaning c.args.code
+
+  -- where the bytes that come are put, and the end of the room for them
+  abbrev from : ℕ
+  from = 512 + c.loop-turn.progress.held
+
+  abbrev end : ℕ
+  end = 512 + 1600 * c.word_length.result
+
+  abbrev buffer : List ℕ
+  buffer = put_mid from (end - from) c.loop-turn.input c.receive.new.room
+
+  -- what is held is still there
+  again : Reached code (drop 512 buffer) c.loop-turn.progress c.loop-turn._turn
+  again = reached_behind 512 c.loop-turn.input c.receive.new.room (end - from) (omega arith) c.loop-turn.invariant.reached
+
+  -- what a turn takes in, the bytes held and those that came: no more than 1,600 words
   abbrev arrived : ℕ
-  arrived = c.loop-turns.progress.held + c.count-count.result
+  arrived = c.loop-turn.progress.held + c.count-count.result
 
-  inside : arrived ≤ length (drop 512 c.receive_words-came.new.buffer)
-  inside = rw length-drop (omega (arith, c.receive_words-came.ensures.count_bound, c.receive_words-came.auto.buffer))
+  inside : arrived ≤ c.word_length.result * 1600
+  inside = omega (arith, c.in_ok-received.ensures)
 
-  -- they have no more than 1,600 whole words
-  few : arrived / word_length (meaning c.args.code) ≤ 1600
-  few =
-      let long = c.word_length in
-      rw (← long.ensures.0) (div-le_of_le-mul long.result (omega (arith, c.receive_words-came.ensures.count_bound)))
+  few : arrived / word_length code ≤ 1600
+  few = rw (← c.word_length.ensures.0) (div-le_of_le-mul c.word_length.result inside)
 
-pub returns-then-failed : goal.returns-then-failed
-unfolding LastPart OnlyAtEnd
-returns-then-failed c = record { last = tt; ended = tt }
+pub returns-then-count-eq0-clause-last : goal.returns-then-count-eq0-clause-last
+unfolding Completes
+returns-then-count-eq0-clause-last c =
+    let reached = again (goal.at.returns-then-count-eq0-clause-last c).After-count-count in
+    record { came = reached.all; text = reached.text; whole = c.put_end.ensures.whole _ reached.all reached.text _ reached.streamed }
 
-pub returns-then-count-eq0 : goal.returns-then-count-eq0
-unfolding LastPart Completes OnlyAtEnd
-returns-then-count-eq0 c =
-    let reached = reached_again (goal.at.returns-then-count-eq0 c).After-receive_words-came in
-    record {
-      last = (
-        omega (arith, c.put_end.auto.out),
-        record {
-          came = reached.all;
-          text = reached.text;
-          whole = c.put_end.ensures.whole _ reached.all reached.text _ reached.streamed;
-        },
-      );
-      ended = (omega arith, sym c.failed.ensures ∙ c.if-failed.false);
-    }
+pub take_in-progress-requires-clause-within : goal.take_in-progress-requires-clause-within
+take_in-progress-requires-clause-within c =
+    let at = (goal.at.take_in-progress-requires-clause-within c).After-count-count in
+    (omega arith, omega (arith, same_len_mid _ _ c.loop-turn.input c.receive.new.room c.receive.auto.room, inside at), few_read _ c.loop-turn.invariant.reached.streamed)
 
-pub overflow_add-held : goal.overflow_add-held
-overflow_add-held c = omega (arith, c.receive_words-came.ensures.count_bound)
-
-pub take_in-taken-requires : goal.take_in-taken-requires
-take_in-taken-requires c =
-    let words = few (goal.at.take_in-taken-requires c).After-count-count in
-    record {
-      sound = c.requires.sound;
-      within = (
-        omega arith,
-        omega (arith, c.receive_words-came.ensures.count_bound, c.receive_words-came.auto.buffer),
-        few_read _ c.loop-turns.invariant.4.streamed,
-      );
-      room = omega arith;
-      met_fits = omega arith;
-    }
-
--- what a turn gives, in numbers: at most 1,600 words more, and lines that the buffer of lines has room for
-turned : (code : Code) (arrived : ℕ) (input left out put : List ℕ) (before : Progress) (after : Taken)
-    → TakenIn code (take arrived input) before left out put after → arrived ≤ length input → arrived / word_length code ≤ 1600
-    → (after.progress.met ≤ before.met + 1600) × (after.next ≤ 230400)
-turned code arrived input left out put before after taken inside few =
-    let arrive : length (take arrived input) ≡ arrived = length-take-le _ _ inside in
-    (omega (arith, rw arrive at taken.met), omega (arith, rw arrive at taken.room))
+pub take_in-progress-requires-clause-room : goal.take_in-progress-requires-clause-room
+take_in-progress-requires-clause-room c = omega (arith, few (goal.at.take_in-progress-requires-clause-room c).After-count-count)
 
 pub put_out-requires : goal.put_out-requires
 unfolding Follows
 put_out-requires c =
-    let at = goal.at.put_out-requires c in
-    let reached = reached_again at.After-receive_words-came in
-    let streamed = c.take_in-taken.ensures.follows reached.all reached.text reached.streamed in
-    let next = (turned _ _ _ _ _ _ _ _ c.take_in-taken.ensures.taken (inside at.After-count-count) (few at.After-count-count)).1 in
+    let reached = again (goal.at.put_out-requires c).After-count-count in
+    let streamed = c.take_in-progress.ensures.follows reached.all reached.text reached.streamed in
+    rw c.as_bytes.ensures (turn_lines_part _ c.requires.from_card reached.text _ streamed)
+
+pub loop-turn-preserved : goal.loop-turn-preserved
+loop-turn-preserved c =
+    let at = (goal.at.loop-turn-preserved c).After-count-count in
+    let taken = c.take_in-progress.ensures.taken in
+    let long : length (buffer at) ≡ 64512 = same_len_mid _ _ c.loop-turn.input c.receive.new.room c.receive.auto.room ∙ c.loop-turn.invariant.input_long in
+    let within : arrived at ≤ length (drop 512 (buffer at)) = simp length-drop (omega (arith, inside at)) in
+    let came : length (take (arrived at) (drop 512 (buffer at))) ≡ arrived at = length-take-le _ _ within in
     record {
-      end_in_bounds = omega (arith, next, c.take_in-taken.auto.out, c.loop-turns.invariant.1);
-      part_of_report = turn_lines_part _
-          c.requires.from_card reached.text _ streamed;
+      input_long = c.take_in-progress.auto.input ∙ long;
+      out_long = omega (arith, simp length-append at taken.lines.same_buffer);
+      numbered = omega (arith, rw came at taken.met, few at);
+      reached = reached_turn _ _ _ _ _ _ _ c.take_in-progress.ensures.follows (omega arith) within (again at);
     }
-
-pub returns-then-not-put_out : goal.returns-then-not-put_out
-unfolding LastPart OnlyAtEnd
-returns-then-not-put_out c = record { last = tt; ended = tt }
-
--- a turn of at most 1,600 words leaves numbers for those of the turns that are left
-numbers_left : (met met' turns : ℕ) → met + 1600 * turns ≤ 14411518807585587200 → met' ≤ met + 1600 → 0 < turns
-    → met' + 1600 * (turns - 1) ≤ 14411518807585587200
-numbers_left met met' turns fits few left = omega arith
-
-pub loop-turns-preserved : goal.loop-turns-preserved
-loop-turns-preserved c =
-    let at = goal.at.loop-turns-preserved c in
-    let loop = c.loop-turns in
-    let within = inside at.After-count-count in
-    let met = (turned _ _ _ _ _ _ _ _ c.take_in-taken.ensures.taken within (few at.After-count-count)).0 in
-    let taken : 9007199254740992 - (loop.turns - 1) ≡ 9007199254740992 - loop.turns + 1 = omega arith in
-    let reached = reached_turn _ _ _ _ _ _ _ c.take_in-taken.ensures.follows (omega arith) within (reached_again at.After-receive_words-came) in (
-      c.take_in-taken.auto.input ∙ c.receive_words-came.auto.buffer ∙ loop.invariant.0,
-      c.take_in-taken.auto.out ∙ loop.invariant.1,
-      numbers_left loop.progress.met _ loop.turns loop.invariant.2 met (omega arith),
-      omega arith,
-      rw taken reached,
-    )
-
-pub returns : goal.returns
-unfolding LastPart OnlyAtEnd
-returns c = rw c.out_of_turns.ensures (record { last = tt; ended = tt })

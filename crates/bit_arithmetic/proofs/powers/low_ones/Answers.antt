@@ -5,9 +5,6 @@ use native.Mathlib.Omega.{arith}
 use Rattle.bits.proofs.Shifts.{all_ones_moved}
 use Rattle.bit_arithmetic.proofs.powers.low_ones.Goals as goal
 
-pub returns-then-n-eq0 : goal.returns-then-n-eq0
-returns-then-n-eq0 c = rw c.if-n-eq0.true (omega arith)
-
 pub returns : goal.returns
 returns c =
     let n = c.args.n in

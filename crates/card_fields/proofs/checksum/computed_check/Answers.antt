@@ -13,5 +13,5 @@ returns c =
     let card = c.args.card.now in
     elim c.if-unused_set.branch [
       | then-unused_set w ↦ rw (w.total-is, w.weighted_sum-total.ensures.0)
-      | else-unused_set w ↦ rw (w.total-is, w.weighted_sum.ensures.0, w.offset_share.ensures.0, ends_at_used card (sym c.requires.1 ∙ w.if-unused_set.false))
+      | else-unused_set w ↦ rw (w.total-is, w.weighted_sum-total-else-unused_set.ensures.0, ends_at_used card (sym c.requires.1 ∙ w.if-unused_set.false))
     ]

@@ -1,5 +1,4 @@
--- `card_fields::offset::offset_bits` meets its contract: four bytes, taken two at a time, make the same number as one by one, and each is
--- below 256, so that it fits 32 bits. Assumes nothing.
+-- `card_fields::offset::offset_bits` meets its contract: the four bytes make the same number by either definition. Assumes nothing.
 use native.Mathlib.Omega.{arith}
 use Rattle.model.specs.Card.{high_first}
 use Rattle.card_fields.proofs.offset.offset_bits.Goals as goal

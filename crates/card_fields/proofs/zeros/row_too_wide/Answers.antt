@@ -1,23 +1,18 @@
-use mathlib.Core.Path.{sym, ◌∙◌}
-use borrow.Author.Count.{below_more, below_none}
-use native.Mathlib.Omega.{arith}
-use Rattle.bits.proofs.Searches.{any_none, any_some}
+-- `card_fields::zeros::row_too_wide` meets its contract: the search of the rows is that of the definition. Assumes nothing.
+use Rattle.std.proofs.Common.{◌≡◌, ◌^◌, ◌∙◌, true, false, rules, arith}
+use Rattle.std.proofs.lemmas.Iterator.{cases_from_any, YieldsList-from_slice}
+use borrow.Author.Tests.{tests, le-leb}
+use Rattle.bits.proofs.Searches.{any_ext}
+use lib.Dec.{leb}
 use Rattle.model.specs.Card.{row_too_wide}
+use Rattle.card_fields.proofs.CardRows.{any_from}
 use Rattle.card_fields.proofs.zeros.row_too_wide.Goals as goal
-
-pub loop-z-init : goal.loop-z-init
-loop-z-init c = (omega arith, below_none _)
-
-pub returns-then-too_wide : goal.returns-then-too_wide
-unfolding row_too_wide
-returns-then-too_wide c =
-    sym (any_some _ 12 c.loop-z.z c.loop-z-test.true (sym c.too_wide.ensures ∙ c.if-too_wide.true))
-
-pub loop-z-preserved : goal.loop-z-preserved
-loop-z-preserved c =
-    let loop = c.loop-z in
-    (omega arith, below_more _ _ loop.invariant.1 (sym c.too_wide.ensures ∙ c.if-too_wide.false))
 
 pub returns : goal.returns
 unfolding row_too_wide
-returns c = sym (any_none _ 12 (λ j h. c.loop-z.invariant.1 j (omega arith)))
+returns c =
+    let wide = λ (row : _). leb (2 ^ c.args.n) row in
+    any_from wide c.args.rows 0 12 c.any.result (omega arith)
+    (cases_from_any _ _ _ (λ row. wide row ≡ true) (λ row. wide row ≡ false) c.any.ensures.ran (YieldsList-from_slice c.args.rows cc)
+    (λ x q k. search (rules, tests)) (λ x q k. search (rules, tests)))
+    ∙ any_ext _ _ 12 (λ z l. rw (le-leb 0 z (omega arith)))

@@ -1,7 +1,7 @@
 -- `card_reader::decode::decode` meets its contract. The first three tests are refusals 1 to 3, one law each. Past them, what was read is
 -- what the card's bytes hold: n, k, the rows, the offset, and the rows' least weight where none is too wide. By these the last tests
 -- decide between refusals 4, 14 and 5 and a sound card, whose code and offset they are. Assumes nothing.
-use mathlib.Core.Path.{◌≡◌, refl, sym, ◌∙◌}
+use mathlib.Core.Path.{◌≡◌, sym, ◌∙◌}
 use mathlib.Core.Bool.{true}
 use native.Mathlib.Omega.{arith}
 use mir.Facts.{to_z-of_z}
@@ -10,7 +10,7 @@ use mir.Val.{to_z, of_z}
 use Rattle.model.specs.Card.{length_of, row_count_of, row_of, offset_of, stored_check, computed_check, within_limits, misplaced, offset_outside}
 use Rattle.code_theory.proofs.SoundCard.{limits_of_test}
 use Rattle.card_reader.proofs.CardDecoding.{least, least_of_card, refusal_4, refusal_14, refusal_5, not_refused, code_of_least}
-use Rattle.card_reader.proofs.CardDecoding.{refused_from, decoded_from}
+use Rattle.card_reader.proofs.CardDecoding.{decoded_from}
 use Rattle.card_reader.proofs.SplitRows.{Narrow}
 use Rattle.card_reader.proofs.CardRefusals.{refusal_1, refusal_2, refusal_3, misplaced_of_card}
 use Rattle.card_reader.proofs.decode.decode.Goals.{After-has_misplaced, After-least_weight-distance, After-offset_is_outside}
@@ -49,31 +49,28 @@ is_least : (c : After-least_weight-distance)
 is_least c =
     least_of_card _ _ _ _ _ c.byte_at-n.ensures.0 c.byte_at-k.ensures.0 c.rows_of-rows.ensures c.least_weight-distance.ensures
 
-pub returns-then-card-ne512 : goal.returns-then-card-ne512
-returns-then-card-ne512 c = refused_from _ _ 1 c.refused.ensures (refusal_1 _ c.if-card-ne512.true) (λ e. omega arith)
+pub returns-then-card-ne-CARD_BYTES : goal.returns-then-card-ne-CARD_BYTES
+returns-then-card-ne-CARD_BYTES c = record { number = refusal_1 _ c.if-card-ne-CARD_BYTES.true; not_zero = λ e. omega arith }
 
 pub returns-then-stored_check-computed_check : goal.returns-then-stored_check-computed_check
 returns-then-stored_check-computed_check c =
-    refused_from _ _ 2 c.refused-then-stored_check-computed_check.ensures
-    (refusal_2 _ c.if-card-ne512.false
-    (λ e. c.if-stored_check-computed_check.true (c.stored_check.ensures ∙ e ∙ sym c.computed_check.ensures)))
-    (λ e. omega arith)
+    record {
+      number = refusal_2 _ c.if-card-ne-CARD_BYTES.false
+          (λ e. c.if-stored_check-computed_check.true (c.stored_check.ensures ∙ e ∙ sym c.computed_check.ensures));
+      not_zero = λ e. omega arith;
+    }
 
 pub returns-then-not-within_limits : goal.returns-then-not-within_limits
 returns-then-not-within_limits c =
     let at = goal.at.returns-then-not-within_limits c in
     let outside = sym (limits at.After-within_limits) ∙ c.if-not-within_limits.true in
-    refused_from _ _ 3 c.refused-then-not-within_limits.ensures
-    (refusal_3 _ c.if-card-ne512.false (checked at.Else-stored_check-computed_check) outside)
-    (λ e. omega arith)
+    record { number = refusal_3 _ c.if-card-ne-CARD_BYTES.false (checked at.Else-stored_check-computed_check) outside; not_zero = λ e. omega arith }
 
 pub returns-then-has_misplaced : goal.returns-then-has_misplaced
 returns-then-has_misplaced c =
     let at = goal.at.returns-then-has_misplaced c in
     let test = sym (is_misplaced at.After-has_misplaced) ∙ c.if-has_misplaced.true in
-    refused_from _ _ 4 c.refused-then-has_misplaced.ensures
-    (refusal_4 _ (within at.Else-not-within_limits) c.if-card-ne512.false (checked at.Else-stored_check-computed_check) test)
-    (λ e. omega arith)
+    record { number = refusal_4 _ (within at.Else-not-within_limits) c.if-card-ne-CARD_BYTES.false (checked at.Else-stored_check-computed_check) test; not_zero = λ e. omega arith }
 
 pub least_weight-distance-requires : goal.least_weight-distance-requires
 least_weight-distance-requires c =
@@ -85,19 +82,18 @@ returns-then-offset_is_outside c =
     let at = goal.at.returns-then-offset_is_outside c in
     let placed = sym (is_misplaced at.After-has_misplaced) ∙ c.if-has_misplaced.false in
     let test = sym (offset_is_outside at.After-offset_is_outside) ∙ c.if-offset_is_outside.true in
-    refused_from _ _ 14 c.refused-then-offset_is_outside.ensures
-    (refusal_14 _ (within at.Else-not-within_limits) c.if-card-ne512.false (checked at.Else-stored_check-computed_check) placed test)
-    (λ e. omega arith)
+    record { number = refusal_14 _ (within at.Else-not-within_limits) c.if-card-ne-CARD_BYTES.false (checked at.Else-stored_check-computed_check) placed test; not_zero = λ e. omega arith }
 
 pub returns-then-distance-eq0 : goal.returns-then-distance-eq0
 returns-then-distance-eq0 c =
     let at = goal.at.returns-then-distance-eq0 c in
     let placed = sym (is_misplaced at.After-has_misplaced) ∙ c.if-has_misplaced.false in
     let in_range = sym (offset_is_outside at.After-offset_is_outside) ∙ c.if-offset_is_outside.false in
-    refused_from _ _ 5 c.refused-then-distance-eq0.ensures
-    (refusal_5 _ (within at.Else-not-within_limits) c.if-card-ne512.false (checked at.Else-stored_check-computed_check) placed in_range _
-    (is_least at.After-least_weight-distance) c.if-distance-eq0.true)
-    (λ e. omega arith)
+    record {
+      number = refusal_5 _ (within at.Else-not-within_limits) c.if-card-ne-CARD_BYTES.false (checked at.Else-stored_check-computed_check) placed in_range _
+          (is_least at.After-least_weight-distance) c.if-distance-eq0.true;
+      not_zero = λ e. omega arith;
+    }
 
 pub returns : goal.returns
 returns c =
@@ -106,7 +102,7 @@ returns c =
     let in_range = sym (offset_is_outside at.After-offset_is_outside) ∙ c.if-offset_is_outside.false in
     let weighed = is_least at.After-least_weight-distance in
     let sound =
-    not_refused _ (within at.Else-not-within_limits) c.if-card-ne512.false (checked at.Else-stored_check-computed_check) placed in_range _
+    not_refused _ (within at.Else-not-within_limits) c.if-card-ne-CARD_BYTES.false (checked at.Else-stored_check-computed_check) placed in_range _
     weighed c.if-distance-eq0.false in
-    decoded_from _ _ sound refl c.track_of-track.ensures (is_offset at.After-offset_of-offset)
+    decoded_from _ _ sound c.track_of-track.ensures (is_offset at.After-offset_of-offset)
     (code_of_least _ sound _ _ _ c.rows_of-rows.result c.byte_at-n.ensures.0 c.byte_at-k.ensures.0 c.rows_of-rows.ensures weighed)

@@ -1,45 +1,50 @@
-use Prim.Native.Nat.{◌-◌, ◌≤◌}
+use mathlib.Core.Path.{◌≡◌, ◌∙◌}
+use Prim.Native.Nat.{◌+◌, ◌-◌, ◌^◌, ◌≤◌}
 use native.Mathlib.Omega.{arith}
-use lib.Pow.{pow_pos, pow_mono}
+use lib.ListN.{length, take, get_or, length-take}
+use lib.Pow.{pow_mono}
+use Rattle.std.proofs.lemmas.List.{get_or-take, take_rest}
+use Rattle.card_reader.proofs.LowSums.{Table}
 use Rattle.card_reader.proofs.LeastWeightLoop.{row_behind, at_start, at_next, at_end}
-use Rattle.card_reader.proofs.least_weight.least_weight.Goals.{After-two_to-size}
+use Rattle.card_reader.proofs.least_weight.least_weight.Goals.{After-two_to}
 use Rattle.card_reader.proofs.least_weight.least_weight.Goals as goal
 
 -- the table has room for the sums of the low rows
-room : (c : After-two_to-size) → c.two_to-size.result ≤ 32
+room : (c : After-two_to) → c.two_to.result ≤ length c.low_sums-table.result
 room c = omega (arith, pow_mono {i = c.low_rows-low.result} {j = 5} c.low_rows-low.ensures.0)
 
-pub least_of-least-requires : goal.least_of-least-requires
-least_of-least-requires c =
-    (omega (arith, pow_pos c.low_rows-low.result), room (goal.at.least_of-least-requires c).After-two_to-size)
+-- its first part is they, and no more
+whole : (c : After-two_to) → length (take c.two_to.result c.low_sums-table.result) ≡ 2 ^ c.low_rows-low.result
+whole c = omega (arith, room c, c.two_to.ensures, length-take c.two_to.result c.low_sums-table.result)
 
-pub overflow_sub-last : goal.overflow_sub-last
-overflow_sub-last c = omega (arith, pow_pos (c.args.k - c.low_rows-low.result))
+sums : (c : After-two_to) → Table c.low_rows-low.result (λ z. get_or c.args.rows z 0) (take c.two_to.result c.low_sums-table.result)
+sums c = λ j l. get_or-take c.two_to.result c.low_sums-table.result j 0 (omega (arith, c.two_to.ensures)) ∙ c.low_sums-table.ensures j l
+
+pub slice_bounds-table-end : goal.slice_bounds-table-end
+slice_bounds-table-end c = room (goal.at.slice_bounds-table-end c).After-two_to
+
+pub slice_bounds-sums-end : goal.slice_bounds-sums-end
+slice_bounds-sums-end c =
+    let before = (goal.at.slice_bounds-sums-end c).After-two_to in omega (arith, whole before, c.two_to.ensures)
 
 pub loop-set-init : goal.loop-set-init
 loop-set-init c =
-    at_start c.low_sums-sums.result c.low_sums-sums.ensures c.two_to-last.ensures c.two_to-size.ensures c.least_of-least.ensures
+    let before = (goal.at.loop-set-init c).After-two_to in
+    at_start (take c.two_to.result c.low_sums-table.result) (whole before) (sums before)
+    (rw (take_rest (take c.two_to.result c.low_sums-table.result) 1) at c.least_of-least.ensures)
 
 -- the number of the row that is added
-pub overflow_add-z : goal.overflow_add-z
-overflow_add-z c = omega (arith, row_behind (omega arith) c.loop-set.invariant c.loop-set-test.true)
-
-pub overflow_cast-z : goal.overflow_cast-z
-overflow_cast-z c = omega (arith, row_behind (omega arith) c.loop-set.invariant c.loop-set-test.true)
-
-pub offset_bounds-rows-z : goal.offset_bounds-rows-z
-offset_bounds-rows-z c = omega (arith, row_behind (omega arith) c.loop-set.invariant c.loop-set-test.true)
-
 pub bounds-rows-z : goal.bounds-rows-z
-bounds-rows-z c = row_behind (omega arith) c.loop-set.invariant c.loop-set-test.true
-
-pub least_of-least-requires-in-loop-set : goal.least_of-least-requires-in-loop-set
-least_of-least-requires-in-loop-set c = (omega arith, room (goal.at.least_of-least-requires-in-loop-set c).After-two_to-size)
+bounds-rows-z c = row_behind (omega arith) c.loop-set.invariant (omega arith) (omega arith)
 
 pub loop-set-preserved : goal.loop-set-preserved
 loop-set-preserved c =
-    at_next (omega arith) c.low_sums-sums.result c.low_sums-sums.ensures c.two_to-size.ensures
-    c.loop-set.invariant c.loop-set-test.true c.least_of-least-in-loop-set.ensures
+    let before = (goal.at.loop-set-preserved c).After-two_to in
+    let set = c.loop-set.set in
+    let here : set + 1 - 1 ≡ set = omega arith in
+    rw here
+    (at_next (omega arith) (take c.two_to.result c.low_sums-table.result) (whole before) (sums before)
+    c.loop-set.invariant (omega arith) (omega arith) c.least_of-least-in-loop-set.ensures)
 
 pub returns : goal.returns
-returns c = at_end {k = c.args.k} (omega arith) c.loop-set.invariant c.loop-set-test.false
+returns c = λ narrow. c.from.ensures ∙ at_end {k = c.args.k} (omega arith) c.loop-set.invariant (omega arith) narrow

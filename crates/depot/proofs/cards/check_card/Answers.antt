@@ -4,6 +4,4 @@ use Rattle.depot.proofs.CheckContract.{card_checked}
 use Rattle.depot.proofs.cards.check_card.Goals as goal
 
 pub returns : goal.returns
-returns c =
-    let all = card_checked _ (c.card_answer.ensures _ c.decode.ensures) in
-    record { answer = all.0; status = all.1.0; values = all.1.1.0; promises = all.1.1.1 }
+returns c = card_checked _ (c.card_answer.ensures _ c.decode.ensures)

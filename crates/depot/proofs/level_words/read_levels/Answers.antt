@@ -1,32 +1,18 @@
 -- `depot::level_words::read_levels` meets its contract: a card that is refused is answered by its refusal, and past the card's test the
 -- code is sound, as the reader asks; either answer is the one that the definition gives, of which the clauses are theorems. Assumes
 -- nothing.
-use Rattle.depot.proofs.LevelsContract.{levels_card_refused, levels_read}
+use mathlib.Core.Path.{◌∙◌}
+use Rattle.std.proofs.lemmas.Result.{err_from_is_err_and}
+use Rattle.depot.proofs.LevelsContract.{levels_by_card, levels_read, levels_answered_lem}
 use Rattle.depot.proofs.level_words.read_levels.Goals as goal
 
-pub returns-then-decoded-ne0 : goal.returns-then-decoded-ne0
-returns-then-decoded-ne0 c =
-    let all = levels_card_refused _ c.args.levels.now _ c.decode-decoded.ensures c.if-decoded-ne0.true in
-    record {
-      answer = all.0;
-      status = all.1.0;
-      values = all.1.1.0;
-      strength = all.1.1.1.0;
-      bounded = all.1.1.1.1.0;
-      promises = all.1.1.1.1.1;
-    }
+pub returns-in_err-code : goal.returns-in_err-code
+returns-in_err-code c =
+    let p = err_from_is_err_and c.from_residual.result c.from_residual.ensures.1 in
+    levels_answered_lem _ _ (p.1 ∙ rw p.2 (levels_by_card _ _ _ c.in_err-code.ensures))
 
 pub read_level_word-requires : goal.read_level_word-requires
-read_level_word-requires c = c.decode-decoded.ensures.sound c.if-decoded-ne0.false
+read_level_word-requires c = c.in_ok-code.ensures.sound
 
 pub returns : goal.returns
-returns c =
-    let all = levels_read _ c.args.levels.now _ c.decode-decoded.ensures c.if-decoded-ne0.false _ c.read_level_word.ensures in
-    record {
-      answer = all.0;
-      status = all.1.0;
-      values = all.1.1.0;
-      strength = all.1.1.1.0;
-      bounded = all.1.1.1.1.0;
-      promises = all.1.1.1.1.1;
-    }
+returns c = levels_answered_lem _ _ (c.read_level_word.ensures ∙ levels_read _ _ _ c.in_ok-code.ensures)

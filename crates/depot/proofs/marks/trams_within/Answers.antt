@@ -1,23 +1,22 @@
 -- `depot::marks::trams_within` meets its contract: a card that is refused is answered by its refusal, and past the card's test the code is
 -- sound, as the search asks; either answer is the one that the definition gives, of which the clauses are theorems. Assumes nothing.
+use mathlib.Core.Path.{◌∙◌}
+use Rattle.std.proofs.lemmas.Result.{err_from_is_err_and}
 use Rattle.model.specs.TramsWithin.{lies_within}
 use Rattle.tram_theory.specs.TramPromises.{WithinPromises}
+use Rattle.tram_theory.proofs.ServedTrams.{each_by_card}
 use Rattle.tram_theory.proofs.TramPromises.{within_promises}
-use Rattle.depot.proofs.TramsContract.{each_card_refused, each_answered}
+use Rattle.depot.proofs.TramsContract.{each_asked, each_answered}
 use Rattle.depot.proofs.marks.trams_within.Goals as goal
 
-pub returns-then-decoded-ne0 : goal.returns-then-decoded-ne0
-returns-then-decoded-ne0 c =
-    let all = each_card_refused (lies_within c.args.first c.args.second) _ c.args.trams c.args.first c.args.second
-    (WithinPromises _ _ _ _) (within_promises _ _ _ _) _ c.decode-decoded.ensures c.if-decoded-ne0.true in
-    record { answer = all.0; status = all.1.0; promises = all.1.1 }
+pub returns-in_err-code : goal.returns-in_err-code
+returns-in_err-code c =
+    let p = err_from_is_err_and c.from_residual.result c.from_residual.ensures.1 in
+    each_answered (lies_within c.args.first c.args.second) _ _ _ _ (WithinPromises _ _ _ _) (within_promises _ _ _ _) (p.1 ∙ rw p.2 (each_by_card _ _ _ _ _ _ c.in_err-code.ensures))
 
 pub within-requires : goal.within-requires
-within-requires c = c.decode-decoded.ensures.sound c.if-decoded-ne0.false
+within-requires c = c.in_ok-code.ensures.sound
 
 pub returns : goal.returns
 returns c =
-    let all = each_answered (lies_within c.args.first c.args.second) _ c.args.trams c.args.first c.args.second
-    (WithinPromises _ _ _ _) (within_promises _ _ _ _) _ c.decode-decoded.ensures c.if-decoded-ne0.false _
-    c.within.ensures in
-    record { answer = all.0; status = all.1.0; promises = all.1.1 }
+    each_answered (lies_within c.args.first c.args.second) _ _ _ _ (WithinPromises _ _ _ _) (within_promises _ _ _ _) (c.within.ensures ∙ each_asked _ _ _ _ _ _ c.in_ok-code.ensures)

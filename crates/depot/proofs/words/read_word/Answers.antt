@@ -1,32 +1,18 @@
 -- `depot::words::read_word` meets its contract: a card that is refused is answered by its refusal, and past the card's test the code
 -- is sound, as the reader asks; either answer is the one that the definition gives, of which the clauses are theorems. Assumes
 -- nothing.
-use Rattle.depot.proofs.ReadContract.{read_card_refused, word_read}
+use mathlib.Core.Path.{◌∙◌}
+use Rattle.std.proofs.lemmas.Result.{err_from_is_err_and}
+use Rattle.depot.proofs.ReadContract.{read_by_card, word_read, read_answered}
 use Rattle.depot.proofs.words.read_word.Goals as goal
 
-pub returns-then-decoded-ne0 : goal.returns-then-decoded-ne0
-returns-then-decoded-ne0 c =
-    let all = read_card_refused _ c.args.word.now _ c.decode-decoded.ensures c.if-decoded-ne0.true in
-    record {
-      answer = all.0;
-      status = all.1.0;
-      values = all.1.1.0;
-      bounded = all.1.1.1.0;
-      sharper = all.1.1.1.1.0;
-      promises = all.1.1.1.1.1;
-    }
+pub returns-in_err-code : goal.returns-in_err-code
+returns-in_err-code c =
+    let p = err_from_is_err_and c.from_residual.result c.from_residual.ensures.1 in
+    read_answered _ _ (p.1 ∙ rw p.2 (read_by_card _ _ _ c.in_err-code.ensures))
 
 pub read-requires : goal.read-requires
-read-requires c = c.decode-decoded.ensures.sound c.if-decoded-ne0.false
+read-requires c = c.in_ok-code.ensures.sound
 
 pub returns : goal.returns
-returns c =
-    let all = word_read _ c.args.word.now _ c.decode-decoded.ensures c.if-decoded-ne0.false _ c.read.ensures in
-    record {
-      answer = all.0;
-      status = all.1.0;
-      values = all.1.1.0;
-      bounded = all.1.1.1.0;
-      sharper = all.1.1.1.1.0;
-      promises = all.1.1.1.1.1;
-    }
+returns c = read_answered _ _ (c.read.ensures ∙ word_read _ _ _ c.in_ok-code.ensures)

@@ -1,68 +1,35 @@
--- `dunnavish::marks::dunnavish_nearest_tram` meets its contract: the counts of what is lent, then the library's answer. Assumes nothing.
-use mathlib.Core.Path.{refl}
-use Rattle.model.specs.NearestTram.{nearest_status, nearest_values}
-use Rattle.model.specs.declared.NearestAnswer.TheVariants.{Tram, NoTram, Refused}
-use Rattle.tram_theory.specs.TramPromises.{NearestPromises}
-use Rattle.dunnavish.specs.Decoding.{place_left, nearest_left}
-use Rattle.dunnavish.proofs.Inherited.{wrong_count_lem, refused, stored}
-use Rattle.dunnavish.proofs.TramsCross.{nearest_highs_miscounted, nearest_crosses, some_value, place_decodes}
+-- `dunnavish::marks::dunnavish_nearest_tram` meets its contract: the counts of what is lent, then each answer of the library's search, which
+-- crosses as one number. Assumes nothing.
+use Rattle.std.proofs.Common.{◌≡◌, sym, ◌∙◌, rules}
+use Rattle.model.specs.NearestTram.{nearest_answer}
+use Rattle.dunnavish.specs.Crossing.{trams_lent}
+use Rattle.dunnavish.proofs.TramsCross.{nearest_handed, nearest_highs_miscounted, nearest_miscounted, nearest_stored, nearest_refused}
+use Rattle.dunnavish.proofs.marks.dunnavish_nearest_tram.Goals.{After-ask_of_lent-answer}
+use Rattle.dunnavish.proofs.marks.dunnavish_nearest_tram.Goals.{then-highs-lows-via-then-highs-lows}
+use Rattle.dunnavish.proofs.marks.dunnavish_nearest_tram.Goals.{then-highs-lows-via-else-highs-lows+then-values-ne1}
 use Rattle.dunnavish.proofs.marks.dunnavish_nearest_tram.Goals as goal
+
+-- the library's answer is the definition's for all trams that are lent
+answered : (c : After-ask_of_lent-answer)
+    → nearest_answer c.args.card.now (trams_lent c.args.lows.now c.args.highs.now) c.args.mark ≡ c.ask_of_lent-answer.result
+answered c =
+    let (shown, gave, is) = c.ask_of_lent-answer.ensures in
+    let given : c.ask_of_lent-answer.result ≡ nearest_answer c.args.card.now shown.now c.args.mark = search rules in
+    sym (rw is at given ∙ nearest_handed c.args.card.now _ c.args.mark)
 
 pub returns-then-highs-lows : goal.returns-then-highs-lows
 returns-then-highs-lows c =
-    let all = let a = c.args in
-    nearest_highs_miscounted a.card.now a.lows.now a.highs.now a.values.now a.mark c.if-highs-lows.true in
-    record { status = all.0; left = all.1.0; unchanged = all.1.1.0; promises = all.1.1.1 }
+    elim c.then-highs-lows.branch [
+      | then-highs-lows-via-then-highs-lows w ↦ nearest_highs_miscounted _ _ _ _ _ w.if-highs-lows.true
+      | then-highs-lows-via-else-highs-lows+then-values-ne1 w ↦ nearest_miscounted _ _ _ _ _ w.if-highs-lows.false w.if-values-ne1.true
+    ]
 
-pub returns-then-values-ne1 : goal.returns-then-values-ne1
-returns-then-values-ne1 c =
-    let all = let a = c.args in
-    nearest_crosses a.card.now a.lows.now a.highs.now a.values.now a.mark c.if-highs-lows.false _ _
-    (wrong_count_lem nearest_status nearest_values Refused nearest_left (NearestPromises _ _ _) _ _ c.if-values-ne1.true) in
-    record { status = all.0; left = all.1.0; unchanged = all.1.1.0; promises = all.1.1.1 }
+pub returns-in-Ok : goal.returns-in-Ok
+returns-in-Ok c =
+    let is = answered (goal.at.returns-in-Ok c).After-ask_of_lent-answer in
+    rw c.unwrap_or.ensures (nearest_stored _ _ _ _ _ c.if-highs-lows.false c.if-values-ne1.false _ (is ∙ c.in-Ok.is))
 
-pub returns-in-Refused : goal.returns-in-Refused
-unfolding nearest_status nearest_values nearest_left
-returns-in-Refused c =
-    let met = c.nearest_tram-answer.ensures in
-    let all = let a = c.args in
-    nearest_crosses a.card.now a.lows.now a.highs.now a.values.now a.mark c.if-highs-lows.false _ _
-    (refused nearest_status nearest_values Refused nearest_left (NearestPromises _ _ _) _ _ c.if-values-ne1.false _ (
-      rw c.trams_lent.ensures at met.answer,
-      (
-        rw c.trams_lent.ensures at met.status,
-        (rw c.trams_lent.ensures at met.values, rw c.trams_lent.ensures at met.promises),
-      ),
-    )
-    (some_value a.card.now a.lows.now a.highs.now a.values.now a.mark) _ c.in-Refused.is refl refl _ refl) in
-    record { status = all.0; left = all.1.0; unchanged = all.1.1.0; promises = all.1.1.1 }
-
-pub returns-in-NoTram : goal.returns-in-NoTram
-unfolding nearest_status nearest_values nearest_left place_left
-returns-in-NoTram c =
-    let met = c.nearest_tram-answer.ensures in
-    let all = let a = c.args in
-    nearest_crosses a.card.now a.lows.now a.highs.now a.values.now a.mark c.if-highs-lows.false _ _
-    (stored nearest_status nearest_values Refused nearest_left (NearestPromises _ _ _) _ _ c.if-values-ne1.false _ (
-      rw c.trams_lent.ensures at met.answer,
-      (
-        rw c.trams_lent.ensures at met.status,
-        (rw c.trams_lent.ensures at met.values, rw c.trams_lent.ensures at met.promises),
-      ),
-    ) NoTram c.in-NoTram.is refl refl refl) in
-    record { status = all.0; left = all.1.0; unchanged = all.1.1.0; promises = all.1.1.1 }
-
-pub returns-in-Tram : goal.returns-in-Tram
-unfolding nearest_status nearest_values nearest_left
-returns-in-Tram c =
-    let all = let a = c.args in
-    let met = c.nearest_tram-answer.ensures in
-    let status = rw c.trams_lent.ensures at met.status in
-    let promises = rw c.trams_lent.ensures at met.promises in
-    let given = c.in-Tram.is in
-    nearest_crosses a.card.now a.lows.now a.highs.now a.values.now a.mark c.if-highs-lows.false _ _
-    (stored nearest_status nearest_values Refused nearest_left (NearestPromises _ _ _) _ _ c.if-values-ne1.false _
-    (rw c.trams_lent.ensures at met.answer, (status, (rw c.trams_lent.ensures at met.values, promises))) (Tram _) given
-    refl refl
-    (rw (place_decodes a.card.now a.lows.now a.highs.now a.values.now a.mark _ _ given status promises))) in
-    record { status = all.0; left = all.1.0; unchanged = all.1.1.0; promises = all.1.1.1 }
+pub returns-in-Err : goal.returns-in-Err
+returns-in-Err c =
+    let is = answered (goal.at.returns-in-Err c).After-ask_of_lent-answer in
+    nearest_refused _ _ _ _ _ c.if-highs-lows.false c.if-values-ne1.false _ (is ∙ c.in-Err.is)

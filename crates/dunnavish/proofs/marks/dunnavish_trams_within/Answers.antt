@@ -1,38 +1,19 @@
--- `dunnavish::marks::dunnavish_trams_within` meets its contract: the counts of what is lent, then the library's answer, of which there is a
--- byte for each tram. Assumes nothing.
-use Rattle.model.specs.TramsWithin.{lies_within}
+-- `dunnavish::marks::dunnavish_trams_within` meets its contract: it is the search by this test, and what is left decodes to its answer. Assumes nothing.
+use Rattle.std.proofs.Common.{◌≡◌, ◌∙◌, rules}
+use Rattle.model.specs.TramsWithin.{within_answer, lies_within}
 use Rattle.tram_theory.specs.TramPromises.{WithinPromises}
-use Rattle.dunnavish.proofs.TramsCross.{highs_miscounted, lent_miscounted, few_lent, answered_search}
+use Rattle.tram_theory.proofs.TramPromises.{within_promises}
+use Rattle.dunnavish.proofs.TramsCross.{each_handed, each_placed, each_contract}
 use Rattle.dunnavish.proofs.marks.dunnavish_trams_within.Goals as goal
 
-pub returns-then-highs-lows : goal.returns-then-highs-lows
-returns-then-highs-lows c =
-    let all = let a = c.args in
-    highs_miscounted (lies_within a.first a.second) a.card.now a.lows.now a.highs.now a.yes.now a.first a.second
-    (WithinPromises _ _ a.first a.second) c.if-highs-lows.true in
-    record { status = all.0; left = all.1.0; unchanged = all.1.1.0; promises = all.1.1.1 }
-
-pub returns-then-yes-lows : goal.returns-then-yes-lows
-returns-then-yes-lows c =
-    let all = let a = c.args in
-    lent_miscounted (lies_within a.first a.second) a.card.now a.lows.now a.highs.now a.yes.now a.first a.second
-    (WithinPromises _ _ a.first a.second) c.if-highs-lows.false c.if-yes-lows.true in
-    record { status = all.0; left = all.1.0; unchanged = all.1.1.0; promises = all.1.1.1 }
-
-pub put_answer-requires : goal.put_answer-requires
-put_answer-requires c =
-    let met = c.trams_within.ensures in
-    let a = c.args in
-    few_lent (lies_within a.first a.second) a.card.now a.lows.now a.highs.now a.yes.now a.first a.second
-    (WithinPromises _ _ a.first a.second) c.if-highs-lows.false c.if-yes-lows.false _
-    (rw c.trams_lent.ensures at met.answer, (rw c.trams_lent.ensures at met.status, rw c.trams_lent.ensures at met.promises))
+pub answer_each-requires-clause-sound : goal.answer_each-requires-clause-sound
+answer_each-requires-clause-sound c = λ answer (shown, gave, is).
+    let answered : answer ≡ within_answer c.args.card.now shown.now c.args.first c.args.second = search rules in
+    each_placed (lies_within c.args.first c.args.second) c.args.card.now c.args.lows.now c.args.highs.now c.args.yes.now c.args.first c.args.second answer (rw is at answered)
 
 pub returns : goal.returns
 returns c =
-    let met = c.trams_within.ensures in
-    let all = let a = c.args in
-    answered_search (lies_within a.first a.second) a.card.now a.lows.now a.highs.now a.yes.now a.first a.second
-    (WithinPromises _ _ a.first a.second) c.if-highs-lows.false c.if-yes-lows.false _
-    (rw c.trams_lent.ensures at met.answer, (rw c.trams_lent.ensures at met.status, rw c.trams_lent.ensures at met.promises)) _ _
-    c.put_answer.ensures.status c.put_answer.ensures.left in
-    record { status = all.0; left = all.1.0; unchanged = all.1.1.0; promises = all.1.1.1 }
+    each_contract (lies_within c.args.first c.args.second) c.args.card.now c.args.lows.now c.args.highs.now c.args.yes.now c.args.first c.args.second (WithinPromises _ _ _ _) (within_promises _ _ _ _)
+    (c.answer_each.ensures _ (λ answer (shown, gave, is).
+    let answered : answer ≡ within_answer c.args.card.now shown.now c.args.first c.args.second = search rules in
+    rw is at answered ∙ each_handed c.args.card.now _ c.args.first c.args.second (lies_within c.args.first c.args.second)))

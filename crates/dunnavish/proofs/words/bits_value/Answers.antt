@@ -1,12 +1,15 @@
--- `dunnavish::words::bits_value` meets its contract: either case is its number. Assumes nothing.
-use mathlib.Core.Path.{refl}
-use Rattle.model.specs.Reading.{bits_value}
+-- `dunnavish::words::bits_value` meets its contract: the count, or the number that stands for a chunk that was not read. Assumes nothing.
+use mathlib.Core.Path.{◌≡◌, refl, ◌∙◌}
+use Prim.Native.Nat.{ℕ}
+use Rattle.std.specs.Prelude.{Option, Some, None}
+use Rattle.std.specs.Option.{unwrap_or}
+use Rattle.model.specs.Reading.{not_read, bits_value}
 use Rattle.dunnavish.proofs.words.bits_value.Goals as goal
 
-pub returns-in-Differing : goal.returns-in-Differing
+told : (bits : Option ℕ) → unwrap_or bits not_read ≡ bits_value bits
 unfolding bits_value
-returns-in-Differing c = rw c.in-Differing.is refl
+told (Some count) = refl
+told None = refl
 
-pub returns-in-NotRead : goal.returns-in-NotRead
-unfolding bits_value
-returns-in-NotRead c = rw c.in-NotRead.is refl
+pub returns : goal.returns
+returns c = c.unwrap_or.ensures ∙ told _

@@ -1,15 +1,15 @@
 -- `dunnavish::words::dunnavish_write_word` meets its contract: the library's own contract says what the lent word holds, and the status is
 -- that of its answer. Assumes nothing.
-use Rattle.model.specs.WriteWord.{write_status}
 use Rattle.dunnavish.proofs.Writes.{write_crosses}
 use Rattle.dunnavish.proofs.words.dunnavish_write_word.Goals as goal
+use Rattle.model.specs.Refusals.{status_of}
 
-pub returns-in-Refused : goal.returns-in-Refused
-unfolding write_status
-returns-in-Refused c =
-    let met = c.write_word-answer.ensures in
+pub returns-in-Err : goal.returns-in-Err
+unfolding status_of
+returns-in-Err c =
+    let met = c.write_word.ensures in
     let all = write_crosses _ _ _ _ _ _ (met.answer, (met.status, (met.values, (met.left, (met.neighbours, (met.alone, met.promises))))))
-    (rw c.in-Refused.is) in
+    (rw c.in-Err.is) in
     record {
       status = all.0;
       left = all.1.0;
@@ -19,12 +19,12 @@ returns-in-Refused c =
       promises = all.1.1.1.1.1;
     }
 
-pub returns-in-Written : goal.returns-in-Written
-unfolding write_status
-returns-in-Written c =
-    let met = c.write_word-answer.ensures in
+pub returns-in-Ok : goal.returns-in-Ok
+unfolding status_of
+returns-in-Ok c =
+    let met = c.write_word.ensures in
     let all = write_crosses _ _ _ _ _ _ (met.answer, (met.status, (met.values, (met.left, (met.neighbours, (met.alone, met.promises))))))
-    (rw c.in-Written.is) in
+    (rw c.in-Ok.is) in
     record {
       status = all.0;
       left = all.1.0;

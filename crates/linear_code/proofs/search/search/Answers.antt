@@ -1,27 +1,19 @@
 use mathlib.Core.Path.{◌≡◌, ◌∙◌}
 use mathlib.Core.Bool.{false}
-use Prim.Native.Nat.{◌+◌, ◌-◌, ◌<◌}
+use Prim.Native.Nat.{◌<◌}
 use native.Mathlib.Omega.{arith}
 use borrow.Author.Tests.{le-leb, lt-leb}
-use lib.Bits.{and_le_r}
-use lib.Count.{count_trailing_zeros}
 use lib.ListN.{get_or}
 use lib.Pow.{pow_pos}
 use Rattle.linear_code.specs.FirstWithin.{rows_within, first_within}
 use Rattle.code_theory.proofs.GrayStep.{row_of_twelve}
 use Rattle.linear_code.proofs.ChunkSearch.{Counted, one_counted, counted_all, counted_past}
 use Rattle.linear_code.proofs.ChunkSearch.{search_starts, search_goes_on, search_found, search_failed, bits_apart}
-use Rattle.linear_code.proofs.search.search.Goals.{Else-i-size-unread, Left-bits, else-bits-test, then-bits-test+then-limit-differing}
+use Rattle.linear_code.proofs.search.search.Goals.{Left-bits, else-bits-test, then-bits-test+then-limit-differing}
 use Rattle.linear_code.proofs.search.search.Goals as goal
 
 pub loop-differing-init : goal.loop-differing-init
 loop-differing-init c = search_starts _ _ _ _ _ c.two_to-size.ensures
-
-pub bits-init : goal.bits-init
-bits-init c = (omega arith, omega arith)
-
-pub bits-smaller : goal.bits-smaller
-bits-smaller c = omega (arith, and_le_r c.bits.rest (c.bits.rest - 1))
 
 pub bits-preserved : goal.bits-preserved
 bits-preserved c = (omega arith, one_counted _ _ _ c.bits.invariant.1 c.bits-test.true)
@@ -43,31 +35,14 @@ far : (c : Left-bits)
 far c past =
     lt-leb _ _ (rw (bits_apart c.loop-differing.invariant) at ((counted c).past past))
 
--- where the search goes on, a codeword is left
-more : (c : Else-i-size-unread)
-    → c.loop-differing.i < c.two_to-size.result - 1
-more c =
-    omega (arith, c.loop-differing.invariant.at.within, c.if-i-size.false, c.two_to-size.ensures, pow_pos c.args.k)
-
--- the number of the row that is added
-row : (c : Else-i-size-unread) → count_trailing_zeros 32 (c.loop-differing.i + 1) < 12
-row c =
-    row_of_twelve c.requires.0 c.loop-differing.invariant.at (more c)
-
-pub overflow_cast-z : goal.overflow_cast-z
-overflow_cast-z c = omega (arith, row c)
-
-pub offset_bounds-rows-z : goal.offset_bounds-rows-z
-offset_bounds-rows-z c = omega (arith, row c)
-
+-- the row that is added is one of the twelve, since a codeword is left where the search goes on
 pub bounds-rows-z : goal.bounds-rows-z
-bounds-rows-z c = row c
+bounds-rows-z c = row_of_twelve c.requires.0 c.loop-differing.invariant.at (omega (arith, pow_pos c.args.k))
 
 pub loop-differing-preserved : goal.loop-differing-preserved
 loop-differing-preserved c =
-    search_goes_on _ _ _ _ _ _ _ c.loop-differing.invariant c.requires.0 (omega
-    (arith, c.loop-differing.invariant.at.within, c.if-i-size.false, c.two_to-size.ensures, pow_pos c.args.k)) (far
-    (goal.at.loop-differing-preserved c).Left-bits c.if-differing-limit.false)
+    search_goes_on _ _ _ _ _ _ _ c.loop-differing.invariant c.requires.0 (omega (arith, pow_pos c.args.k))
+    (far (goal.at.loop-differing-preserved c).Left-bits c.if-differing-limit.false)
 
 pub returns-then-differing-limit : goal.returns-then-differing-limit
 unfolding first_within
@@ -79,5 +54,5 @@ returns-then-differing-limit c =
 pub returns-then-i-size : goal.returns-then-i-size
 unfolding first_within
 returns-then-i-size c =
-    search_failed _ _ _ _ _ _ _ c.loop-differing.invariant _ (omega (arith, c.if-i-size.true)) (far
-    (goal.at.returns-then-i-size c).Left-bits c.if-differing-limit.false)
+    search_failed _ _ _ _ _ _ _ c.loop-differing.invariant _ (omega arith)
+    (far (goal.at.returns-then-i-size c).Left-bits c.if-differing-limit.false)

@@ -1,15 +1,10 @@
 -- `nearest_position::residual::unerased_byte_distance` meets its contract: two bytes differ in an unerased bit where their exclusive-or,
 -- cut to the unerased bits, has a 1, and it has eight bits. Assumes nothing.
 use mathlib.Core.Path.{ap, ◌∙◌}
-use native.Mathlib.Omega.{arith}
-use lib.Bits.{bit_xor, and_le_r}
 use lib.Count.{ones}
 use Rattle.bits.proofs.Erasures.{unerased_le}
 use Rattle.bits.proofs.Masks.{and_xor, cut_distance}
 use Rattle.nearest_position.proofs.residual.unerased_byte_distance.Goals as goal
-
-pub overflow_cast-result : goal.overflow_cast-result
-overflow_cast-result c = omega (arith, and_le_r (bit_xor c.args.x c.args.y) c.args.unerased, c.ranges.unerased.fits)
 
 pub returns : goal.returns
 returns c =

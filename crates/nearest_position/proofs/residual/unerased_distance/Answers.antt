@@ -1,4 +1,4 @@
-use mathlib.Core.Path.{◌≡◌, refl}
+use mathlib.Core.Path.{refl}
 use Prim.Native.Nat.{◌*◌}
 use native.Mathlib.Omega.{arith}
 use Rattle.bits.specs.Sums.{sum_below, distance_unerased, marked}
@@ -9,22 +9,12 @@ use Rattle.nearest_position.proofs.residual.unerased_distance.Goals as goal
 
 pub loop-j-init : goal.loop-j-init
 unfolding distance_unerased sum_below
-loop-j-init c = (omega arith, refl)
+loop-j-init c = refl
 
 pub overflow_add-differing : goal.overflow_add-differing
 overflow_add-differing c =
-    let loop = c.loop-j in
     let args = c.args in
-    omega (arith, unerased_le (marked (place args.x.unerased)) (8 * loop.j) (place args.w) (place args.x.bits))
+    omega (arith, unerased_le (marked (place args.x.unerased)) (8 * c.loop-j.j) (place args.w) (place args.x.bits))
 
 pub loop-j-preserved : goal.loop-j-preserved
-loop-j-preserved c =
-    let loop = c.loop-j in
-    let args = c.args in
-    (omega arith, omega (arith, unerased_byte args.w args.x.bits args.x.unerased loop.j))
-
-pub returns : goal.returns
-returns c =
-    let loop = c.loop-j in
-    let all : loop.j ≡ 40 = omega arith in
-    rw (loop.invariant.1, all)
+loop-j-preserved c = let args = c.args in omega (arith, unerased_byte args.w args.x.bits args.x.unerased c.loop-j.j)

@@ -13,18 +13,14 @@ pub overflow_add-p : goal.overflow_add-p
 overflow_add-p c =
     let ((sound, laid, spare), inside) = c.requires in omega (arith, inside, last_codeword_bound _ sound)
 
-pub search_block-requires : goal.search_block-requires
-search_block-requires c =
-    let ((sound, laid, spare), inside) = c.requires in
-    record {
-      sound = (sound, spare);
-      part = (
-        omega (arith, inside),
-        c.start_of_block-low.ensures ∙ sym (at_start _ sound _ _ refl inside),
-        omega arith,
-        omega (arith, laid.chunk₂_at),
-      );
-    }
+pub search_block-requires-clause-part : goal.search_block-requires-clause-part
+search_block-requires-clause-part c =
+    let ((sound, laid, spare), inside) = c.requires in (
+      omega (arith, inside),
+      c.start_of_block-low.ensures ∙ sym (at_start _ sound _ _ refl inside),
+      omega arith,
+      omega (arith, laid.chunk₂_at),
+    )
 
 pub returns : goal.returns
 returns c =

@@ -5,7 +5,6 @@ use Prim.Native.Nat.{◌<◌}
 use native.Mathlib.Omega.{arith}
 use Rattle.model.specs.Decoded.{meaning}
 use Rattle.model.specs.Order.{last_codeword}
-use Rattle.code_theory.proofs.Starts.{last_codeword_bound}
 use Rattle.nearest_position.specs.Residuals.{residual_in}
 use Rattle.nearest_position.proofs.BlockResiduals.{residual_of_start, residuals_of_block}
 use Rattle.nearest_position.proofs.RuleRanges.{at_chunk₁, track_ends, track_goes_on}
@@ -25,22 +24,13 @@ returns-then-p-last_codeword c =
 goes_on : (c : Else-p-last_codeword) → c.args.p < last_codeword (meaning c.args.code)
 goes_on c = omega (arith, c.if-p-last_codeword.false, c.last_codeword.ensures, c.requires.1)
 
-pub overflow_add-p : goal.overflow_add-p
-overflow_add-p c =
-    omega (arith, goes_on c, last_codeword_bound _ c.requires.0.0)
-
-pub search_after_start-requires : goal.search_after_start-requires
-search_after_start-requires c =
+pub search_after_start-requires-clause-at_start : goal.search_after_start-requires-clause-at_start
+search_after_start-requires-clause-at_start c =
     let C = meaning c.args.code in
-    let (low, position, scanned) = c.search_before_start-before.ensures in
-    record {
-      sound = (c.requires.0.0, c.requires.0.2, c.requires.1);
-      at_start = (
-        position,
-        scanned.here ∙ ap (residual_in C c.args.x) position
-            ∙ residual_of_start C c.requires.0.0 c.args.x _ c.requires.1,
-      );
-    }
+    let (low, position, scanned) = c.search_before_start-before.ensures in (
+      position,
+      scanned.here ∙ ap (residual_in C c.args.x) position ∙ residual_of_start C c.requires.0.0 c.args.x _ c.requires.1,
+    )
 
 pub returns : goal.returns
 returns c =

@@ -56,22 +56,18 @@ overflow_add-low-2 c =
       c.changed_weight.ensures.1,
     )
 
-pub search_block-requires : goal.search_block-requires
-search_block-requires c =
-    let first = (goal.at.search_block-requires c).Start in
+pub search_block-requires-clause-part : goal.search_block-requires-clause-part
+search_block-requires-clause-part c =
+    let first = (goal.at.search_block-requires-clause-part c).Start in
     let started = c.start_of_block-start in
     let begins : started.result + (C first).D + c.changed_weight.result
     ≡ position_at (C first) (i first) c.args.p ((C first).D + (C first).n) =
-    rw (started.ensures, c.changed_weight.ensures.0) (sym (at_separator₂ (C first) (sound first) _ _ (after first) (inside first))) in
-    record {
-      sound = (sound first, c.requires.0.2);
-      part = (
-        omega (arith, inside first),
-        begins ∙ ap (position_at (C first) (i first) c.args.p) (sym (laid first).separator₂_at),
-        omega (arith, (laid first).separator₂_at, (laid first).bits_are),
-        omega (arith, (laid first).bits_are),
-      );
-    }
+    rw (started.ensures, c.changed_weight.ensures.0) (sym (at_separator₂ (C first) (sound first) _ _ (after first) (inside first))) in (
+      omega (arith, inside first),
+      begins ∙ ap (position_at (C first) (i first) c.args.p) (sym (laid first).separator₂_at),
+      omega (arith, (laid first).separator₂_at, (laid first).bits_are),
+      omega (arith, (laid first).bits_are),
+    )
 
 pub returns : goal.returns
 returns c =

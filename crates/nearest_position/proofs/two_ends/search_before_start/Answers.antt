@@ -54,19 +54,15 @@ overflow_sub-low c =
     let started = (promise (C here) (sound here)).start_next (i here) (inside here) in
     rw (c.start_of_block.ensures, after here) (omega (arith, started))
 
-pub search_block-requires : goal.search_block-requires
-search_block-requires c =
-    let here = (goal.at.search_block-requires c).Else-p-eq0 in
-    record {
-      sound = (sound here, c.requires.0.2);
-      part = (
-        omega (arith, inside here),
-        rw ((laid here).separator₃_at, c.start_of_block.ensures)
-            (sym (at_separator₃ (C here) (sound here) _ _ (after here) (inside here))),
-        omega (arith, (laid here).separator₃_at, (laid here).bits_are),
-        omega (arith, (laid here).bits_are),
-      );
-    }
+pub search_block-requires-clause-part : goal.search_block-requires-clause-part
+search_block-requires-clause-part c =
+    let here = (goal.at.search_block-requires-clause-part c).Else-p-eq0 in (
+      omega (arith, inside here),
+      rw ((laid here).separator₃_at, c.start_of_block.ensures)
+          (sym (at_separator₃ (C here) (sound here) _ _ (after here) (inside here))),
+      omega (arith, (laid here).separator₃_at, (laid here).bits_are),
+      omega (arith, (laid here).bits_are),
+    )
 
 pub returns : goal.returns
 returns c =

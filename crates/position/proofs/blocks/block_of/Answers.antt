@@ -1,7 +1,7 @@
 use native.Mathlib.Omega.{arith}
 use Rattle.model.specs.Decoded.{meaning}
 use Rattle.code_theory.proofs.Starts.{last_codeword_bound}
-use Rattle.position.proofs.BlockBetween.{on_the_track, from_middle, before_middle, block_found}
+use Rattle.position.proofs.BlockBetween.{on_the_track, before_middle, block_found}
 use Rattle.position.proofs.blocks.block_of.Goals as goal
 
 pub loop-low-init : goal.loop-low-init
@@ -16,11 +16,6 @@ overflow_add-middle c =
 pub overflow_add-middle-in-loop-low : goal.overflow_add-middle-in-loop-low
 overflow_add-middle-in-loop-low c =
     omega (arith, last_codeword_bound _ c.requires)
-
-pub loop-low-preserved-then-start_by-position : goal.loop-low-preserved-then-start_by-position
-loop-low-preserved-then-start_by-position c =
-    let loop = c.loop-low in
-    from_middle _ _ loop.low loop.high _ loop.invariant (omega arith) (rw c.start_by.ensures at c.if-start_by-position.true)
 
 pub loop-low-preserved : goal.loop-low-preserved
 loop-low-preserved c =

@@ -29,12 +29,6 @@ module _ (C : Code) (sound : Sound C) (i : ℕ) (inside : i < last_codeword C) w
 pub overflow_add-z : goal.overflow_add-z
 overflow_add-z c = omega (arith, c.requires.1, last_codeword_bound (meaning c.args.code) c.requires.0)
 
-pub overflow_cast-z : goal.overflow_cast-z
-overflow_cast-z c = omega (arith, of_twelve (meaning c.args.code) c.requires.0 _ c.requires.1)
-
-pub offset_bounds-rows-z : goal.offset_bounds-rows-z
-offset_bounds-rows-z c = omega (arith, of_twelve (meaning c.args.code) c.requires.0 _ c.requires.1)
-
 pub bounds-rows-z : goal.bounds-rows-z
 bounds-rows-z c = of_twelve (meaning c.args.code) c.requires.0 _ c.requires.1
 

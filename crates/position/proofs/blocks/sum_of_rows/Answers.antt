@@ -1,4 +1,4 @@
-use mathlib.Core.Path.{◌≡◌, refl, sym, ap, ◌∙◌}
+use mathlib.Core.Path.{◌≡◌, sym, ap, ◌∙◌}
 use native.Mathlib.Omega.{arith}
 use Rattle.bits.proofs.Binary.{weight_le}
 use Rattle.model.specs.Card.{Code}
@@ -7,34 +7,21 @@ use Rattle.model.specs.Order.{sum_before_row}
 use Rattle.code_theory.proofs.LeastDistance.{D-high}
 use Rattle.code_theory.proofs.Starts.{last_codeword_bound}
 use Rattle.position.proofs.StartSum.{before_any_row, next_row, row_added, sum_bound}
-use Rattle.position.proofs.blocks.sum_of_rows.Goals.{At-loop-z}
 use Rattle.position.proofs.blocks.sum_of_rows.Goals as goal
 
 pub loop-z-init : goal.loop-z-init
-loop-z-init c = (
-  λ C many distance weights. rw (← distance) (sym (before_any_row C c.args.i)),
-  omega arith,
-)
+loop-z-init c = sym (before_any_row (meaning c.args.code) c.args.i)
 
 pub loop-z-preserved : goal.loop-z-preserved
 loop-z-preserved c =
-    let z = c.loop-z.z in (
-      λ C many distance weights.
-          let before = c.loop-z.invariant.0 C many distance weights in
-          c.sum_after_row-sum.ensures ∙ row_added C c.args.i z (weights z (omega arith)) before,
-      omega arith,
-    )
-
--- of the code that is summed: the sum before row z
-sum_is : (c : At-loop-z)
-    → c.loop-z.sum ≡ sum_before_row (meaning c.args.code) c.args.i c.loop-z.z
-sum_is c = c.loop-z.invariant.0 (meaning c.args.code) c.requires.3 refl c.requires.2
+    let z = c.loop-z.z in
+    c.sum_after_row-sum.ensures ∙ row_added (meaning c.args.code) c.args.i z (c.requires.2 z (omega arith)) c.loop-z.invariant
 
 pub returns : goal.returns
 returns c =
     let C : Code = meaning c.args.code in
     let all : c.loop-z.z ≡ c.args.rows = omega arith in
-    let sum = sum_is (goal.at.returns c).At-loop-z ∙ ap (sum_before_row C c.args.i) all in
+    let sum = c.loop-z.invariant ∙ ap (sum_before_row C c.args.i) all in
     record { before_row = sum; after_row = λ z last. sum ∙ ap (sum_before_row C c.args.i) last ∙ next_row C c.args.i z }
 
 -- ---- what fits
@@ -54,5 +41,5 @@ sum_after_row-sum-requires c =
       omega (arith, c.requires.2 z (omega arith), weight_le C.n (C.row z), sound.n_high),
       omega (arith, c.requires.1, last_codeword_bound C sound),
       omega (arith, sound.k_high),
-      omega (arith, sum_is (goal.at.sum_after_row-sum-requires c).At-loop-z, sum_bound C c.args.i sound c.requires.1 z (omega arith)),
+      omega (arith, c.loop-z.invariant, sum_bound C c.args.i sound c.requires.1 z (omega arith)),
     )

@@ -1,13 +1,8 @@
 -- `position::differences::byte_distance` meets its contract: two bytes differ where their exclusive-or has a 1, and it has eight bits.
 -- Assumes nothing.
-use native.Mathlib.Omega.{arith}
-use lib.Bits.{xor_lt}
 use Rattle.bits.proofs.Binary.{ones_xor}
 use Rattle.bits.proofs.Distance.{distance_le}
 use Rattle.position.proofs.differences.byte_distance.Goals as goal
-
-pub overflow_cast-result : goal.overflow_cast-result
-overflow_cast-result c = omega (arith, xor_lt 8 c.args.x c.args.y c.ranges.x.fits c.ranges.y.fits)
 
 pub returns : goal.returns
 returns c =

@@ -1,62 +1,41 @@
+use mathlib.Core.Path.{refl}
 use mathlib.Core.List.{List}
-use mathlib.Core.Path.{◌≡◌, refl}
-use mathlib.Core.Logic.{⊎_elim}
-use Prim.Native.Nat.{ℕ, ◌*◌, ◌≤◌, ◌<◌}
-use native.Mathlib.Nat.{eq-or-lt_of_le}
-use native.Mathlib.Numerals.{add-one}
+use mathlib.Core.Path.{◌≡◌}
+use Prim.Native.Nat.{ℕ, ◌+◌, ◌*◌, ◌≤◌}
 use native.Mathlib.Omega.{arith}
+use lib.ListN.{get_or}
 use Rattle.bits.specs.Sums.{sum_below, distance}
-use Rattle.bits.specs.Places.{place}
-use Rattle.bits.proofs.Distance.{distance_suc, distance_le}
-use Rattle.bits.proofs.ByteLists.{distance_byte}
-use Rattle.position.proofs.differences.place_after.Invariants.{Passed}
+use Rattle.bits.specs.Places.{bit, place}
+use Rattle.bits.proofs.Distance.{distance_ext, distance_split, distance_le}
+use Rattle.bits.proofs.Places.{places_of_byte}
 use Rattle.position.proofs.differences.place_after.Goals as goal
 
-pub bytes-init : goal.bytes-init
-unfolding distance sum_below
-bytes-init c = (omega arith, refl, omega arith)
-
-pub overflow_add-more : goal.overflow_add-more
-overflow_add-more c =
-    let args = c.args in
-    omega (arith, distance_le (8 * c.bytes.j) (place args.u) (place args.v))
-
-pub bytes-preserved : goal.bytes-preserved
-bytes-preserved c =
-    let args = c.args in
-    (omega arith, omega (arith, distance_byte args.u args.v c.bytes.j), omega arith)
-
-pub loop-passed-init : goal.loop-passed-init
-loop-passed-init c = c.bytes.invariant
-
--- while places are left to pass, the end is not reached: u and v differ in at least m places before it
-inside : (u v : List ℕ) (m q passed : ℕ) → Passed u v m q passed → m ≤ distance 320 (place u) (place v) → passed < m → q < 320
-inside u v m q passed kept many more =
-    ⊎_elim
-    (λ (end : q ≡ 320). absurd (omega (arith, rw end at kept.1)))
-    (λ (l : q < 320). l)
-    (eq-or-lt_of_le kept.0)
-
-pub bounds-u-i : goal.bounds-u-i
-bounds-u-i c = omega (arith, inside _ _ _ _ _ c.loop-passed.invariant c.requires (omega arith))
-
-pub bounds-v-i : goal.bounds-v-i
-bounds-v-i c = omega (arith, inside _ _ _ _ _ c.loop-passed.invariant c.requires (omega arith))
-
-pub loop-passed-smaller : goal.loop-passed-smaller
-loop-passed-smaller c = omega (arith, inside _ _ _ _ _ c.loop-passed.invariant c.requires (omega arith))
-
-pub loop-passed-preserved : goal.loop-passed-preserved
-loop-passed-preserved c =
-    let loop = c.loop-passed in
-    let args = c.args in
-    let one = distance_suc loop.q (place args.u) (place args.v) in
-    let old = c.bit_of.ensures.0 args.u refl in
-    let new = c.bit_of-in-loop-passed.ensures.0 args.v refl in (
-      omega (arith, inside _ _ _ _ _ c.loop-passed.invariant c.requires (omega arith)),
-      rw (add-one loop.q, one, ← loop.invariant.1, old, new),
-      omega arith,
+-- before bit r of byte j, the bytes before it and the byte's first bits differ
+within_byte : (u v : List ℕ) (j r : ℕ) → r ≤ 8
+    → distance (8 * j + r) (place u) (place v)
+    ≡ distance (8 * j) (place u) (place v) + distance r (bit (get_or u j 0)) (bit (get_or v j 0))
+within_byte u v j r eight =
+    rw (
+      distance_split (8 * j) r (place u) (place v),
+      distance_ext r (λ q l. places_of_byte u j q (omega arith)) (λ q l. places_of_byte v j q (omega arith)),
     )
 
-pub returns : goal.returns
-returns c = (c.loop-passed.invariant.0, omega arith)
+pub loop-j-init : goal.loop-j-init
+unfolding distance sum_below
+loop-j-init c = (refl, omega arith)
+
+pub overflow_add-more : goal.overflow_add-more
+overflow_add-more c = omega (arith, distance_le (8 * c.loop-j.j) (place c.args.u) (place c.args.v))
+
+pub returns-then-m-more : goal.returns-then-m-more
+returns-then-m-more c =
+    let within = c.bit_after.ensures in (
+      omega arith,
+      rw (within_byte c.args.u c.args.v c.loop-j.j c.bit_after.result within.0, ← c.loop-j.invariant.0, within.1) (omega arith),
+    )
+
+pub loop-j-preserved : goal.loop-j-preserved
+loop-j-preserved c =
+    let j = c.loop-j.j in
+    let next : 8 * (j + 1) ≡ 8 * j + 8 = omega arith in
+    (rw next (omega (arith, within_byte c.args.u c.args.v j 8 (omega arith))), omega arith)

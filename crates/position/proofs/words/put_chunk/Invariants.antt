@@ -1,16 +1,10 @@
--- `position::words::put_chunk` meets its contract. The loop keeps that the word is the one before, joined at `at` with the first `p`
--- bits of the value; a turn fills the rest of a byte, so `p` may come past `len`, where the value's bits are 0. The measure is the
--- bits that are left. Assumes nothing.
-use Prim.Native.Nat.{ℕ, ◌+◌, ◌-◌, ◌≤◌}
+-- `position::words::put_chunk` meets its contract. The loop keeps that the bytes before j have taken their part of the chunk, and that
+-- `rest` is what is left of it. It ends where that is 0, or with the last byte, and then all of the chunk is put down. Assumes nothing.
 use mathlib.Core.Path.{◌≡◌}
 use lib.ListN.{length}
-use Rattle.bits.specs.Sums.{join_at}
-use Rattle.bits.specs.Places.{bit, place, cut}
+use Rattle.position.proofs.FilledByte.{LeftFrom, FilledTo}
 use Rattle.position.proofs.words.put_chunk.Given as goal
 
-abbrev pub invariant-loop-p : goal.invariant-loop-p
-invariant-loop-p l =
-    (l.p ≤ l.len + 8) × (length l.word ≡ 40) × ((s : ℕ) → place l.word s ≡ join_at l.at (place l.initial.word) (cut l.p (bit l.value)) s)
-
-abbrev pub decreases-loop-p : goal.decreases-loop-p
-decreases-loop-p l = l.len - l.p
+abbrev pub invariant-loop-j : goal.invariant-loop-j
+invariant-loop-j l =
+    (length l.word ≡ 40) × LeftFrom l.fn.at l.fn.value l.j l.rest × FilledTo l.fn.before l.fn.at l.fn.value l.j l.word

@@ -3,12 +3,8 @@ use Prim.Native.Nat.{◌%◌}
 use mathlib.Core.Path.{◌≡◌, sym, ◌∙◌}
 use native.Mathlib.Omega.{arith}
 use lib.Pow.{pow_pos}
-use Rattle.bits.proofs.Binary.{bit_zero}
 use Rattle.bits.proofs.Shifts.{bit_all_ones}
 use Rattle.position.proofs.words.separator.Goals as goal
-
-pub returns-then-i-eq0 : goal.returns-then-i-eq0
-returns-then-i-eq0 c = (pow_pos _, λ p h. bit_zero p ∙ sym c.if-i-eq0.true)
 
 pub returns : goal.returns
 returns c =

@@ -1,25 +1,29 @@
 -- `reader::chunks::chunks_named` meets its contract: each way out is a law of what the rule's chunks read as. Where one reads as a
 -- codeword, its number is within the code, by the chunk promise. Assumes nothing.
-use mathlib.Core.Path.{◌≡◌, sym, ap, ◌∙◌}
-use Prim.Native.Nat.{ℕ, ◌+◌, ◌≤◌}
+use mathlib.Core.Path.{◌≡◌, refl, sym, ap, ◌∙◌}
+use Prim.Native.Nat.{ℕ, ◌+◌}
 use native.Mathlib.Omega.{arith}
 use Rattle.bits.specs.Sums.{from_place, marked}
 use Rattle.bits.specs.Places.{place}
 use Rattle.model.specs.Card.{Code}
 use Rattle.model.specs.Decoded.{meaning}
-use Rattle.model.specs.Order.{last_codeword}
 use Rattle.model.specs.Levels.{erasure_reading}
-use Rattle.model.specs.declared.Chunk.{Chunk}
-use Rattle.model.specs.declared.Chunk.TheVariants.{Codeword}
 use Rattle.code_theory.proofs.Promise.{promise}
 use Rattle.position.specs.LayoutOf.{LayoutOf}
-use Rattle.reader.specs.RuleAnswers.{ReadsNamed}
-use Rattle.reader.proofs.RuleAnswers.{rule₂_unreadable, first_unreadable, rule₃_second_unreadable, rule₃_differs}
+use Rattle.reader.specs.RuleAnswers.{unreadable_chunk, ReadsNamed}
+use Rattle.reader.proofs.RuleAnswers.{rule₁_unreadable, rule₂_unreadable, rule₃_unreadable, rule₃_second_unreadable, rule₃_differs}
 use Rattle.reader.proofs.RuleAnswers.{rule₁_read, rule₂_read, rule₃_read}
-use Rattle.reader.proofs.chunks.chunks_named.Goals.{After-chunk_reading-3, In-Codeword-chunk_reading}
+use Rattle.reader.proofs.chunks.chunks_named.Goals.{In_ok-first-in-Third, In_ok-second-in-Third}
 use Rattle.nearest_position.specs.declared.received.ReceivedWord.{ReceivedWord}
 use Rattle.position.specs.declared.layout.Layout.{Layout}
+use Rattle.std.specs.Prelude.{Some, None, Ok, Err}
+use Rattle.std.specs.Option.{ok_or}
+use Rattle.model.specs.Reading.{Unreadable}
+use Rattle.model.specs.declared.ReadChunk.{ReadChunk}
+use Rattle.model.specs.declared.Refusal.{Refusal}
+use Rattle.std.proofs.lemmas.Result.{err_from_is_err_and}
 use Rattle.reader.proofs.chunks.chunks_named.Goals as goal
+use Rattle.model.specs.Reading.{Chunk, Codeword}
 
 -- what the chunk reads as that starts at a place: chunk 1 D places into the word, and chunk 2 behind separator 2
 module _ (C : Code) (x : ReceivedWord) (at : Layout) (laid : LayoutOf C at) where
@@ -32,92 +36,111 @@ module _ (C : Code) (x : ReceivedWord) (at : Layout) (laid : LayoutOf C at) wher
   chunk₂_read : (read : Chunk) → read ≡ reading_at at.chunk2 → reading_at (C.D + C.n + C.D) ≡ read
   chunk₂_read read is = ap reading_at (sym laid.chunk₂_at) ∙ sym is
 
--- by rule 2
+-- a chunk that is not refused reads as a codeword, and one that is refused reads as none
+told_some : (read : Chunk) {found : ReadChunk} → Ok found ≡ ok_or read unreadable_chunk → read ≡ Codeword found.number found.differing
+told_some (Some read) is = cc
+told_some None is = cc
+
+told_none : (read : Chunk) {refusal : Refusal} → Err refusal ≡ ok_or read unreadable_chunk → (read ≡ Unreadable) × (refusal ≡ unreadable_chunk)
+told_none (Some read) is = cc
+told_none None is = (refl, cc)
+
+-- by rule 1
 pub chunk_reading-requires : goal.chunk_reading-requires
-chunk_reading-requires c =
-    let (sound, laid, low, high) = c.requires in (sound, omega (arith, laid.chunk₂_at))
+chunk_reading-requires c = let (sound, laid) = c.requires in (sound, omega (arith, laid.chunk₁_at))
 
-pub returns-in_default : goal.returns-in_default
+pub returns-in_err-read-in-First : goal.returns-in_err-read-in-First
 unfolding ReadsNamed
-returns-in_default c s sees R residual =
-    rw c.if-rule-eq2.true
-    (rule₂_unreadable s R residual (sees.second ∙ chunk₂_read _ _ _ c.requires.1 _ c.chunk_reading.ensures ∙ c.in_default.is))
+returns-in_err-read-in-First c =
+    let p = err_from_is_err_and c.from_residual.result c.from_residual.ensures.1 in
+    let (unread, refused) = told_none _ c.in_err-read-in-First.ensures in
+    rw (p.1, p.2, refused, c.in-First.is)
+    (λ s sees R residual. rule₁_unreadable s R residual (sees.first ∙ chunk₁_read _ _ _ c.requires.1 _ refl ∙ unread))
 
-pub returns-then-rule-eq2 : goal.returns-then-rule-eq2
+pub returns-in_ok-read-in-First : goal.returns-in_ok-read-in-First
 unfolding ReadsNamed
-returns-then-rule-eq2 c =
-    let codeword = chunk₂_read _ _ _ c.requires.1 _ c.chunk_reading.ensures ∙ c.in-Codeword.is in
-    rw c.if-rule-eq2.true (
+returns-in_ok-read-in-First c =
+    let codeword = chunk₁_read _ _ _ c.requires.1 _ refl ∙ told_some _ c.in_ok-read-in-First.ensures in
+    rw c.in-First.is (
+      (((promise (meaning c.args.code) c.requires.0).chunks _).within _ _ _ codeword).0,
+      λ s sees. rule₁_read s _ _ (sees.first ∙ codeword),
+    )
+
+-- by rule 2
+pub chunk_reading-requires-in-Second : goal.chunk_reading-requires-in-Second
+chunk_reading-requires-in-Second c = let (sound, laid) = c.requires in (sound, omega (arith, laid.chunk₂_at))
+
+pub returns-in_err-read-in-Second : goal.returns-in_err-read-in-Second
+unfolding ReadsNamed
+returns-in_err-read-in-Second c =
+    let p = err_from_is_err_and c.from_residual-in_err-read-in-Second.result c.from_residual-in_err-read-in-Second.ensures.1 in
+    let (unread, refused) = told_none _ c.in_err-read-in-Second.ensures in
+    rw (p.1, p.2, refused, c.in-Second.is)
+    (λ s sees R residual. rule₂_unreadable s R residual (sees.second ∙ chunk₂_read _ _ _ c.requires.1 _ refl ∙ unread))
+
+pub returns-in_ok-read-in-Second : goal.returns-in_ok-read-in-Second
+unfolding ReadsNamed
+returns-in_ok-read-in-Second c =
+    let codeword = chunk₂_read _ _ _ c.requires.1 _ refl ∙ told_some _ c.in_ok-read-in-Second.ensures in
+    rw c.in-Second.is (
       (((promise (meaning c.args.code) c.requires.0).chunks _).within _ _ _ codeword).0,
       λ s sees. rule₂_read s _ _ (sees.second ∙ codeword),
     )
 
--- by any other
-pub chunk_reading-requires-2 : goal.chunk_reading-requires-2
-chunk_reading-requires-2 c =
-    let (sound, laid, low, high) = c.requires in (sound, omega (arith, laid.chunk₁_at))
+-- by rule 3
+pub chunk_reading-requires-in-Third : goal.chunk_reading-requires-in-Third
+chunk_reading-requires-in-Third c = let (sound, laid) = c.requires in (sound, omega (arith, laid.chunk₁_at))
 
-pub returns-in_default-chunk_reading : goal.returns-in_default-chunk_reading
+pub returns-in_err-first-in-Third : goal.returns-in_err-first-in-Third
 unfolding ReadsNamed
-returns-in_default-chunk_reading c s sees R residual =
-    let (sound, laid, low, high) = c.requires in
-    first_unreadable s R residual _ low high c.if-rule-eq2.false
-    (sees.first ∙ chunk₁_read _ _ _ c.requires.1 _ c.chunk_reading-2.ensures ∙ c.in_default-chunk_reading.is)
+returns-in_err-first-in-Third c =
+    let p = err_from_is_err_and c.from_residual-in_err-first-in-Third.result c.from_residual-in_err-first-in-Third.ensures.1 in
+    let (unread, refused) = told_none _ c.in_err-first-in-Third.ensures in
+    rw (p.1, p.2, refused, c.in-Third.is)
+    (λ s sees R residual. rule₃_unreadable s R residual (sees.first ∙ chunk₁_read _ _ _ c.requires.1 _ refl ∙ unread))
 
 -- where chunk 1 reads as a codeword
-module _ (c : In-Codeword-chunk_reading) where
+module _ (c : In_ok-first-in-Third) where
   codeword₁ : reading_at (meaning c.args.code) c.args.x c.args.at c.requires.1 (meaning c.args.code).D
-      ≡ Codeword c.in-Codeword-chunk_reading.number c.in-Codeword-chunk_reading.differing
-  codeword₁ = chunk₁_read _ _ _ c.requires.1 _ c.chunk_reading-2.ensures ∙ c.in-Codeword-chunk_reading.is
+      ≡ Codeword c.in_ok-first-in-Third.first.number c.in_ok-first-in-Third.first.differing
+  codeword₁ = chunk₁_read _ _ _ c.requires.1 _ refl ∙ told_some _ c.in_ok-first-in-Third.ensures
 
-  bound : c.in-Codeword-chunk_reading.number ≤ last_codeword (meaning c.args.code)
-  bound = (((promise (meaning c.args.code) c.requires.0).chunks _).within _ _ _ codeword₁).0
+pub chunk_reading-requires-in-Third-2 : goal.chunk_reading-requires-in-Third-2
+chunk_reading-requires-in-Third-2 c = let (sound, laid) = c.requires in (sound, omega (arith, laid.chunk₂_at))
 
-pub returns-then-rule-eq1 : goal.returns-then-rule-eq1
+pub returns-in_err-second-in-Third : goal.returns-in_err-second-in-Third
 unfolding ReadsNamed
-returns-then-rule-eq1 c =
-    let known = (goal.at.returns-then-rule-eq1 c).In-Codeword-chunk_reading in
-    rw c.if-rule-eq1.true (bound known, λ s sees. rule₁_read s _ _ (sees.first ∙ codeword₁ known))
+returns-in_err-second-in-Third c =
+    let at = (goal.at.returns-in_err-second-in-Third c).In_ok-first-in-Third in
+    let p = err_from_is_err_and c.from_residual-in_err-second-in-Third.result c.from_residual-in_err-second-in-Third.ensures.1 in
+    let (unread, refused) = told_none _ c.in_err-second-in-Third.ensures in
+    rw (p.1, p.2, refused, c.in-Third.is)
+    (λ s sees R residual.
+    rule₃_second_unreadable s R residual _ _ (sees.first ∙ codeword₁ at)
+    (sees.second ∙ chunk₂_read _ _ _ c.requires.1 _ refl ∙ unread))
 
--- by rule 3 chunk 2 is read too
-module _ (c : After-chunk_reading-3) where
-  third : c.args.rule ≡ 3
-  third = let (sound, laid, low, high) = c.requires in omega (arith, low, high, c.if-rule-eq1.false, c.if-rule-eq2.false)
+-- where both do
+module _ (c : In_ok-second-in-Third) where
+  codeword₂ : reading_at (meaning c.args.code) c.args.x c.args.at c.requires.1
+      ((meaning c.args.code).D + (meaning c.args.code).n + (meaning c.args.code).D)
+      ≡ Codeword c.in_ok-second-in-Third.second.number c.in_ok-second-in-Third.second.differing
+  codeword₂ = chunk₂_read _ _ _ c.requires.1 _ refl ∙ told_some _ c.in_ok-second-in-Third.ensures
 
-  read₂ : reading_at (meaning c.args.code) c.args.x c.args.at c.requires.1
-      ((meaning c.args.code).D + (meaning c.args.code).n + (meaning c.args.code).D) ≡ c.chunk_reading-3.result
-  read₂ = chunk₂_read _ _ _ c.requires.1 _ c.chunk_reading-3.ensures
-
-pub chunk_reading-requires-3 : goal.chunk_reading-requires-3
-chunk_reading-requires-3 c =
-    let (sound, laid, low, high) = c.requires in (sound, omega (arith, laid.chunk₂_at))
-
-pub returns-in_default-chunk_reading-2 : goal.returns-in_default-chunk_reading-2
+pub returns-then-first-second : goal.returns-then-first-second
 unfolding ReadsNamed
-returns-in_default-chunk_reading-2 c s sees R residual =
-    let known = (goal.at.returns-in_default-chunk_reading-2 c).In-Codeword-chunk_reading in
-    let both = (goal.at.returns-in_default-chunk_reading-2 c).After-chunk_reading-3 in
-    rw (third both)
-    (rule₃_second_unreadable s R residual _ _ (sees.first ∙ codeword₁ known)
-    (sees.second ∙ read₂ both ∙ c.in_default-chunk_reading-2.is))
+returns-then-first-second c s sees R residual =
+    let at = goal.at.returns-then-first-second c in
+    rw c.in-Third.is
+    (rule₃_differs s R residual _ _ (sees.first ∙ codeword₁ at.In_ok-first-in-Third) _ _ (sees.second ∙ codeword₂ at.In_ok-second-in-Third)
+    c.if-first-second.true)
 
-pub returns-then-number-second : goal.returns-then-number-second
+pub returns-else-first-second : goal.returns-else-first-second
 unfolding ReadsNamed
-returns-then-number-second c s sees R residual =
-    let known = (goal.at.returns-then-number-second c).In-Codeword-chunk_reading in
-    let both = (goal.at.returns-then-number-second c).After-chunk_reading-3 in
-    rw (third both)
-    (rule₃_differs s R residual _ _ (sees.first ∙ codeword₁ known) _ _
-    (sees.second ∙ read₂ both ∙ c.in-Codeword-chunk_reading-2.is) c.if-number-second.true)
-
-pub returns : goal.returns
-unfolding ReadsNamed
-returns c =
-    let known = (goal.at.returns c).In-Codeword-chunk_reading in
-    let both = (goal.at.returns c).After-chunk_reading-3 in
-    rw (third both) (
-      bound known,
+returns-else-first-second c =
+    let at = goal.at.returns-else-first-second c in
+    rw c.in-Third.is (
+      (((promise (meaning c.args.code) c.requires.0).chunks _).within _ _ _ (codeword₁ at.In_ok-first-in-Third)).0,
       λ s sees.
-          rule₃_read s _ _ _ _ (sees.first ∙ codeword₁ known) (sees.second ∙ read₂ both ∙ c.in-Codeword-chunk_reading-2.is)
-          c.if-number-second.false,
+          rule₃_read s _ _ _ _ (sees.first ∙ codeword₁ at.In_ok-first-in-Third) (sees.second ∙ codeword₂ at.In_ok-second-in-Third)
+          c.if-first-second.false,
     )

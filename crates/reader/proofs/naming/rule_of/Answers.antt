@@ -1,18 +1,17 @@
--- `reader::naming::rule_of` meets its contract: each way out of the tests is a law on the rule that three separators name.
+-- `reader::naming::rule_of` meets its contract: each pair of answers to the two tests is a law on the rule that three separators name.
 -- Assumes nothing.
 use mathlib.Core.Path.{sym}
-use native.Mathlib.Omega.{arith}
 use Rattle.position_theory.proofs.Separators.{rule₁_named, rule₂_named, rule₃_named, none_named}
 use Rattle.reader.proofs.naming.rule_of.Goals as goal
 
-pub returns-then-s2-s3 : goal.returns-then-s2-s3
-returns-then-s2-s3 c = (sym (rule₃_named c.if-s1-s2.true c.if-s2-s3.true), omega arith)
+pub returns-in-true-false : goal.returns-in-true-false
+returns-in-true-false c = sym (rule₁_named c.in-true-false.is-0 c.in-true-false.is-1)
 
-pub returns-then-s1-s2 : goal.returns-then-s1-s2
-returns-then-s1-s2 c = (sym (rule₁_named c.if-s1-s2.true c.if-s2-s3.false), omega arith)
+pub returns-in-false-true : goal.returns-in-false-true
+returns-in-false-true c = sym (rule₂_named c.in-false-true.is-0 c.in-false-true.is-1)
 
-pub returns-then-s2-s3-2 : goal.returns-then-s2-s3-2
-returns-then-s2-s3-2 c = (sym (rule₂_named c.if-s1-s2.false c.if-s2-s3-2.true), omega arith)
+pub returns-in-true-true : goal.returns-in-true-true
+returns-in-true-true c = sym (rule₃_named c.in-true-true.is-0 c.in-true-true.is-1)
 
-pub returns : goal.returns
-returns c = (sym (none_named c.if-s1-s2.false c.if-s2-s3-2.false), omega arith)
+pub returns-in-false-false : goal.returns-in-false-false
+returns-in-false-false c = sym (none_named c.in-false-false.is-0 c.in-false-false.is-1)

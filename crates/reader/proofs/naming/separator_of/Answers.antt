@@ -1,12 +1,13 @@
--- `reader::naming::separator_of` meets its contract: the definition's own test. Assumes nothing.
-use borrow.Author.Tests.{eq-eqb, ne_eqb}
+-- `reader::naming::separator_of` meets its contract: the definition's own test, rule by rule. Assumes nothing.
+use mathlib.Core.Path.{refl}
+use borrow.Author.Rules.{rules}
 use Rattle.model.specs.Reading.{separator_of}
 use Rattle.reader.proofs.naming.separator_of.Goals as goal
 
-pub returns-then-rule-eq2 : goal.returns-then-rule-eq2
+pub returns-in-Second : goal.returns-in-Second
 unfolding separator_of
-returns-then-rule-eq2 c = rw (eq-eqb _ 2 c.if-rule-eq2.true)
+returns-in-Second c = rw c.in-Second.is refl
 
-pub returns : goal.returns
+pub returns-in-First : goal.returns-in-First
 unfolding separator_of
-returns c = rw (ne_eqb _ 2 c.if-rule-eq2.false)
+returns-in-First c = search rules

@@ -5,6 +5,7 @@ use mathlib.Core.Bool.{false}
 use Prim.Native.Nat.{ℕ}
 use Rattle.model.specs.Decoded.{meaning}
 use Rattle.model.specs.Reading.{Seen, separator_by, parity_differs, two_ends}
+use Rattle.nearest_position.specs.RuleNumbers.{rule_number}
 use Rattle.reader.proofs.RuleAnswers.{no_block_lem, contradicted, answered}
 use Rattle.reader.proofs.reading.by_chunks.Goals.{After-contradicts, Else-no_block}
 use Rattle.reader.proofs.reading.by_chunks.Goals as goal
@@ -15,14 +16,14 @@ returns-then-no_block c s as_read separator = no_block_lem _ s _ _ _ as_read (sy
 -- past the first test there is a block
 block : (c : Else-no_block)
     → let args = c.args in
-    (two_ends (meaning args.code)).no_block args.named.rule args.read.number ≡ false
+    (two_ends (meaning args.code)).no_block (rule_number args.named.rule) args.read.number ≡ false
 block c = sym c.no_block.ensures ∙ c.if-no_block.false
 
 -- what the test of the separator has shown is so of what is seen of it
 separator_tested : (c : After-contradicts)
     → let args = c.args in
-    (s : Seen) → separator_by s args.named.rule ≡ args.named.separator
-    → parity_differs (separator_by s args.named.rule) args.read.number ≡ c.contradicts.result
+    (s : Seen) → separator_by s (rule_number args.named.rule) ≡ args.named.separator
+    → parity_differs (separator_by s (rule_number args.named.rule)) args.read.number ≡ c.contradicts.result
 separator_tested c s separator =
     let args = c.args in
     ap (λ (held : ℕ). parity_differs held args.read.number) separator ∙ sym c.contradicts.ensures
@@ -31,11 +32,6 @@ pub returns-then-contradicts : goal.returns-then-contradicts
 returns-then-contradicts c s as_read separator =
     contradicted _ s _ _ _ as_read (block (goal.at.returns-then-contradicts c).Else-no_block) (separator_tested
     (goal.at.returns-then-contradicts c).After-contradicts s separator ∙ c.if-contradicts.true)
-
-pub nearest_by-s-requires : goal.nearest_by-s-requires
-nearest_by-s-requires c =
-    let (held, low, high, within) = c.requires in
-    record { received = (held, within); has_block = (low, high, block (goal.at.nearest_by-s-requires c).Else-no_block) }
 
 pub returns : goal.returns
 returns c s as_read separator =

@@ -14,14 +14,18 @@ use Rattle.model.specs.Decoded.{meaning}
 use Rattle.model.specs.Words.{word_length}
 use Rattle.model.specs.Reading.{seen, rule_named}
 use Rattle.position.specs.LayoutOf.{LayoutOf}
-use Rattle.reader.specs.Naming.{NamesOf}
+use Rattle.reader.specs.Naming.{NamedBy}
+use Rattle.nearest_position.specs.RuleNumbers.{rule_number}
+use Rattle.std.specs.Prelude.{None, Some}
+use Rattle.std.proofs.lemmas.Option.{MatchOption-at_some, MatchOption-at_none}
+use Rattle.std.proofs.lemmas.Result.{err_from_is_err_and}
 use Rattle.reader.proofs.ReadRefusals.{refused_6, none_spare, refused_8, refused_9, read_by_rule}
 use Rattle.reader.proofs.SpareBits.{spare_test, nothing_spare}
-use Rattle.reader.proofs.reading.read.Goals.{After-held-1, After-named_rule-named, After-ones_from}
+use Rattle.reader.proofs.reading.read.Goals.{After-plain-x, After-ones_from, In_ok-named}
 use Rattle.reader.proofs.reading.read.Goals as goal
 
 -- a word of the layout has as many bytes as the code's words, so its bytes have a place for each bit, and less than 8 are spare
-room : (c : After-held-1)
+room : (c : After-plain-x)
     → let bits = c.layout_of-at.result.bits in
     (bits ≤ 8 * c.bytes_in-len.result) × (8 * c.bytes_in-len.result ≤ bits + 7)
 room c =
@@ -30,11 +34,12 @@ room c =
     (omega (arith, long, bits_are), omega (arith, long, bits_are))
 
 pub overflow_sub-len : goal.overflow_sub-len
-overflow_sub-len c = omega (arith, (room c).0)
+overflow_sub-len c = omega (arith, (room (goal.at.overflow_sub-len c).After-plain-x).0)
 
 pub ones_from-requires : goal.ones_from-requires
 ones_from-requires c =
-    (omega (arith, (room c).0, c.bytes_in-len.ensures.2), omega (arith, (room c).1))
+    let (longer, shorter) = room (goal.at.ones_from-requires c).After-plain-x in
+    (omega (arith, longer, c.bytes_in-len.ensures.2), omega (arith, shorter))
 
 -- what is known once the ones past the word's bits are counted
 module _ (c : After-ones_from) where
@@ -57,13 +62,15 @@ module _ (c : After-ones_from) where
   spare : not (eqb c.ones_from.result 0) ≡ spare_set C received
   spare = spare_test C received c.plain-x.result c.plain-x.ensures _ _ _ laid.bits_are long c.ones_from.ensures.0
 
--- the rule that is named, and its separator, are those of the received word
-named : (c : After-named_rule-named)
-    → NamesOf (seen (meaning c.args.code) (place c.args.word.now)) c.named_rule-named.result
-named c = rw (fun_ext c.plain-x.ensures.bits_held) at c.named_rule-named.ensures
+-- where the separators name a rule, it and its separator are those of the received word
+named : (c : In_ok-named)
+    → let s = seen (meaning c.args.code) (place c.args.word.now) in
+    NamedBy s.s₁ s.s₂ s.s₃ c.in_ok-named.named
+named c =
+    let is : c.named_rule.result ≡ Some c.in_ok-named.named = grind arith in
+    rw (fun_ext c.plain-x.ensures.bits_held) at (MatchOption-at_some _ _ _ is c.named_rule.ensures)
 
-rule : (c : After-named_rule-named)
-    → c.named_rule-named.result.rule ≡ rule_named (meaning c.args.code) (place c.args.word.now)
+rule : (c : In_ok-named) → rule_number c.in_ok-named.named.rule ≡ rule_named (meaning c.args.code) (place c.args.word.now)
 unfolding rule_named
 rule c = (named c).rule
 
@@ -75,25 +82,26 @@ returns-then-ones_from-ne0 c =
     let counted = (goal.at.returns-then-ones_from-ne0 c).After-ones_from in
     refused_8 _ _ (whole counted) _ (spare counted) c.if-ones_from-ne0.true
 
-pub returns-then-rule-eq0 : goal.returns-then-rule-eq0
-returns-then-rule-eq0 c =
-    let counted = (goal.at.returns-then-rule-eq0 c).After-ones_from in
-    let unnamed : c.named_rule-named.result.rule ≡ 0 = omega arith in
-    refused_9 _ _ (whole counted) _ (spare counted) c.if-ones_from-ne0.false (sym (rule (goal.at.returns-then-rule-eq0 c).After-named_rule-named) ∙ unnamed)
+pub returns-in_err-named : goal.returns-in_err-named
+unfolding rule_named
+returns-in_err-named c =
+    let counted = (goal.at.returns-in_err-named c).After-ones_from in
+    let none : c.named_rule.result ≡ None = grind arith in
+    let unnamed = rw (fun_ext c.plain-x.ensures.bits_held) at (MatchOption-at_none _ _ none c.named_rule.ensures) in
+    let refused : c.in_err-named.field-0.0 ≡ record { number = 9 } = grind arith in
+    let p = err_from_is_err_and c.from_residual.result c.from_residual.ensures.1 in
+    rw (p.1, p.2, refused) (refused_9 _ _ (whole counted) _ (spare counted) c.if-ones_from-ne0.false unnamed)
 
 pub by_rule-requires : goal.by_rule-requires
 by_rule-requires c =
     let counted = (goal.at.by_rule-requires c).After-ones_from in
     let held = c.plain-x in
     let unset = none_spare _ _ (whole counted) _ (spare counted) c.if-ones_from-ne0.false in
-    let rest = nothing_spare (C counted) (received counted) held.result held.ensures (whole counted) unset in (
-      (c.requires, laid counted, rest),
-      omega (arith, c.if-rule-eq0.false),
-      c.named_rule-named.ensures.at_most_three,
-    )
+    (c.requires, laid counted, nothing_spare (C counted) (received counted) held.result held.ensures (whole counted) unset)
 
 pub returns : goal.returns
 returns c =
     let counted = (goal.at.returns c).After-ones_from in
+    let found = (goal.at.returns c).In_ok-named in
     read_by_rule _ _ (whole counted) _ (spare counted) c.if-ones_from-ne0.false c.requires _ c.plain-x.ensures _
-    (rw ((named (goal.at.returns c).After-named_rule-named).separator, rule (goal.at.returns c).After-named_rule-named) at c.by_rule.ensures)
+    (rw ((named found).separator, rule found) at c.by_rule.ensures)

@@ -17,11 +17,11 @@ two_to-requires c = omega (arith, (limits (goal.at.two_to-requires c).Start).0)
 pub write_card-requires : goal.write_card-requires
 write_card-requires c = (
   omega (arith, c.two_to.ensures, pow_mono {i = c.args.m} {j = 6} (limits (goal.at.write_card-requires c).Start).0),
-  omega (arith, c.product_rows-made.ensures.0, (limits (goal.at.write_card-requires c).Start).1),
+  omega (arith, c.product_rows-count.ensures.0, (limits (goal.at.write_card-requires c).Start).1),
 )
 
 pub returns : goal.returns
 unfolding reed_muller_card
 returns c =
-    let made = c.product_rows-made in
+    let made = c.product_rows-count in
     rw (c.write_card.ensures, c.two_to.ensures, made.ensures.0, made.ensures.1)

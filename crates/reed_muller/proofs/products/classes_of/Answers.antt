@@ -1,7 +1,7 @@
 use mathlib.Core.Path.{◌≡◌}
 use Prim.Native.Nat.{ℕ, ◌-◌, ◌*◌, ◌%◌, ◌^◌, ◌<◌}
 use native.Mathlib.Omega.{arith}
-use lib.Bits.{bit_and, bit_xor, and_le_l}
+use lib.Bits.{bit_and, bit_xor}
 use lib.Count.{count_trailing_zeros}
 use lib.ListN.{get_or}
 use Rattle.reed_muller.proofs.ClassesTaken.{Taken, none_taken, others_less, lowest_below, next_taken, all_summed, product_taken}
@@ -31,23 +31,8 @@ module _ (c : At-loop-rest) where
       (bit_and c.loop-rest.row (get_or c.args.variables.now (count_trailing_zeros 32 c.loop-rest.rest) 0)) others
   next = next_taken c.loop-rest.rest some c.loop-rest.invariant.1 _ c.requires.2 _ _ _ _ _ c.loop-rest.invariant.2
 
-pub overflow_cast-v : goal.overflow_cast-v
-overflow_cast-v c = record { fits = omega (arith, v_below c) }
-
-pub offset_bounds-variables-v : goal.offset_bounds-variables-v
-offset_bounds-variables-v c = record { fits = omega (arith, v_below c) }
-
-pub overflow_sub-sums : goal.overflow_sub-sums
-overflow_sub-sums c = let rest = c.loop-rest.rest in and_le_l rest (rest - 1)
-
-pub overflow_shl-sums : goal.overflow_shl-sums
-overflow_shl-sums c = omega (arith, c.loop-rest.invariant.1)
-
 pub bounds-variables-v : goal.bounds-variables-v
 bounds-variables-v c = v_below (goal.at.bounds-variables-v c).At-loop-rest
-
-pub loop-rest-smaller : goal.loop-rest-smaller
-loop-rest-smaller c = less (goal.at.loop-rest-smaller c).At-loop-rest
 
 pub loop-rest-preserved : goal.loop-rest-preserved
 loop-rest-preserved c =

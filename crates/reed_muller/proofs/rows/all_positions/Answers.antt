@@ -5,6 +5,3 @@ use Rattle.reed_muller.proofs.rows.all_positions.Goals as goal
 
 pub low_ones-requires : goal.low_ones-requires
 low_ones-requires c = omega (arith, c.two_to.ensures, pow_mono {i = c.args.m} {j = 6} c.requires)
-
-pub returns : goal.returns
-returns c = rw (c.low_ones.ensures, c.two_to.ensures)

@@ -1,7 +1,7 @@
 use mathlib.Core.Path.{◌≡◌, refl, ap, ◌∙◌}
 use Prim.Native.Nat.{ℕ, ◌/◌}
 use native.Mathlib.Omega.{arith}
-use lib.Bits.{bit_xor, xor_lt, xor_shr, xor_zero_r}
+use lib.Bits.{bit_xor, xor_lt, xor_shr}
 use Rattle.bits.proofs.Binary.{xor_assoc, xor_exchange, xor_undone}
 use Rattle.model.specs.Order.{gray}
 use Rattle.reed_muller.proofs.voting.number_of.Goals as goal
@@ -9,9 +9,6 @@ use Rattle.reed_muller.proofs.voting.number_of.Goals as goal
 pub loop-rest-init : goal.loop-rest-init
 unfolding gray
 loop-rest-init c = (refl, λ k l. l, λ k l. omega arith)
-
-pub loop-rest-smaller : goal.loop-rest-smaller
-loop-rest-smaller c = omega (arith, c.loop-rest-test.true)
 
 -- one half more
 added : (number rows rest : ℕ) → gray number ≡ bit_xor rows rest → gray (bit_xor number rest) ≡ bit_xor rows (rest / 2)
@@ -30,9 +27,3 @@ loop-rest-preserved c =
       λ k l. xor_lt k loop.number loop.rest (loop.invariant.1 k l) (loop.invariant.2 k l),
       λ k l. omega (arith, loop.invariant.2 k l),
     )
-
-pub returns : goal.returns
-returns c =
-    let loop = c.loop-rest in
-    let none : loop.rest ≡ 0 = omega (arith, c.loop-rest-test.false) in
-    (loop.invariant.0 ∙ ap (bit_xor c.args.rows) none ∙ xor_zero_r c.args.rows, loop.invariant.1)

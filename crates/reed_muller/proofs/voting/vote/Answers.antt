@@ -4,10 +4,10 @@ use Prim.Native.Nat.{ℕ, suc, ◌-◌, ◌/◌, ◌^◌, ◌≤◌}
 use native.Mathlib.Omega.{arith}
 use lib.Bits.{bit_xor}
 use lib.Count.{ones, ones-le}
-use lib.Pow.{pow_mono, pow_pos}
+use lib.Pow.{pow_mono}
 use Rattle.model.specs.ReedMuller.{count_of_sets, order_within_limits}
 use Rattle.reed_muller_theory.proofs.OrderLimits.{order_limits_of_test, order_at_most_three}
-use Rattle.reed_muller.proofs.VotedDown.{VotedDown, few_rows, voting_starts, voting_goes_on, voting_tied}
+use Rattle.reed_muller.proofs.VotedDown.{VotedDown, voting_starts, voting_goes_on, voting_tied}
 use Rattle.reed_muller.proofs.VotedDown.{sets_below, not_accepted, accepted}
 use Rattle.reed_muller.proofs.LastRound.{taken_off, not_taken_off, ones_flipped}
 use Rattle.reed_muller.proofs.voting.vote.Goals.{Joined-n-differing, then-n-differing, else-n-differing}
@@ -30,34 +30,28 @@ loop-size-init c = voting_starts c.args.r c.args.m c.args.chunk c.requires.1 (li
 
 -- ---- a round
 
-pub vote_round-voted-requires : goal.vote_round-voted-requires
+pub vote_round-requires-clause-m_bound : goal.vote_round-requires-clause-m_bound
 unfolding sets_below count_of_sets
-vote_round-voted-requires c =
+vote_round-requires-clause-m_bound c =
     let within = limits _ _ c.requires.0 in
-    let here = c.loop-size.invariant in
-    record {
-      m_bound = (
-        within.six,
-        omega (arith, here.started, within.order),
-        omega (arith, here.started, within.three),
-        here.narrow,
-        here.room,
-        c.loop-size-test.true,
-      );
-      sets_value = (c.all_sets-sets.ensures, c.all_variables-variables.ensures);
-    }
+    let here = c.loop-size.invariant in (
+      within.six,
+      omega (arith, here.started, within.order),
+      omega (arith, here.started, within.three),
+      here.narrow,
+      here.room,
+      c.loop-size-test.true,
+    )
 
-pub returns-then-voted : goal.returns-then-voted
-returns-then-voted c =
-    voting_tied _ _ _ c.loop-size.size _ _ c.loop-size.invariant (limits _ _ c.requires.0).order
-    (c.vote_round-voted.ensures.tied c.if-voted.true)
+pub returns-in_err-voted : goal.returns-in_err-voted
+returns-in_err-voted c =
+    rw c.from_residual.ensures
+    (voting_tied _ _ _ c.loop-size.size _ _ c.loop-size.invariant (limits _ _ c.requires.0).order c.in_err-voted.ensures.tied)
 
 pub loop-size-preserved : goal.loop-size-preserved
 loop-size-preserved c =
-    let round_by = c.vote_round-voted.ensures in
     let next : suc (c.loop-size.size - 1) ≡ c.loop-size.size = omega (arith, c.loop-size-test.true) in
-    rw next (voting_goes_on _ _ _ c.loop-size.size _ _ c.loop-size.invariant _ _
-    (round_by.left c.if-voted.false) (round_by.rows c.if-voted.false))
+    rw next (voting_goes_on _ _ _ c.loop-size.size _ _ c.loop-size.invariant _ _ c.in_ok-voted.ensures.left c.in_ok-voted.ensures.rows)
 
 -- ---- the last round
 
@@ -71,9 +65,6 @@ few_ones {m = m} {left = left} here = ones-le (2 ^ m) left here.narrow
 pub two_to-n-requires : goal.two_to-n-requires
 two_to-n-requires c = omega (arith, (limits _ _ c.requires.0).six)
 
-pub overflow_mul-rows : goal.overflow_mul-rows
-overflow_mul-rows c = record { fits = omega (arith, few_rows c.loop-size.invariant) }
-
 pub overflow_mul-differing : goal.overflow_mul-differing
 overflow_mul-differing c =
     record {
@@ -82,9 +73,6 @@ overflow_mul-differing c =
 
 pub overflow_sub-differing : goal.overflow_sub-differing
 overflow_sub-differing c = omega (arith, few_ones c.loop-size.invariant, c.two_to-n.ensures)
-
-pub overflow_add-rows : goal.overflow_add-rows
-overflow_add-rows c = record { fits = omega (arith, few_rows c.loop-size.invariant) }
 
 -- what it leaves, whether or not the product of no variable is taken off
 record Ended (r m chunk differing rows : ℕ) : Type 0 where
@@ -119,9 +107,6 @@ overflow_sub-m c = (limits _ _ c.requires.0).order
 
 pub two_to-requires : goal.two_to-requires
 two_to-requires c = omega (arith, (limits _ _ c.requires.0).six)
-
-pub overflow_sub-two_to : goal.overflow_sub-two_to
-overflow_sub-two_to c = omega (arith, c.two_to.ensures, pow_pos (c.args.m - c.args.r))
 
 pub returns-then-two_to-differing : goal.returns-then-two_to-differing
 returns-then-two_to-differing c =

@@ -1,11 +1,10 @@
 -- `report::lines::put_last_line` meets its contract: its pieces are put one after the other. Assumes nothing.
-use native.Mathlib.Omega.{arith}
+use Rattle.std.proofs.Common.{arith}
 use Rattle.report.specs.Text.{ascii}
 use Rattle.report.specs.Lines.{last_line}
-use Rattle.report.proofs.Puts.{puts_then}
+use Rattle.report.proofs.Puts.{puts_then, puts_within}
 use Rattle.report.proofs.lines.put_last_line.Goals as goal
 
 pub returns : goal.returns
 unfolding ascii last_line
-returns c =
-    record { puts = puts_then (omega arith) c.put_field-read_at.ensures.puts c.put_last_field.ensures.puts; upper_bound = omega arith }
+returns c = puts_within (puts_then c.put_field.ensures c.put_last_field.ensures) (omega arith)

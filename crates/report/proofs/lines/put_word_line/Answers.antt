@@ -1,26 +1,17 @@
 -- `report::lines::put_word_line` meets its contract: the number is put, and then each arm puts the pieces of its line one after the
 -- other. Assumes nothing.
-use native.Mathlib.Omega.{arith}
+use Rattle.std.proofs.Common.{arith}
 use Rattle.report.specs.Text.{ascii}
 use Rattle.report.specs.Lines.{word_line}
-use Rattle.report.proofs.Puts.{puts_then}
+use Rattle.report.proofs.Puts.{puts_then, puts_within}
 use Rattle.report.proofs.lines.put_word_line.Goals as goal
 
-pub returns-in-At : goal.returns-in-At
+pub returns-in-Ok : goal.returns-in-Ok
 unfolding ascii word_line
-returns-in-At c =
-    rw c.in-At.is
-    record {
-      puts =
-          puts_then (omega arith)
-          (puts_then (omega arith)
-          (puts_then (omega arith) c.put_number-answer_at.ensures.puts c.put_field-residual_at.ensures.puts)
-          c.put_field-rule_at.ensures.puts)
-          c.put_rule_and_bits.ensures.puts;
-      upper_bound = omega arith;
-    }
+returns-in-Ok c =
+    let read = puts_then (puts_then c.put_number.ensures c.put_field.ensures) c.put_field-in-Ok.ensures in
+    rw c.in-Ok.is (puts_within (puts_then read c.put_rule_and_bits.ensures) (omega arith))
 
-pub returns-in-Refused : goal.returns-in-Refused
+pub returns-in-Err : goal.returns-in-Err
 unfolding ascii word_line
-returns-in-Refused c =
-    rw c.in-Refused.is record { puts = puts_then (omega arith) c.put_number-answer_at.ensures.puts c.put_last_field.ensures.puts; upper_bound = omega arith }
+returns-in-Err c = rw c.in-Err.is (puts_within (puts_then c.put_number.ensures c.put_last_field.ensures) (omega arith))

@@ -1,31 +1,41 @@
--- `slot_queue::releases::release` meets its contract: one law for each way out. Assumes nothing.
-use mathlib.Core.Path.{sym, ◌∙◌}
+-- `slot_queue::releases::release` meets its contract: the release is refused ahead of the word, or is by what the word reads as. Assumes nothing.
+use Rattle.std.proofs.Common.{◌≡◌, ℕ, List}
+use Rattle.std.proofs.lemmas.Bool.{cases_eq}
+use mathlib.Core.Logic.{⊎_elim}
+use Rattle.model.specs.Refusals.{first_refusal, Refused, unless_refused}
+use Rattle.model.specs.Card.{Code}
+use Rattle.model.specs.ReadWord.{read_word}
+use Rattle.model.specs.ReleaseTrack.{rows_of_release, released_at, released_by, release_on}
+use Rattle.model.specs.declared.Yard.{Yard}
+use Rattle.code_theory.proofs.RefusalRows.{served_if_none, refused_if_some}
 use Rattle.yard_theory.proofs.OrderlyYards.{sound_few}
 use Rattle.yard_theory.proofs.PassedRows.{release_passed}
-use Rattle.slot_queue.proofs.YardAnswers.{release_refused, release_unread, release_not_clear, release_accepted}
+use Rattle.slot_queue.proofs.Checked.{not_refused}
 use Rattle.slot_queue.proofs.releases.release.Goals as goal
 
-pub returns-then-refusal-ne0 : goal.returns-then-refusal-ne0
-returns-then-refusal-ne0 c = release_refused _ _ _ _ _ _ _ c.refusal_of-refusal.ensures c.if-refusal-ne0.true
+by_reading : (C : Code) (track : ℕ) (yard : Yard) (tram : ℕ) (word : List ℕ) (mark : ℕ)
+    → released_by C track yard (unless_refused (first_refusal (rows_of_release yard tram track)) Refused (read_word C word)) mark
+    ≡ release_on C track yard tram word mark
+unfolding released_by release_on
+by_reading C track yard tram word mark =
+    let number = first_refusal (rows_of_release yard tram track) in
+    ⊎_elim (λ (none : number ≡ 0). rw (served_if_none number Refused (read_word C word) none, served_if_none number _ _ none))
+    (λ (some : number ≡ 0 → ⊥). rw (refused_if_some number Refused (read_word C word) some, refused_if_some number _ _ some))
+    (cases_eq number 0)
 
-pub returns-then-not-is_clear : goal.returns-then-not-is_clear
-returns-then-not-is_clear c =
-    release_not_clear _ _ _ _ _ _ _ c.refusal_of-refusal.ensures c.if-refusal-ne0.false _ c.read-answer.ensures _
-    c.in-At.is
-    (sym c.is_clear.ensures ∙ c.if-not-is_clear.true)
+pub returns-in-Err : goal.returns-in-Err
+unfolding released_by
+returns-in-Err c = rw (← by_reading, ← c.in-Err.ensures)
 
 pub hand_on-requires : goal.hand_on-requires
 hand_on-requires c =
-    let a = c.args in
-    let passed = release_passed a.yard a.tram a.track (sym c.refusal_of-refusal.ensures ∙ c.if-refusal-ne0.false) in
-    (passed.on_yard, sound_few a.yard passed.sound)
+    let passed = release_passed c.args.yard c.args.tram c.args.track (not_refused _ _ _ c.in-Ok.ensures) in
+    (passed.on_yard, sound_few c.args.yard passed.sound)
 
-pub returns-in-Refused : goal.returns-in-Refused
-returns-in-Refused c =
-    release_unread _ _ _ _ _ _ _ c.refusal_of-refusal.ensures c.if-refusal-ne0.false _ c.read-answer.ensures _ c.in-Refused.is
+pub returns-in-Ok : goal.returns-in-Ok
+unfolding released_by released_at
+returns-in-Ok c = rw (← by_reading, ← c.in-Ok.ensures, ← c.if-is_clear.ensures, c.hand_on.ensures)
 
-pub returns-else-not-is_clear : goal.returns-else-not-is_clear
-returns-else-not-is_clear c =
-    release_accepted _ _ _ _ _ _ _ c.refusal_of-refusal.ensures c.if-refusal-ne0.false _ c.read-answer.ensures _
-    c.in-At.is
-    (sym c.is_clear.ensures ∙ c.if-not-is_clear.false) _ c.hand_on.ensures
+pub returns-in-Ok-2 : goal.returns-in-Ok-2
+unfolding released_by released_at
+returns-in-Ok-2 c = rw (← by_reading, ← c.in-Ok.ensures, ← c.if-is_clear.ensures)

@@ -1,5 +1,5 @@
 -- `slot_queue::requests::hold` meets its contract. Assumes nothing.
-use mathlib.Core.Path.{refl}
+use Rattle.std.proofs.Common.{refl}
 use Rattle.model.specs.Yard.{holding}
 use Rattle.slot_queue.proofs.requests.hold.Goals as goal
 

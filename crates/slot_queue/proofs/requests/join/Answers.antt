@@ -1,5 +1,5 @@
 -- `slot_queue::requests::join` meets its contract. Assumes nothing.
-use mathlib.Core.Path.{refl}
+use Rattle.std.proofs.Common.{refl}
 use Rattle.model.specs.Yard.{joined}
 use Rattle.slot_queue.proofs.requests.join.Goals as goal
 

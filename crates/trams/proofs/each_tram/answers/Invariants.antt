@@ -1,15 +1,13 @@
--- `trams::each_tram::answers` meets its contract. The loop's invariant: the answers are those of the first i trams. The measure is the trams
--- that are left. Assumes nothing.
-use mathlib.Core.Path.{◌≡◌}
-use Prim.Native.Nat.{◌≤◌, ◌-◌}
+-- `trams::each_tram::answers` meets its contract. The loop's invariant: the answers are those of the first i trams, by whatever test the
+-- closure computes. Assumes nothing.
+use Rattle.std.proofs.Common.{◌≡◌, Bool}
 use Rattle.model.specs.Trams.{answers_by}
-use Rattle.trams.specs.Searches.{test_of}
+use Rattle.model.specs.declared.Stretch.{Stretch}
+use Rattle.trams.specs.Searches.{Computes}
 use Rattle.trams.proofs.Passes.{wide_at}
 use Rattle.trams.proofs.each_tram.answers.Given as goal
 
 abbrev pub invariant-loop-i : goal.invariant-loop-i
-invariant-loop-i l =
-    (l.i ≤ l.count) × (l.yes ≡ answers_by (test_of l.search) (wide_at l.margin l.last l.stretches) l.i)
-
-abbrev pub decreases-loop-i : goal.decreases-loop-i
-decreases-loop-i l = l.count - l.i
+invariant-loop-i g l =
+    (asked : Stretch → Bool) → Computes (goal.F-post g l.test) asked
+    → l.yes ≡ answers_by asked (wide_at l.margin l.last l.trams) l.i

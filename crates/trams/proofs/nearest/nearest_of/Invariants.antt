@@ -1,16 +1,13 @@
 -- `trams::nearest::nearest_of` meets its contract. The loop's invariant: the place is that of the nearest of the first i trams, and the
--- stretch that is kept is its widened one. The measure is the trams that are left. Assumes nothing.
+-- stretch that is kept is its widened one. Assumes nothing.
 use mathlib.Core.Path.{◌≡◌}
-use Prim.Native.Nat.{◌≤◌, ◌<◌, ◌-◌}
+use Prim.Native.Nat.{◌<◌}
 use Rattle.model.specs.NearestTram.{nearest_of}
-use Rattle.model.specs.declared.NearestAnswer.TheVariants.{Tram}
+use Rattle.std.specs.Prelude.{Some}
 use Rattle.trams.proofs.Passes.{wide_at}
 use Rattle.trams.proofs.nearest.nearest_of.Given as goal
 
 abbrev pub invariant-loop-i : goal.invariant-loop-i
 invariant-loop-i l =
-    (l.i ≤ l.count) × (l.place < l.i) × (l.kept ≡ wide_at l.margin l.last l.stretches l.place)
-    × (nearest_of l.mark (wide_at l.margin l.last l.stretches) l.i ≡ Tram l.place)
-
-abbrev pub decreases-loop-i : goal.decreases-loop-i
-decreases-loop-i l = l.count - l.i
+    (l.place < l.i) × (l.kept ≡ wide_at l.margin l.last l.trams l.place)
+    × (nearest_of l.mark (wide_at l.margin l.last l.trams) l.i ≡ Some l.place)

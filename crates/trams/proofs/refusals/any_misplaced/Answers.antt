@@ -1,24 +1,16 @@
-use mathlib.Core.Path.{sym, ◌∙◌}
-use native.Mathlib.Omega.{arith}
-use borrow.Author.Count.{below_none, below_more}
-use Rattle.trams.proofs.TramRefusals.{marks_misplaced, stretch_misplaced, none_misplaced}
+-- `trams::refusals::any_misplaced` meets its contract: where the marks are not misplaced, the test of the stretches decides. Assumes nothing.
+use Rattle.std.proofs.Common.{Bool, rules, tests, sym, ◌∙◌}
+use Rattle.std.proofs.lemmas.Iterator.{YieldsList-from_slice}
+use Rattle.std.proofs.lemmas.Iterator.Search.{any_from_yields_List}
+use Rattle.model.specs.Trams.{misplaced_pair, any_misplaced}
+use Rattle.model.specs.declared.Stretch.{Stretch}
+use Rattle.trams.proofs.TramRefusals.{any_of_all}
 use Rattle.trams.proofs.refusals.any_misplaced.Goals as goal
 
-pub returns-then-misplaced : goal.returns-then-misplaced
-returns-then-misplaced c = marks_misplaced _ _ _ _ (sym c.misplaced.ensures ∙ c.if-misplaced.true)
-
-pub loop-i-init : goal.loop-i-init
-loop-i-init c = (omega arith, below_none _)
-
-pub returns-then-misplaced-2 : goal.returns-then-misplaced-2
-returns-then-misplaced-2 c =
-    stretch_misplaced _ _ _ _ c.loop-i.i (omega arith) (sym c.misplaced-in-loop-i.ensures ∙ c.if-misplaced-2.true)
-
-pub loop-i-preserved : goal.loop-i-preserved
-loop-i-preserved c =
-    (omega arith, below_more _ _ c.loop-i.invariant.1 (sym c.misplaced-in-loop-i.ensures ∙ c.if-misplaced-2.false))
-
-pub returns : goal.returns
-returns c =
-    none_misplaced _ _ _ _ (sym c.misplaced.ensures ∙ c.if-misplaced.false)
-    (λ i below. c.loop-i.invariant.1 i (omega arith))
+pub returns-else-misplaced : goal.returns-else-misplaced
+unfolding any_misplaced
+returns-else-misplaced c =
+    let test : Stretch → Bool = λ s. misplaced_pair c.args.last s.low s.high in
+    rw (sym c.misplaced.ensures ∙ c.if-misplaced.false)
+    (any_from_yields_List test _ _ c.any.result c.any.ensures.ran (YieldsList-from_slice c.args.trams.now c.iter.ensures.rest) (λ s answer after given. (search rules, search (rules, tests)))
+    ∙ any_of_all test c.args.trams.now _)

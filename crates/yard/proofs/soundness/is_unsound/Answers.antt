@@ -1,23 +1,20 @@
--- `yard::soundness::is_unsound` meets its contract: one law for each way out. Assumes nothing.
-use mathlib.Core.Path.{sym, ap, ◌∙◌}
-use native.Mathlib.Omega.{arith}
-use Rattle.model.specs.Yard.{any_twice}
-use Rattle.yard.proofs.Unsound.{too_many, for_free, by_twice}
-use Rattle.yard.proofs.TramLists.{part_from_0}
+-- `yard::soundness::is_unsound` meets its contract: the three parts of refusal 26 in the code's order. Assumes nothing.
+use Rattle.std.proofs.Common.{sym, ◌∙◌}
+use Rattle.std.proofs.Math.Bool.{or-false}
+use Rattle.std.proofs.lemmas.Bool.{or_left, or_right, lt-ltb, le-ltb}
+use Rattle.model.specs.Yard.{most_waiting, trams_of, unsound}
 use Rattle.yard.proofs.soundness.is_unsound.Goals as goal
 
-pub returns-then-yard-gt32 : goal.returns-then-yard-gt32
-returns-then-yard-gt32 c = sym (too_many c.args.yard c.if-yard-gt32.true)
+pub returns-then-yard-gt-MOST_WAITING : goal.returns-then-yard-gt-MOST_WAITING
+unfolding unsound
+returns-then-yard-gt-MOST_WAITING c = sym (or_right _ _ (lt-ltb most_waiting c.args.yard.count c.if-yard-gt-MOST_WAITING.true))
 
 pub returns-then-any_for_free : goal.returns-then-any_for_free
-returns-then-any_for_free c = sym (for_free c.args.yard (sym c.any_for_free.ensures ∙ c.if-any_for_free.true))
+unfolding unsound
+returns-then-any_for_free c = c.if-any_for_free.true ∙ sym (or_left _ _ (or_right _ _ (sym c.if-any_for_free.ensures)))
 
-pub slice_bounds-any_is_twice-end : goal.slice_bounds-any_is_twice-end
-slice_bounds-any_is_twice-end c = let facts = c.trams_of-list.ensures in omega (arith, facts.1, facts.2)
-
-pub returns : goal.returns
-returns c =
-    let list = c.trams_of-list in
+pub returns-else-any_for_free : goal.returns-else-any_for_free
+unfolding trams_of unsound
+returns-else-any_for_free c =
     c.any_is_twice.ensures
-    ∙ ap any_twice (part_from_0 list.result.trams list.result.count ∙ list.ensures.0)
-    ∙ sym (by_twice c.args.yard (omega arith) (sym c.any_for_free.ensures ∙ c.if-any_for_free.false))
+    ∙ rw (← c.if-any_for_free.ensures, le-ltb most_waiting c.args.yard.count c.if-yard-gt-MOST_WAITING.false) (sym (or-false _ ∙ or-false _))

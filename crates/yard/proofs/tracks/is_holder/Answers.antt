@@ -1,16 +1,18 @@
--- `yard::tracks::is_holder` meets its contract: nobody holds a track above 15 or a free one, and any other is held by the tram of its slot.
--- Assumes nothing.
-use mathlib.Core.Path.{sym, ◌∙◌}
-use native.Mathlib.Omega.{arith}
-use Rattle.yard.proofs.HeldTracks.{no_holder_above, holder_of_held, no_holder_of_free}
+-- `yard::tracks::is_holder` meets its contract: the derived equality of slots is the definition's test, and a track above 15 is free. Assumes
+-- nothing.
+use Rattle.std.proofs.Common.{◌∙◌, arith}
+use Rattle.std.proofs.lemmas.List.{get_or_past}
+use Rattle.std.proofs.lemmas.Bool.{le-ltb}
+use Rattle.model.specs.Yard.{free_slot, slot_at}
+use Rattle.model.specs.ReleaseTrack.{is_holder}
+use Rattle.yard.proofs.TramLists.{eq_held}
 use Rattle.yard.proofs.tracks.is_holder.Goals as goal
 
-pub returns-then-track-gt15 : goal.returns-then-track-gt15
-returns-then-track-gt15 c = sym (no_holder_above c.args.yard c.args.track (omega arith) c.if-track-gt15.true c.args.tram)
+pub returns-then-track-lt-TRACKS : goal.returns-then-track-lt-TRACKS
+unfolding is_holder
+returns-then-track-lt-TRACKS c = c.eq.ensures ∙ eq_held (slot_at c.args.yard c.args.track) c.args.tram
 
-pub returns-then-slot : goal.returns-then-slot
-returns-then-slot c = sym (holder_of_held c.args.yard c.args.tram c.args.track c.if-slot.true)
-
-pub returns-else-slot : goal.returns-else-slot
-returns-else-slot c =
-    c.if-slot.false ∙ sym (no_holder_of_free c.args.yard c.args.tram c.args.track c.if-slot.false)
+pub returns-else-track-lt-TRACKS : goal.returns-else-track-lt-TRACKS
+unfolding is_holder
+returns-else-track-lt-TRACKS c =
+    le-ltb c.args.track 16 c.if-track-lt-TRACKS.false ∙ rw (get_or_past c.args.yard.slots c.args.track free_slot (omega arith))

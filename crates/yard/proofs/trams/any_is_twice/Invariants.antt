@@ -1,13 +1,14 @@
--- `yard::trams::any_is_twice` meets its contract. The loop's invariant: a tram is twice among all exactly if one is among those from place i
--- on. The measure is the trams that are left. Assumes nothing.
-use mathlib.Core.Path.{◌≡◌}
-use Prim.Native.Nat.{◌-◌, ◌≤◌}
-use lib.ListN.{length, drop}
-use Rattle.model.specs.Yard.{any_twice}
+-- `yard::trams::any_is_twice` meets its contract. The loops' invariants: a tram is twice among all exactly if one is twice among those from
+-- this track on, and then from this entry on. Assumes nothing.
+use Rattle.std.proofs.Common.{◌≡◌, ◌++◌, drop, map}
+use Rattle.model.specs.Yard.{holders, any_twice}
+use Rattle.model.specs.declared.Waiting.{Waiting}
 use Rattle.yard.proofs.trams.any_is_twice.Given as goal
 
-abbrev pub invariant-loop-i : goal.invariant-loop-i
-invariant-loop-i l = (l.i ≤ l.count) × (l.count ≡ length l.trams) × (any_twice l.trams ≡ any_twice (drop l.i l.trams))
+abbrev pub invariant-loop-track : goal.invariant-loop-track
+invariant-loop-track l =
+    any_twice (holders (drop l.track l.slots) ++ map (λ w. w.tram) l.entries) ≡ any_twice (holders l.slots ++ map (λ w. w.tram) l.entries)
 
-abbrev pub decreases-loop-i : goal.decreases-loop-i
-decreases-loop-i l = l.count - l.i
+abbrev pub invariant-loop-i : goal.invariant-loop-i
+invariant-loop-i l =
+    any_twice (map (λ (w : Waiting). w.tram) (drop l.i l.entries)) ≡ any_twice (holders l.slots ++ map (λ w. w.tram) l.entries)

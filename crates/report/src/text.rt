@@ -1,0 +1,100 @@
+// A text in a lent buffer, put together piece by piece: bytes as they are, a number in decimal, a label with a number, and a line's end.
+ghost use Rattle.std.specs.Prelude.{◌≡◌, [], ◌++◌, ◌+◌, ◌≤◌, length};
+ghost use Rattle.report.specs.Text.{decimal};
+ghost use Rattle.report.specs.Lines.{line_end};
+ghost use Rattle.report.specs.Filled.{unfilled};
+ghost use Rattle.report.specs.Puts.{Puts};
+
+use itoa::Buffer;
+use std::marker::Model;
+
+// The buffer, of which the first `filled` bytes are the text. A contract sees the text and the rest of the buffer.
+#[derive(Drop)]
+pub struct Text<'a> {
+    buffer: &'a mut [u8],
+    filled: usize,
+}
+
+impl<'a> Model for Text<'a> {
+    ghost use Rattle.std.specs.Prelude.{◌≤◌, length, take, drop};
+    ghost use Rattle.report.specs.Filled.{Filled};
+
+    ghost Value = { Filled };
+
+    ghost view = { λ t. record { text = take t.filled t.buffer.now; rest = drop t.filled t.buffer.now } };
+
+    ghost invariant = { λ t. t.filled ≤ length t.buffer.now };
+}
+
+impl<'a> Text<'a> {
+    // No text yet.
+    pub fn new(buffer: &'a mut [u8]) -> Text<'a>
+        ensures { (result.text ≡ []) × (result.rest ≡ buffer.old) }
+    {
+        Text { buffer, filled: 0 }
+    }
+
+    // The bytes of the text.
+    pub fn as_bytes(&self) -> &[u8]
+        ensures { result.now ≡ self.now.text }
+    {
+        let filled = self.filled;
+        &self.buffer[..filled]
+    }
+
+    // Begins again with no text.
+    pub fn clear(&mut self)
+        ensures { self.new ≡ unfilled self.old }
+    {
+        self.filled = 0;
+    }
+
+    // Bytes as they are.
+    pub fn put_bytes(&mut self, bytes: &[u8])
+        requires { length bytes.now ≤ length self.old.rest }
+        ensures { Puts self.old bytes.now (length bytes.now) self.new }
+    {
+        let start = self.filled;
+        let end = start + bytes.len();
+        let buffer = &mut *self.buffer;
+        buffer[start..end].copy_from_slice(bytes);
+        self.filled = end;
+    }
+
+    // A number in decimal.
+    pub fn put_number(&mut self, value: u64)
+        requires { 20 ≤ length self.old.rest }
+        ensures { Puts self.old (decimal value) 20 self.new }
+    {
+        let mut digits = Buffer::new();
+        self.put_bytes(digits.format(value).as_bytes());
+    }
+
+    // A label and a number.
+    pub fn put_field(&mut self, label: &[u8], value: u64)
+        requires { length label.now + 20 ≤ length self.old.rest }
+        ensures { Puts self.old (label.now ++ decimal value) (length label.now + 20) self.new }
+    {
+        self.put_bytes(label);
+        self.put_number(value);
+    }
+
+    // The end of a line.
+    #[tactic(auto, unfolding(crate::specs::Text::ascii))]
+    pub fn put_line_end(&mut self)
+        requires { 1 ≤ length self.old.rest }
+        ensures { Puts self.old line_end 1 self.new }
+    {
+        self.put_bytes(b"\n");
+    }
+
+    // The last label and number of a line, and the line's end.
+    pub fn put_last_field(&mut self, label: &[u8], value: u64)
+        requires { length label.now + 21 ≤ length self.old.rest }
+        ensures { Puts self.old (label.now ++ decimal value ++ line_end) (length label.now + 21)
+            self.new }
+    {
+        self.put_field(label, value);
+        self.put_line_end();
+    }
+}
