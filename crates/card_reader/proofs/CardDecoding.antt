@@ -17,7 +17,7 @@ use Rattle.model.specs.Decoded.{meaning}
 use Rattle.model.specs.declared.DecodedCard.{DecodedCard}
 use Rattle.code_theory.specs.LeastOfSets.{least_of_sets}
 use Rattle.code_theory.proofs.LeastOfSets.{least_if_independent, independent_of_least, dependent_of_least}
-use Rattle.code_theory.proofs.SoundCard.{limits_of_test, narrow_of_test, card_tests, sound_card}
+use Rattle.code_theory.proofs.SoundCard.{limits_of_test, narrow_of_test, card_tests}
 use Rattle.card_reader.specs.DecodedFrom.{DecodedCardOf}
 use Rattle.card_reader.proofs.SplitRows.{Narrow}
 use Rattle.card_reader.proofs.CardRefusals.{refusal_4_14_5_or_0}
@@ -75,7 +75,7 @@ module _ (b : List ℕ) (limits : within_limits (length_of b) (row_count_of b) �
 -- the code of a sound card
 pub code_of_least : (b : List ℕ) → SoundCard b → (n k distance : ℕ) (rows : List ℕ) → n ≡ length_of b → k ≡ row_count_of b
     → (λ z. get_or rows z 0) ≡ row_of b → (Narrow (length_of b) (row_count_of b) (row_of b) → distance ≡ least b)
-    → meaning (record { n = n; k = k; distance = distance; rows = rows }) ≡ code_of b
+    → record { n = n; k = k; row = λ z. get_or rows z 0; D = distance } ≡ code_of b
 unfolding code_of
 code_of_least b sound n k distance rows is_n is_k is-rows is_least =
     let tests = card_tests b sound in
@@ -86,10 +86,4 @@ code_of_least b sound n k distance rows is_n is_k is-rows is_least =
 pub decoded_from : (b : List ℕ) (decoded : DecodedCard) → SoundCard b → decoded.track ≡ track_of b → decoded.offset ≡ offset_of b
     → meaning decoded.code ≡ code_of b → DecodedCardOf b decoded
 decoded_from b decoded sound track offset code =
-    record {
-      sound_card = sound;
-      track = track;
-      offset = offset;
-      code = code;
-      sound = rw code (sound_card b sound);
-    }
+    record { sound_card = sound; track = track; offset = offset; code = code; sound = decoded.code.sound }

@@ -1,7 +1,8 @@
 -- A card's refusal, what is known of a sound card's code, and the chunk promise: what the theory of words and reading may know of it.
 -- Assumes nothing.
-use Rattle.std.specs.Prelude.{◌≡◌, Bool, true, List, ℕ, ◌+◌, ◌^◌, ◌≤◌, ◌<◌}
-use Rattle.model.specs.Card.{Code, sum_of_rows, least_weight, card_refusal}
+use Rattle.std.specs.Prelude.{◌≡◌, Bool, true, List, ℕ, ◌+◌, ◌≤◌, ◌<◌}
+use Rattle.model.specs.Card.{Code, card_refusal}
+pub use Rattle.model.specs.SoundCode.{Sound}
 use Rattle.model.specs.Order.{last_codeword, changed_weight, block_length, start}
 use Rattle.model.specs.Reading.{chunk_distance, within_radius, chunk_reading}
 use Rattle.model.specs.Levels.{chunk_wrong, within_erasures, erasure_reading}
@@ -13,19 +14,6 @@ use Rattle.model.specs.declared.Refusal.{Refusal}
 pub record RefusalOf (b : List ℕ) (refusal : Refusal) : Type 0 where
   pub number : card_refusal b ≡ refusal.number
   pub not_zero : refusal.number ≡ 0 → ⊥
-
--- a code that a sound card gives, all that the card's refusals leave: within the limits, no row wider than n, unused rows zero, rows
--- independent, and D the least weight
-pub record Sound (C : Code) : Type 0 where
-  pub n_low : 1 ≤ C.n
-  pub n_high : C.n ≤ 64
-  pub k_low : 1 ≤ C.k
-  pub k_high : C.k ≤ 12
-  pub k_n : C.k ≤ C.n
-  pub narrow : (z : ℕ) → z < 12 → C.row z < 2 ^ C.n
-  pub unused : (z : ℕ) → C.k ≤ z → z < 12 → C.row z ≡ 0
-  pub independent : (g : ℕ) → 0 < g → g < 2 ^ C.k → sum_of_rows C.row C.k g ≡ 0 → ⊥
-  pub least : C.D ≡ least_weight C.n (sum_of_rows C.row C.k) (2 ^ C.k)
 
 -- What a reader of chunks promises, whatever its search, given codewords 0 to `last`, a test of which of them are near to a chunk, and a
 -- count of the places in which the two differ. Two readers that promise it answer alike (`readers_agree`).

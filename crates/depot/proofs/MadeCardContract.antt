@@ -1,9 +1,10 @@
 -- What the call that makes a card answers, one law for each way out of the code: the answer is the one that the definition gives, and within
 -- the limits the card that is made is the one of document 02, P1. For the callers: what a refusal says of the limits. Assumes nothing.
 use mathlib.Core.Path.{◌≡◌, refl}
-use mathlib.Core.Bool.{Bool, true, false, cond, not}
+use mathlib.Core.Bool.{true, false}
 use mathlib.Core.List.{List}
 use Rattle.std.specs.Prelude.{Ok, IsOkAnd}
+use Rattle.std.proofs.lemmas.Grind.{common_steps}
 use Prim.Native.Nat.{ℕ, ◌<◌}
 use native.Mathlib.Omega.{arith}
 use Rattle.model.specs.Refusals.{Refused, status_of, first_refusal, unless_refused}
@@ -13,27 +14,10 @@ use Rattle.reed_muller_theory.specs.MadeCards.{IsReedMullerCard}
 use Rattle.reed_muller_theory.proofs.MadeCards.{is_reed_muller_card}
 use Rattle.code_theory.proofs.RefusalRows.{status_and_values}
 
--- ---- what a refusal says of the limits
-
-abbrev refusal_for : (within : Bool) → ℕ
-refusal_for within = cond (not within) 13 0
-
-module _ (r m : ℕ) where
-  pub limits_refused : (make_refusal r m ≡ 0 → ⊥) → order_within_limits r m ≡ false
-  unfolding make_refusal first_refusal
-  limits_refused some = by (order_within_limits r m) some
-    where
-      by : (t : Bool) → (refusal_for t ≡ 0 → ⊥) → t ≡ false
-      by true refused = absurd (refused refl)
-      by false _ = refl
-
-  pub limits_passed : make_refusal r m ≡ 0 → order_within_limits r m ≡ true
-  unfolding make_refusal first_refusal
-  limits_passed none = by (order_within_limits r m) none
-    where
-      by : (t : Bool) → refusal_for t ≡ 0 → t ≡ true
-      by true _ = refl
-      by false zero = absurd (omega arith)
+-- no refusal: the code is within the limits
+pub limits_passed : (r m : ℕ) → make_refusal r m ≡ 0 → order_within_limits r m ≡ true
+unfolding make_refusal first_refusal
+limits_passed r m none = grind (arith, common_steps)
 
 -- ---- the answer
 

@@ -10,8 +10,8 @@ use Rattle.model.specs.Refusals.{status_of, if_served}
 use Rattle.model.specs.Card.{Code, code_of}
 use Rattle.model.specs.Decoded.{meaning}
 use Rattle.model.specs.Trams.{Trams, TramsAnswer, trams_refusal, each_tram_on, each_tram_answer}
-use Rattle.model.specs.NearestTram.{NearestAnswer, nearest_among, nearest_on, nearest_refusal, nearest_answer, place_value, nearest_values}
-use Rattle.model.specs.NearestTram.{nearest_expected}
+use Rattle.model.specs.NearestTram.{NearestAnswer, nearest_among, nearest_on, nearest_refusal, nearest_answer, place_value}
+use Rattle.model.specs.NearestTram.{nearest_values, nearest_expected}
 use Rattle.model.specs.declared.DecodedCard.{DecodedCard}
 use Rattle.model.specs.declared.Refusal.{Refusal}
 use Rattle.model.specs.declared.Stretch.{Stretch}

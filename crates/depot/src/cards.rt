@@ -1,11 +1,9 @@
 // The call that checks a card, and its answer for a caller that has decoded the card already.
-ghost use Rattle.std.specs.Prelude.{◌≡◌, List, ℕ, IfOk};
+ghost use Rattle.std.specs.Prelude.{◌≡◌, List, ℕ};
 ghost use Rattle.model.specs.Refusals.{status_of, if_served};
 ghost use Rattle.model.specs.Card.{card_refusal};
 ghost use Rattle.model.specs.CheckCard.{card_answer, card_expected, card_values};
-ghost use Rattle.model.specs.Decoded.{meaning};
 ghost use Rattle.code_theory.specs.Offsets.{CheckPromises};
-ghost use Rattle.code_theory.specs.Promise.{Sound};
 ghost use Rattle.card_reader.specs.DecodedFrom.{DecodedFrom};
 
 use card_reader::decode;
@@ -16,7 +14,6 @@ use position::{blocks, layout};
 // The answer to a check of every card that decodes to `decoded`. The card is not looked at again: a caller that goes on to use the
 // code decodes it once.
 pub fn card_answer(decoded: Result<DecodedCard, Refusal>) -> Result<CardSummary, Refusal>
-    requires { IfOk decoded (λ sound_card. Sound (meaning sound_card.code)) }
     ensures { (card : List ℕ) → DecodedFrom card decoded → result ≡ card_answer card }
 {
     let decoded = decoded?;

@@ -4,9 +4,9 @@ use mathlib.Core.Path.{◌≡◌, sym, ◌∙◌}
 use mathlib.Core.List.{List}
 use Prim.Native.Nat.{ℕ, ◌+◌, ◌<◌, min}
 use native.Mathlib.Omega.{arith}
-use borrow.Author.Tests.{lt-ltb}
 use lib.ListN.{get_or, set, replicate, length, take, length-take}
 use lib.Seq.{ext_get_or}
+use borrow.Author.Tests.{lt-ltb}
 use Rattle.std.proofs.lemmas.List.{get_or-take}
 use Rattle.bits.proofs.Places.{length_list_of, get_or_list_of}
 use Rattle.bits.proofs.FilledLists.{filled, filled_none, filled_more}

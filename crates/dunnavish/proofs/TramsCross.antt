@@ -18,7 +18,8 @@ use Rattle.bits.proofs.Places.{length_list_of, get_or_list_of}
 use Rattle.bits.proofs.FilledLists.{is_list_of}
 use Rattle.model.specs.Refusals.{Refused, status_of, values_by, if_served, unless_refused}
 use Rattle.model.specs.Card.{code_of}
-use Rattle.model.specs.Trams.{Trams, TramsAnswer, most_trams, widened_at, trams_refusal, answers_by, each_tram_unless, each_tram_answer, yes_values}
+use Rattle.model.specs.Trams.{Trams, TramsAnswer, most_trams, widened_at, trams_refusal, answers_by, each_tram_unless, each_tram_answer}
+use Rattle.model.specs.Trams.{yes_values}
 use Rattle.model.specs.NearestTram.{NearestAnswer, no_tram, place_value, nearest_among, nearest_refusal, nearest_answer, nearest_values}
 use Rattle.model.specs.NearestTram.{nearest_expected}
 use Rattle.model.specs.declared.Refusal.{Refusal}
@@ -27,7 +28,8 @@ use Rattle.code_theory.proofs.RefusalRows.{served_if_none, refused_if_some, stat
 use Rattle.tram_theory.specs.TramPromises.{NearestPromises}
 use Rattle.tram_theory.proofs.ServedTrams.{too_many, too_many_refused}
 use Rattle.tram_theory.proofs.TramPromises.{served, nearest_promises}
-use Rattle.dunnavish.specs.Crossing.{number_count, wrong_count, trams_lent, most_handed, status_for, left_by, EachCrosses, UnchangedUnlessZero}
+use Rattle.dunnavish.specs.Crossing.{number_count, wrong_count, trams_lent, most_handed, status_for, left_by, EachCrosses}
+use Rattle.dunnavish.specs.Crossing.{UnchangedUnlessZero}
 use Rattle.dunnavish.specs.Decoding.{each_tram_left, place_left, nearest_left}
 use Rattle.dunnavish.proofs.Inherited.{Contract, wrong_count_lem, refused, stored}
 use Rattle.dunnavish.proofs.Lent.{wrong_count_crosses, status_lent, unchanged_by}
@@ -168,8 +170,8 @@ module _ (test : Stretch → Bool) (card lows highs lent : List ℕ) (first seco
           promises : length highs ≡ length lows → length lent ≡ length lows → Promise (each_tram_left s after);
         }
 
-    pub each_contract : {status : ℕ} {left : List ℕ} → EachCrosses lows highs lent defined status left → EachContract status left
-    each_contract {status} {left} (is-status, is-left) =
+    pub answered_search : {status : ℕ} {left : List ℕ} → EachCrosses lows highs lent defined status left → EachContract status left
+    answered_search {status} {left} (is-status, is-left) =
         record {
           status = is-status;
           left = is-left;
@@ -210,7 +212,7 @@ module _ (card lows highs lent : List ℕ) (mark : ℕ) where
 
   -- as many highs as lows are lent: as every call that answers one number
   module _ (alike : length highs ≡ length lows) where
-    nearest_crosses : {status : ℕ} {left : List ℕ}
+    pub nearest_crosses : {status : ℕ} {left : List ℕ}
         → Contract status_of nearest_values Refused nearest_left PromisedOfNearest number_count lent nearest status left
         → NearestContract status left
     nearest_crosses (is-status, (is-left, (unchanged, promised))) =

@@ -13,13 +13,14 @@ ghost use Rattle.dunnavish.specs.Decoding.{each_tram_left, nearest_left};
 use super::WRONG_COUNT;
 use model::{Refusal, Stretch};
 
-// The place that stands for no tram. Any other is at most 63.
+// The place that stands for no tram: the C interface has no Option. Any other is at most 63.
 const NO_TRAM: u32 = 4294967295;
 
 // How many trams are handed on at most: one more than a track has, of which the library tells that there are too many.
 const MOST_HANDED: usize = 65;
 
-// What is answered of the trams whose low ends and high ends are lent.
+// What is answered of the trams whose low ends and high ends are lent: two lists, as the C interface lends them, and there is no heap to
+// put the stretches on, so they stand at the front of a buffer.
 fn ask_of_lent<A, F: FnOnce(&[Stretch]) -> A>(lows: &[u32], highs: &[u32], ask: F) -> A
     requires alike { length highs.now ≡ length lows.now }
     requires callable { F.IsAlwaysCallable ask }

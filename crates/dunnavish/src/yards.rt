@@ -40,7 +40,7 @@ fn yard_lent(numbers: &[u16]) -> Yard
                 Slot::Free(number)
             }
         }),
-        count: numbers[COUNT] as usize,
+        count: usize::from(numbers[COUNT]),
         waiting: array::from_fn(|i| Waiting {
             tram: numbers[TRAMS + i],
             track: numbers[WAITED_FOR + i],

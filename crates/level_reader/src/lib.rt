@@ -5,7 +5,6 @@
 ghost use Rattle.std.specs.Prelude.{◌≡◌};
 ghost use Rattle.model.specs.ReadLevels.{read_levels};
 ghost use Rattle.model.specs.Decoded.{meaning};
-ghost use Rattle.code_theory.specs.Promise.{Sound};
 
 use levels::limits;
 use model::{DecodedCode, LevelsReading, Refusal};
@@ -16,7 +15,6 @@ mod level_word;
 
 // The reading of a list of levels, of any length, with the strength of a word that is read.
 pub fn read_level_word(code: DecodedCode, levels: &[f32]) -> Result<LevelsReading, Refusal>
-    requires { Sound (meaning code) }
     ensures { result ≡ read_levels (meaning code) levels.now }
 {
     let at = layout::layout_of(code);

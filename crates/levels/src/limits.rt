@@ -14,6 +14,7 @@ fn level_is_outside(level: f32) -> bool
 
 // Is any of the levels outside? The answers for all of them are joined: the loop has no way out before its end, so that the compiler can
 // test several levels at once.
+#[tactic(auto, unfolding(model::specs::Levels::any_outside, bits::specs::Searches::any_below))]
 pub fn any_outside(levels: &[f32]) -> bool
     ensures { result ≡ any_outside (length levels.now) levels.now }
 {

@@ -3,7 +3,6 @@ ghost use Rattle.std.specs.Prelude.{◌≡◌, ℕ, ◌^◌, ◌<◌};
 ghost use Rattle.bits.specs.Places.{bit, weight};
 ghost use Rattle.model.specs.Decoded.{meaning};
 ghost use Rattle.model.specs.Order.{gray, codeword};
-ghost use Rattle.code_theory.specs.Promise.{Sound};
 
 use model::DecodedCode;
 
@@ -19,12 +18,11 @@ fn gray_bit(x: u32, z: u32) -> u64
     requires { z < 32 }
     ensures { (result ≡ bit x z) × (result < 2) }
 {
-    ((x >> z) % 2) as u64
+    u64::from((x >> z) % 2)
 }
 
 // Codeword i: the sum of the rows whose bits are set in Gray(i), each added as often as its bit says, with no branch.
 pub fn codeword(code: DecodedCode, i: u32) -> u64
-    requires { Sound (meaning code) }
     ensures { (result ≡ codeword (meaning code) i) × (result < 2 ^ code.n) }
 {
     let gray = gray_number(i);

@@ -8,7 +8,6 @@ ghost use Rattle.model.specs.Decoded.{meaning};
 ghost use Rattle.model.specs.Refusals.{if_served};
 ghost use Rattle.model.specs.Reading.{chunk_reading, chunk_refusal, chunk_expected, chunk_status, chunk_values};
 ghost use Rattle.model.specs.Levels.{erasure_reading};
-ghost use Rattle.code_theory.specs.Promise.{Sound};
 ghost use Rattle.linear_code.specs.FirstWithin.{first_within};
 
 use bit_arithmetic::powers;
@@ -16,7 +15,6 @@ use model::{DecodedCode, ReadChunk};
 
 // t: a chunk that differs from a codeword in at most so many places differs from every other in more.
 pub fn radius_of(code: DecodedCode) -> u32
-    requires { Sound (meaning code) }
     ensures { result ≡ radius (meaning code) }
 {
     (code.distance - 1) / 2
@@ -76,7 +74,7 @@ fn search(k: u32, rows: [u64; 12], x: u64, limit: u32) -> Option<ReadChunk>
 // the two differ. The status is then 0, and the values are the codeword's number and the count. Where there is no such codeword, the
 // status is 10.
 pub fn read_chunk(code: DecodedCode, x: u64, unerased: u64) -> Option<ReadChunk>
-    requires { Sound (meaning code) × (x < 2 ^ code.n) × (unerased < 2 ^ code.n) }
+    requires { (x < 2 ^ code.n) × (unerased < 2 ^ code.n) }
     ensures unerased { result ≡ erasure_reading (meaning code) (marked (bit unerased)) (bit x) }
     ensures answer { unerased ≡ 2 ^ code.n - 1 → result ≡ chunk_reading (meaning code) (bit x) }
     ensures status { unerased ≡ 2 ^ code.n - 1 → chunk_status result ≡ chunk_refusal (meaning code) (bit x) }

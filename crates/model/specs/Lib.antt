@@ -1,5 +1,6 @@
 pub mod Refusals
 pub mod Card
+pub mod SoundCode
 pub mod Decoded
 pub mod CardBytes
 pub mod CardsToTry

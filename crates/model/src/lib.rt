@@ -3,6 +3,9 @@
 // back the yard beside that, as it was where the call is refused.
 #![tactic(auto)]
 
+ghost use Rattle.std.specs.Prelude.{get_or};
+ghost use Rattle.model.specs.SoundCode.{Sound};
+
 // Why a call is refused: a row of the tables in documents 01 and 02, by its number there, which a call for C returns as its status. It is
 // no enum: of every number, also one that no row has, the theorem `LosslessDecoding` of crate dunnavish says that it is kept as a status.
 #[derive(Clone, Copy, Debug, PartialEq, Eq)]
@@ -89,13 +92,15 @@ pub struct ReadChunk {
     pub differing: u32,
 }
 
-// A card's code as numbers, by value: n, k, D and the twelve rows. specs/Decoded.antt says which code it means.
+// A card's code as numbers, by value: n, k, D and the twelve rows. specs/Decoded.antt says which code it means; it is a code that a sound
+// card gives (specs/SoundCode.antt).
 #[derive(Clone, Copy)]
 pub struct DecodedCode {
     pub n: u32,
     pub k: u32,
     pub distance: u32,
     pub rows: [u64; 12],
+    pub ghost sound: { Sound (record { n = n; k = k; row = λ z. get_or rows z 0; D = distance }) },
 }
 
 // A sound card decoded: its track number, its offset in millimetres and its code.

@@ -1,34 +1,17 @@
 -- What each rule allows on a track with two ends, as the search through a block meets it: rule 1 from separator 2 to the block's end, rule 2
--- from its start to the end of separator 2, and rule 3 over separator 3 of one block and separator 1 of the next. And for which codewords
--- there is a block. Assumes nothing.
-use mathlib.Core.Path.{◌≡◌, refl}
-use mathlib.Core.Bool.{Bool, true, false, ◌||◌}
+-- from its start to the end of separator 2, and rule 3 over separator 3 of one block and separator 1 of the next.
+-- Assumes nothing.
+use mathlib.Core.Path.{◌≡◌}
 use Prim.Native.Nat.{ℕ, ◌+◌, ◌-◌, ◌*◌, ◌<◌, min}
 use native.Mathlib.Omega.{arith}
-use lib.Dec.{eqb}
 use Rattle.bits.specs.Sums.{sum_below, distance}
 use Rattle.model.specs.Card.{Code}
 use Rattle.model.specs.Order.{last_codeword, changed_weight, start, last_position}
 use Rattle.model.specs.Words.{word_bits}
-use Rattle.model.specs.Reading.{two_ends}
 use Rattle.code_theory.specs.Promise.{Sound}
 use Rattle.code_theory.proofs.Promise.{promise}
 use Rattle.position_theory.proofs.Blocks.{apart, apart_separator₁, apart_chunk₁, apart_separator₂, apart_chunk₂, start_on_track}
 use Rattle.nearest_position.specs.Residuals.{position_at}
-
--- whether there is none, by the rule's number
-module _ (C : Code) (p : ℕ) where
-  or_none : (a : Bool) → (a || false) ≡ a
-  or_none true = refl
-  or_none false = refl
-
-  pub no_block₁ : (two_ends C).no_block 1 p ≡ eqb p 0
-  unfolding two_ends
-  no_block₁ = or_none (eqb p 0)
-
-  pub no_block₂ : (two_ends C).no_block 2 p ≡ eqb p (last_codeword C)
-  unfolding two_ends
-  no_block₂ = refl
 
 -- block i, which leads to the codeword after it
 module _ (C : Code) (sound : Sound C) (i next : ℕ) (after : next ≡ i + 1) (inside : i < last_codeword C) where

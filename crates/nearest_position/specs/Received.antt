@@ -4,7 +4,6 @@ use Rattle.bits.specs.Sums.{distance_unerased, marked}
 use Rattle.bits.specs.Places.{place}
 use Rattle.model.specs.Card.{Code}
 use Rattle.model.specs.Words.{word_bits}
-use Rattle.code_theory.specs.Promise.{Sound}
 use Rattle.position.specs.LayoutOf.{LayoutOf}
 use Rattle.position.specs.declared.layout.Layout.{Layout}
 use Rattle.nearest_position.specs.declared.received.ReceivedWord.{ReceivedWord}
@@ -22,6 +21,6 @@ pub record PlainWord (received : List ℕ) (x : ReceivedWord) : Type 0 where
 unfoldable pub NothingSpare : Code → ReceivedWord → Type 0
 NothingSpare C x = (p : ℕ) → word_bits C ≤ p → marked (place x.unerased) p ≡ true → place x.bits p ≡ 0
 
--- a word of a sound code, whose words have this layout
+-- a word of the code, whose words have this layout
 abbrev pub ReceivedIn : Code → Layout → ReceivedWord → Type 0
-ReceivedIn C l x = Sound C × LayoutOf C l × NothingSpare C x
+ReceivedIn C l x = LayoutOf C l × NothingSpare C x

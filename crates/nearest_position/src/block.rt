@@ -4,7 +4,6 @@ ghost use Rattle.std.specs.Prelude.{◌≡◌, ℕ, ◌≤◌};
 ghost use Rattle.model.specs.Decoded.{meaning};
 ghost use Rattle.model.specs.Order.{last_codeword, start};
 ghost use Rattle.model.specs.Words.{word_bits, word};
-ghost use Rattle.code_theory.specs.Promise.{Sound};
 ghost use Rattle.nearest_position.specs.Received.{received_distance, NothingSpare};
 ghost use Rattle.nearest_position.specs.Scanned.{Scanned};
 ghost use Rattle.nearest_position.specs.Residuals.{position_at, ResidualsOf};
@@ -25,7 +24,7 @@ pub fn search_block(
     from: u32,
     to: u32,
 ) -> Scan
-    requires sound { Sound (meaning code) × NothingSpare (meaning code) x }
+    requires received { NothingSpare (meaning code) x }
     requires part { (i ≤ last_codeword (meaning code)) × (low ≡ position_at (meaning code) i next from)
         × (from ≤ to) × (to ≤ word_bits (meaning code)) }
     ensures ends { (result.low ≡ low) × (result.position ≡ position_at (meaning code) i next to) }
@@ -38,7 +37,7 @@ pub fn search_block(
 
 // The search on from the block's start, at which it stands, through the places of separator 1.
 pub fn search_after_start(code: DecodedCode, x: ReceivedWord, i: u32, next: u32, s: Scan) -> Scan
-    requires sound { Sound (meaning code) × NothingSpare (meaning code) x × (i ≤ last_codeword (meaning code)) }
+    requires received { NothingSpare (meaning code) x × (i ≤ last_codeword (meaning code)) }
     requires at_start { (s.position ≡ start (meaning code) i)
         × (s.residual ≡ received_distance (word_bits (meaning code)) (word (meaning code) i) x) }
     ensures ends { (result.low ≡ s.low) × (result.position ≡ position_at (meaning code) i next code.distance) }

@@ -4,7 +4,6 @@ ghost use Rattle.std.specs.Prelude.{false, ◌≡◌, ◌-◌, ◌≤◌, ◌<�
 ghost use Rattle.model.specs.Decoded.{meaning};
 ghost use Rattle.model.specs.Order.{last_codeword, start};
 ghost use Rattle.model.specs.Reading.{range₁, range₂, range₃, two_ends};
-ghost use Rattle.code_theory.specs.Promise.{Sound};
 ghost use Rattle.nearest_position.specs.Received.{ReceivedIn};
 ghost use Rattle.nearest_position.specs.Scanned.{Scanned, SearchedRange};
 ghost use Rattle.nearest_position.specs.Residuals.{residual_in};
@@ -19,8 +18,8 @@ use position::layout::Layout;
 use position::{blocks, words};
 
 // Whether the rule has no block to go by: there is none before the first codeword, and none after the last.
+#[tactic(auto, unfolding(model::specs::Reading::two_ends))]
 pub fn no_block(code: DecodedCode, rule: Rule, p: u32) -> bool
-    requires { Sound (meaning code) }
     ensures { result ≡ (two_ends (meaning code)).no_block (rule_number rule) p }
 {
     match rule {
@@ -76,6 +75,7 @@ fn nearest_around(code: DecodedCode, at: Layout, x: ReceivedWord, p: u32) -> Sca
 }
 
 // The search through the positions that the rule allows where its chunks read p, and there is a block for it.
+#[tactic(auto, unfolding(model::specs::Reading::two_ends))]
 pub fn nearest_by(code: DecodedCode, at: Layout, x: ReceivedWord, rule: Rule, p: u32) -> Scan
     requires received { ReceivedIn (meaning code) at x × (p ≤ last_codeword (meaning code)) }
     requires has_block { (two_ends (meaning code)).no_block (rule_number rule) p ≡ false }

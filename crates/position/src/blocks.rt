@@ -3,7 +3,6 @@ ghost use Rattle.std.specs.Prelude.{◌≡◌, ℕ, ◌+◌, ◌≤◌, ◌<◌}
 ghost use Rattle.model.specs.Decoded.{meaning};
 ghost use Rattle.model.specs.Order.{last_codeword, changed_weight, start, last_position, corrected_count, share_of, sum_after_row, sum_before_row};
 ghost use Rattle.model.specs.Words.{block_of};
-ghost use Rattle.code_theory.specs.Promise.{Sound};
 ghost use Rattle.position.specs.RowWeights.{RowWeights};
 
 use bit_arithmetic::powers;
@@ -12,7 +11,6 @@ use model::DecodedCode;
 
 // The number of the last codeword, 2^k - 1.
 pub fn last_codeword(code: DecodedCode) -> u32
-    requires { Sound (meaning code) }
     ensures { result ≡ last_codeword (meaning code) }
 {
     powers::two_to(code.k) - 1
@@ -20,7 +18,6 @@ pub fn last_codeword(code: DecodedCode) -> u32
 
 // The weights of the rows.
 fn row_weights(code: DecodedCode) -> [u32; 12]
-    requires { Sound (meaning code) }
     ensures { RowWeights (meaning code) result }
 {
     code.rows.map(codeword::row_weight)
@@ -53,7 +50,7 @@ fn sum_after_row(weight: u32, i: u32, z: u32, sum: u32) -> u32
 // sums it: each row's share is added as it comes, and after row z the sum is 3D × i and the shares of rows 0 to z. Its lines stand in
 // quotes beside the code, with what document 01 corrects in them (r is its sum for block i, ||a_z|| the weight of row z).
 fn sum_of_rows(code: DecodedCode, weights: [u32; 12], i: u32, rows: u32) -> u32
-    requires { Sound (meaning code) × (i ≤ last_codeword (meaning code)) × RowWeights (meaning code) weights × (rows ≤ code.k) }
+    requires { (i ≤ last_codeword (meaning code)) × RowWeights (meaning code) weights × (rows ≤ code.k) }
     ensures before_row { result ≡ sum_before_row (meaning code) i rows }
     ensures after_row { (z : ℕ) → rows ≡ z + 1 → result ≡ sum_after_row (meaning code) i z }
 {
@@ -71,7 +68,7 @@ fn sum_of_rows(code: DecodedCode, weights: [u32; 12], i: u32, rows: u32) -> u32
 
 // The start of block i, from the weights of the rows: the sum after all k rows.
 fn start_by(code: DecodedCode, weights: [u32; 12], i: u32) -> u32
-    requires { Sound (meaning code) × (i ≤ last_codeword (meaning code)) × RowWeights (meaning code) weights }
+    requires { (i ≤ last_codeword (meaning code)) × RowWeights (meaning code) weights }
     ensures { result ≡ start (meaning code) i }
 {
     sum_of_rows(code, weights, i, code.k)
@@ -79,7 +76,7 @@ fn start_by(code: DecodedCode, weights: [u32; 12], i: u32) -> u32
 
 // The start of block i.
 pub fn start_of_block(code: DecodedCode, i: u32) -> u32
-    requires { Sound (meaning code) × (i ≤ last_codeword (meaning code)) }
+    requires { i ≤ last_codeword (meaning code) }
     ensures { result ≡ start (meaning code) i }
 {
     start_by(code, row_weights(code), i)
@@ -87,7 +84,7 @@ pub fn start_of_block(code: DecodedCode, i: u32) -> u32
 
 // A(i), the weight of the row in which c(i) and c(i+1) differ.
 pub fn changed_weight(code: DecodedCode, i: u32) -> u32
-    requires { Sound (meaning code) × (i < last_codeword (meaning code)) }
+    requires { i < last_codeword (meaning code) }
     ensures { (result ≡ changed_weight (meaning code) i) × (result ≤ 64) }
 {
     let rows = code.rows;
@@ -97,7 +94,6 @@ pub fn changed_weight(code: DecodedCode, i: u32) -> u32
 
 // The last position of the track.
 pub fn last_position(code: DecodedCode) -> u32
-    requires { Sound (meaning code) }
     ensures { result ≡ last_position (meaning code) }
 {
     start_of_block(code, last_codeword(code))
@@ -106,7 +102,6 @@ pub fn last_position(code: DecodedCode) -> u32
 // The block of a position, by binary search: the last one that starts at or before it.
 // A loop of its own: the library's `partition_point` searches a slice, and a table of up to 4,096 starts does not fit a call's stack.
 pub fn block_of(code: DecodedCode, position: u32) -> u32
-    requires { Sound (meaning code) }
     ensures { result ≡ block_of (meaning code) position }
 {
     let weights = row_weights(code);

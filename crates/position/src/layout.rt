@@ -20,7 +20,6 @@ pub struct Layout {
 
 // The layout of a code's words.
 pub fn layout_of(code: DecodedCode) -> Layout
-    requires { Sound (meaning code) }
     ensures { LayoutOf (meaning code) result }
 {
     let n = code.n;
@@ -47,7 +46,6 @@ pub fn bytes_in(at: Layout) -> usize
 
 // The bytes of a code's words.
 pub fn word_length(code: DecodedCode) -> usize
-    requires { Sound (meaning code) }
     ensures { (result ≡ word_length (meaning code)) × (1 ≤ result) × (result ≤ 40) }
 {
     bytes_in(layout_of(code))

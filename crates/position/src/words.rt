@@ -8,7 +8,6 @@ ghost use Rattle.bits.specs.Places.{bit, place, cut};
 ghost use Rattle.model.specs.Decoded.{meaning};
 ghost use Rattle.model.specs.Order.{last_position};
 ghost use Rattle.model.specs.Words.{word_bits, word, word_at, word_bytes, word_length};
-ghost use Rattle.code_theory.specs.Promise.{Sound};
 ghost use Rattle.position.specs.FiveChunks.{FiveChunks};
 ghost use Rattle.position.specs.HoldsWord.{HoldsWord};
 
@@ -75,7 +74,6 @@ pub fn put_down(
 
 // w(i), from the parity of i and c(i).
 pub fn word_of(code: DecodedCode, i: u32) -> [u8; 40]
-    requires { Sound (meaning code) }
     ensures { HoldsWord (meaning code) (word (meaning code) i) result }
 {
     let parity = separator(i, code.distance);
@@ -86,8 +84,7 @@ pub fn word_of(code: DecodedCode, i: u32) -> [u8; 40]
 // w(i) with the first m places in which w(i) and w(next) differ taken from w(next): the word m steps into the block that leads from one
 // to the other.
 pub fn word_in_block(code: DecodedCode, i: u32, next: u32, m: u32) -> [u8; 40]
-    requires sound { Sound (meaning code) }
-    requires steps { m ≤ distance (word_bits (meaning code)) (word (meaning code) i) (word (meaning code) next) }
+    requires { m ≤ distance (word_bits (meaning code)) (word (meaning code) i) (word (meaning code) next) }
     ensures { HoldsWord (meaning code) (walk (word (meaning code) i) (word (meaning code) next) m) result }
 {
     let u = word_of(code, i);
@@ -97,7 +94,7 @@ pub fn word_in_block(code: DecodedCode, i: u32, next: u32, m: u32) -> [u8; 40]
 
 // The word of a position.
 pub fn word_at(code: DecodedCode, position: u32) -> [u8; 40]
-    requires { Sound (meaning code) × (position ≤ last_position (meaning code)) }
+    requires { position ≤ last_position (meaning code) }
     ensures { HoldsWord (meaning code) (word_at (meaning code) position) result }
 {
     let i = blocks::block_of(code, position);
@@ -106,7 +103,7 @@ pub fn word_at(code: DecodedCode, position: u32) -> [u8; 40]
 
 // Writes the word of a position to the lent bytes.
 pub fn write(code: DecodedCode, position: u32, lent: &mut [u8])
-    requires sound { Sound (meaning code) × (position ≤ last_position (meaning code)) }
+    requires on_track { position ≤ last_position (meaning code) }
     requires lent_len { length lent.old ≡ word_length (meaning code) }
     ensures { lent.new ≡ word_bytes (meaning code) position }
 {

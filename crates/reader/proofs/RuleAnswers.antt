@@ -87,3 +87,6 @@ module _ (R : Rules) (s : Seen) (residual : ℕ → ℕ) (rule : ℕ) (read : Ch
         answer_of_search (R.range rule read.number) scan searched
         ∙ ap (λ (p : ℕ). Ok (nearest_reading residual s rule (R.range rule p))) as_read.number_is
         ∙ agreed agrees
+
+-- the ways out of a rule whose chunks are read
+pub ruleset ways_out = (no_block_lem, contradicted, answered)

@@ -7,7 +7,6 @@ ghost use Rattle.bits.specs.Places.{place};
 ghost use Rattle.model.specs.Decoded.{meaning};
 ghost use Rattle.model.specs.Words.{word_bits};
 ghost use Rattle.model.specs.Levels.{erasure_reading};
-ghost use Rattle.code_theory.specs.Promise.{Sound};
 ghost use Rattle.position.specs.LayoutOf.{LayoutOf};
 ghost use Rattle.nearest_position.specs.RuleNumbers.{rule_number};
 ghost use Rattle.reader.specs.RuleAnswers.{unreadable_chunk, ReadsNamed};
@@ -29,7 +28,7 @@ pub struct ChunksRead {
 
 // What the code chunk that starts at this place reads as; one that reads as no codeword is refused.
 fn chunk_reading(code: DecodedCode, x: ReceivedWord, at: u32) -> Result<ReadChunk, Refusal>
-    requires { Sound (meaning code) × (at + code.n ≤ word_bits (meaning code)) }
+    requires { at + code.n ≤ word_bits (meaning code) }
     ensures { result ≡ ok_or (erasure_reading (meaning code) (from_place at (marked (place x.unerased))) (from_place at (place x.bits)))
         unreadable_chunk }
 {
@@ -46,7 +45,7 @@ pub fn chunks_named(
     x: ReceivedWord,
     rule: Rule,
 ) -> Result<ChunksRead, Refusal>
-    requires { Sound (meaning code) × LayoutOf (meaning code) at }
+    requires { LayoutOf (meaning code) at }
     ensures { ReadsNamed (meaning code) x (rule_number rule) result }
 {
     match rule {

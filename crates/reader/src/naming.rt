@@ -22,6 +22,7 @@ pub struct NamedRule {
 }
 
 // The rule that three separators name: rule 1 for b b c, 2 for b c c, 3 for b b b, and none for b c b.
+#[tactic(auto, unfolding(model::specs::Reading::rule_of))]
 fn rule_of(s1: u32, s2: u32, s3: u32) -> Option<Rule>
     ensures { number_or_0 result ≡ rule_of s1 s2 s3 }
 {
@@ -34,6 +35,7 @@ fn rule_of(s1: u32, s2: u32, s3: u32) -> Option<Rule>
 }
 
 // What the rule's separator reads: separator 3 by rule 2, separator 1 by any other.
+#[tactic(auto, unfolding(model::specs::Reading::separator_of))]
 fn separator_of(rule: Rule, s1: u32, s3: u32) -> u32
     ensures { result ≡ separator_of (rule_number rule) s1 s3 }
 {
@@ -55,6 +57,7 @@ pub fn named_by(s1: u32, s2: u32, s3: u32) -> Option<NamedRule>
 }
 
 // What the separator of `distance` bits from place `at` on reads: 1 if more than half its bits are 1, else 0.
+#[tactic(auto, unfolding(model::specs::Reading::majority), using(std::proofs::lemmas::Bool::Decides::nat_tests))]
 fn separator_at(w: [u8; 40], at: u32, distance: u32) -> u32
     requires { (at + distance ≤ 320) × (distance ≤ 64) }
     ensures { result ≡ majority distance (from_place at (place w)) }
@@ -74,6 +77,7 @@ pub fn named_rule(code: DecodedCode, at: Layout, bits: [u8; 40]) -> Option<Named
 }
 
 // Whether what a separator reads differs from the parity of a codeword's number.
+#[tactic(auto, unfolding(model::specs::Reading::parity_differs))]
 pub fn contradicts(separator: u32, number: u32) -> bool
     ensures { result ≡ parity_differs separator number }
 {

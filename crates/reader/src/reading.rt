@@ -5,7 +5,6 @@ ghost use Rattle.model.specs.ReadWord.{read_word};
 ghost use Rattle.model.specs.Decoded.{meaning};
 ghost use Rattle.model.specs.Order.{last_codeword};
 ghost use Rattle.model.specs.Reading.{Seen, separator_by, two_ends};
-ghost use Rattle.code_theory.specs.Promise.{Sound};
 ghost use Rattle.nearest_position.specs.Received.{ReceivedIn};
 ghost use Rattle.reader.specs.RuleAnswers.{found_at, answer_by, AnswersRule, ChunksReadAs};
 ghost use Rattle.nearest_position.specs.Residuals.{residual_in};
@@ -24,6 +23,7 @@ use position::{layout, places};
 
 // What a rule answers of a search through all positions that it allows, with the counts of bits in which the code chunks differ from the
 // codeword.
+#[tactic(auto, unfolding(crate::specs::RuleAnswers::found_at))]
 fn found(s: Scan, rule: Rule, read: ChunksRead) -> Result<Reading, Refusal>
     ensures { result ≡ found_at s (rule_number rule) read }
 {
@@ -37,6 +37,7 @@ fn found(s: Scan, rule: Rule, read: ChunksRead) -> Result<Reading, Refusal>
 }
 
 // What the named rule answers where its chunks have been read: 12, 17, or the nearest position that it allows.
+#[tactic(auto, using(crate::proofs::RuleAnswers::ways_out))]
 fn by_chunks(
     code: DecodedCode,
     at: Layout,
@@ -59,6 +60,7 @@ fn by_chunks(
 }
 
 // What the named rule answers.
+#[tactic(auto, unfolding(crate::specs::RuleAnswers::ReadsNamed))]
 pub fn by_rule(
     code: DecodedCode,
     at: Layout,
@@ -75,7 +77,6 @@ pub fn by_rule(
 
 // The reading of a plain word, of any length.
 pub fn read(code: DecodedCode, word: &[u8]) -> Result<Reading, Refusal>
-    requires { Sound (meaning code) }
     ensures { result ≡ read_word (meaning code) word.now }
 {
     let at = layout::layout_of(code);

@@ -26,7 +26,7 @@ pub fn start_of(size: usize) -> usize
     requires { size ≤ 4 }
     ensures { result ≡ sets_before size }
 {
-    STARTS[size] as usize
+    usize::from(STARTS[size])
 }
 
 // Has a set variables of the code alone? As a number it is then one of the code's positions, each of which is a 1 in `positions`.

@@ -1,7 +1,7 @@
 -- The limits of order and variables. k grows with the order, so an order is within the limits where it is at most the greatest one that
 -- is; that the greatest ones for 1 to 6 variables are those of a table is computed, and serves refusal 13 alone. That no order within
 -- the limits is above 3 holds because k is at least 2^r. Assumes nothing.
-use mathlib.Core.Path.{◌≡◌, refl, sym, ap, ◌∙◌}
+use mathlib.Core.Path.{◌≡◌, refl, sym, ap}
 use mathlib.Core.Bool.{Bool, true, false, cond, not, ◌&&◌, ◌||◌}
 use mathlib.Core.List.{List, [], ◌∷◌}
 use mathlib.Core.Logic.{⊎_elim}
@@ -134,9 +134,3 @@ pub order_at_most_three : (r m : ℕ) → order_within_limits r m ≡ true → r
 order_at_most_three r m e =
     let (_, _, order, twelve) = order_limits_of_test r m e in
     ⊎_elim (λ (more : 3 < r). omega (arith, count_at_least r m order, pow_mono {i = 4} {j = r} more)) (λ (l : r ≤ 3). l) (lt_or_le 3 r)
-
--- an entry of the table is such an order too
-pub greatest_at_most_three : (m : ℕ) → 1 ≤ m → m ≤ 6 → get_or greatest_orders m 0 ≤ 3
-greatest_at_most_three m low high =
-    let o : ℕ = get_or greatest_orders m 0 in
-    order_at_most_three o m (sym (limit_in_table o m low high) ∙ le-leb o o (omega arith))

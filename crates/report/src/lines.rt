@@ -1,5 +1,6 @@
 // The lines that tramread prints, and the parts of a word's line. A line needs room for the longest one, a part for the longest such
 // part: each call takes some of the room away, so each asks for it.
+// The lines are no `Display`: what `write!` promises holds where its result is `Ok`, and a call here puts its line always.
 ghost use Rattle.std.specs.Prelude.{◌≤◌, length};
 ghost use Rattle.report.specs.Lines.{card_line, bits_text, rule_and_bits, word_line, short_line, last_line, line_room};
 ghost use Rattle.report.specs.Puts.{Puts};
@@ -14,11 +15,11 @@ pub fn put_card_line(out: &mut Text, answer: Result<CardSummary, Refusal>)
 {
     match answer {
         Ok(summary) => {
-            out.put_field(b"track ", summary.track as u64);
-            out.put_field(b" last ", summary.last as u64);
-            out.put_last_field(b" radius ", summary.radius as u64);
+            out.put_field(b"track ", u64::from(summary.track));
+            out.put_field(b" last ", u64::from(summary.last));
+            out.put_last_field(b" radius ", u64::from(summary.radius));
         }
-        Err(refusal) => out.put_last_field(b"card refused ", refusal.number as u64),
+        Err(refusal) => out.put_last_field(b"card refused ", u64::from(refusal.number)),
     }
 }
 
@@ -29,7 +30,7 @@ fn put_bits(out: &mut Text, bits: Option<u32>)
     ensures { Puts out.old (bits_text bits) 21 out.new }
 {
     if let Some(count) = bits {
-        out.put_field(b" ", count as u64);
+        out.put_field(b" ", u64::from(count));
     }
 }
 
@@ -41,7 +42,7 @@ fn put_rule_and_bits(out: &mut Text, read: Reading)
 {
     let chunk1 = read.chunk1;
     let chunk2 = read.chunk2;
-    out.put_field(b" rule ", read.rule as u64);
+    out.put_field(b" rule ", u64::from(read.rule));
     put_bits(out, chunk1);
     put_bits(out, chunk2);
     out.put_line_end();
@@ -55,11 +56,11 @@ pub fn put_word_line(out: &mut Text, number: u64, answer: Result<Reading, Refusa
     out.put_number(number);
     match answer {
         Ok(read) => {
-            out.put_field(b" at ", read.position as u64);
-            out.put_field(b" residual ", read.residual as u64);
+            out.put_field(b" at ", u64::from(read.position));
+            out.put_field(b" residual ", u64::from(read.residual));
             put_rule_and_bits(out, read);
         }
-        Err(refusal) => out.put_last_field(b" refused ", refusal.number as u64),
+        Err(refusal) => out.put_last_field(b" refused ", u64::from(refusal.number)),
     }
 }
 

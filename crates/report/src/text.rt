@@ -1,4 +1,5 @@
 // A text in a lent buffer, put together piece by piece: bytes as they are, a number in decimal, a label with a number, and a line's end.
+// The buffer is lent and not a `String`, since the programs use no heap.
 ghost use Rattle.std.specs.Prelude.{◌≡◌, [], ◌++◌, ◌+◌, ◌≤◌, length};
 ghost use Rattle.report.specs.Text.{decimal};
 ghost use Rattle.report.specs.Lines.{line_end};

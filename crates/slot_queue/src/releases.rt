@@ -6,7 +6,6 @@ ghost use Rattle.model.specs.Refusals.{first_refusal, Refused, unless_refused};
 ghost use Rattle.model.specs.ReadWord.{read_word};
 ghost use Rattle.model.specs.Yard.{most_waiting, queue};
 ghost use Rattle.model.specs.ReleaseTrack.{rows_of_release, is_clear, handed_on, release_on};
-ghost use Rattle.code_theory.specs.Promise.{Sound};
 
 use model::{DecodedCode, Reading, Refusal, Release, Released, Slot, TRACKS, Yard};
 use reader::reading;
@@ -37,7 +36,6 @@ fn read(
     tram: u16,
     word: &[u8],
 ) -> Result<Reading, Refusal>
-    requires { Sound (meaning code) }
     ensures { result ≡ unless_refused (first_refusal (rows_of_release yard tram track)) Refused (read_word (meaning code) word.now) }
 {
     check(yard, tram, track)?;
@@ -46,10 +44,9 @@ fn read(
 
 // Whether the position less 10t is above the mark. In 64 bits the sum of mark and 10t is exact.
 fn is_clear(code: DecodedCode, position: u32, mark: u32) -> bool
-    requires { Sound (meaning code) }
     ensures { result ≡ is_clear (meaning code) position mark }
 {
-    (mark as u64) + (widening::margin_of(code) as u64) < position as u64
+    u64::from(mark) + u64::from(widening::margin_of(code)) < u64::from(position)
 }
 
 // The track goes to the first of its queue; if none waits, nobody holds it.
@@ -84,7 +81,6 @@ pub fn release(
     word: &[u8],
     mark: u32,
 ) -> Released
-    requires { Sound (meaning code) }
     ensures { result ≡ release_on (meaning code) track yard tram word.now mark }
 {
     match read(code, track, yard, tram, word) {

@@ -3,7 +3,6 @@
 ghost use Rattle.std.specs.Prelude.{◌≡◌, ◌++◌, ◌+◌, ◌*◌, ◌/◌, ◌^◌, ◌≤◌, ◌<◌, length, take, drop};
 ghost use Rattle.model.specs.Words.{word_length};
 ghost use Rattle.model.specs.Decoded.{meaning};
-ghost use Rattle.code_theory.specs.Promise.{Sound};
 ghost use Rattle.report.specs.Filled.{capacity, unfilled};
 ghost use Rattle.report.specs.Lines.{short_line, last_line, line_room};
 ghost use Rattle.report.specs.Puts.{Puts};
@@ -35,7 +34,6 @@ pub fn take_in(
     n: usize,
     before: Progress,
 ) -> Progress
-    requires sound { Sound (meaning code) }
     requires within { (before.held ≤ n) × (start + n ≤ length input.old) × (before.read ≤ before.met) }
     requires room { n / word_length (meaning code) * line_room ≤ capacity out.old }
     requires met_fits { before.met + n / word_length (meaning code) < 2 ^ 64 }

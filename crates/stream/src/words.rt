@@ -2,7 +2,6 @@
 ghost use Rattle.std.specs.Prelude.{◌≡◌, ◌+◌, ◌*◌, ◌^◌, ◌≤◌, ◌<◌, length, drop};
 ghost use Rattle.model.specs.Words.{word_length};
 ghost use Rattle.model.specs.Decoded.{meaning};
-ghost use Rattle.code_theory.specs.Promise.{Sound};
 ghost use Rattle.report.specs.Lines.{line_room};
 ghost use Rattle.report.specs.Puts.{Puts};
 ghost use Rattle.report.specs.Report.{count_if_read, word_lines, words_read};
@@ -35,7 +34,6 @@ pub fn put_words(
     met: u64,
     words: usize,
 ) -> u64
-    requires sound { Sound (meaning code) }
     requires fits { (start + words * word_length (meaning code) ≤ length bytes.now) × (words * line_room ≤ length out.old.rest)
         × (met + words < 2 ^ 64) }
     ensures puts { Puts out.old (word_lines (meaning code) (drop start bytes.now) met words)

@@ -9,13 +9,13 @@ use native.Mathlib.Nat.{eq-or-lt_of_le, le_of_suc-le-suc}
 use native.Mathlib.Omega.{arith}
 use lib.Dec.{ltb, eqb}
 use borrow.Author.Tests.{ltb-true, ltb-false, eqb-true, eq-eqb}
+use Rattle.std.specs.Prelude.{Some, None}
 use Rattle.bits.proofs.Numbers.{not-true, lt_or_le, by_test, or_false_left, or_false_right, and_true_left, and_true_right}
 use Rattle.model.specs.TramsCrossing.{crosses}
 use Rattle.model.specs.NearestTram.{apart, distance_to, goes_before, nearest_up_to, nearest_of}
 use Rattle.model.specs.declared.Stretch.{Stretch}
 use Rattle.tram_theory.specs.Stretches.{Holds}
 use Rattle.tram_theory.proofs.Stretches.{crosses_if, crosses_only_if}
-use Rattle.std.specs.Prelude.{Some, None}
 
 -- ---- distances
 

@@ -15,8 +15,8 @@ use Rattle.bits.proofs.Numbers.{lt_or_le, eq_or_ne}
 use Rattle.bits.proofs.Places.{length_list_of, get_or_list_of}
 use Rattle.model.specs.Refusals.{refuses, refused_as, first_refusal, status_of}
 use Rattle.model.specs.Card.{Code, card_refusal, code_of, SoundCard}
-use Rattle.model.specs.Trams.{Trams, most_trams, widened_at, rows_of_trams, trams_refusal}
-use Rattle.model.specs.Trams.{answers_by, answers_of, each_tram_unless, each_tram_on, each_tram_answer}
+use Rattle.model.specs.Trams.{Trams, most_trams, widened_at, rows_of_trams, trams_refusal, answers_by, answers_of, each_tram_unless}
+use Rattle.model.specs.Trams.{each_tram_on, each_tram_answer}
 use Rattle.model.specs.declared.Stretch.{Stretch}
 use Rattle.model.specs.declared.Refusal.{Refusal}
 use Rattle.code_theory.proofs.RefusalRows.{served_if_none, refused_if_some, err_by_card, past_card, status_and_values}

@@ -7,10 +7,11 @@ use Prim.Native.Nat.{ℕ, ◌≤◌, ◌<◌}
 use native.Mathlib.Omega.{arith}
 use lib.Dec.{leb, ltb}
 use borrow.Author.Tests.{ltb-false, leb-true, le-leb}
+use Rattle.std.specs.Prelude.{length}
 use Rattle.bits.proofs.Numbers.{or_false_left, or_false_right, and_true_left, and_true_right}
 use Rattle.bits.proofs.Searches.{none_of_any}
 use Rattle.model.specs.Refusals.{first_refusal}
-use Rattle.model.specs.Trams.{stretch_at, margin, widened, misplaced_pair, any_misplaced, rows_of_trams}
+use Rattle.model.specs.Trams.{stretch_at, margin, widened, misplaced_pair, any_misplaced, rows_of_trams, Trams}
 use Rattle.model.specs.TramsCrossing.{crosses}
 use Rattle.model.specs.TramsWithin.{lies_within}
 use Rattle.model.specs.declared.Stretch.{Stretch}
@@ -18,8 +19,6 @@ use Rattle.code_theory.proofs.RefusalRows.{NoneHolds, numbered, none_holds}
 use Rattle.position_theory.proofs.Margin.{read_within_margin}
 use Rattle.position_theory.specs.Margin.{ReadWithinMargin}
 use Rattle.tram_theory.specs.Stretches.{Holds, WithinMarks, OnTrack, WidenedHoldsBoth}
-use Rattle.model.specs.Trams.{Trams}
-use Rattle.std.specs.Prelude.{length}
 
 -- ---- refusals
 

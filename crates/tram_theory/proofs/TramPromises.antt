@@ -6,29 +6,24 @@ use mathlib.Core.List.{List}
 use mathlib.Core.Logic.{⊎_elim}
 use Prim.Native.Nat.{ℕ, ◌≤◌, ◌<◌}
 use native.Mathlib.Omega.{arith}
+use Rattle.std.specs.Prelude.{length, Option, Some, None, Ok, []}
 use Rattle.bits.proofs.Numbers.{lt_or_le}
+use Rattle.model.specs.Refusals.{Refused, status_of}
 use Rattle.model.specs.Card.{card_refusal, code_of, SoundCard}
 use Rattle.model.specs.Order.{last_position}
-use Rattle.model.specs.Trams.{stretch_at, margin, widened_at, rows_of_trams, trams_refusal, each_tram_answer}
+use Rattle.model.specs.Trams.{stretch_at, margin, widened_at, rows_of_trams, trams_refusal, each_tram_answer, Trams}
 use Rattle.model.specs.TramsCrossing.{crosses, crossing_answer}
 use Rattle.model.specs.TramsWithin.{lies_within, within_answer}
-use Rattle.model.specs.NearestTram.{nearest_of, nearest_on, nearest_answer}
+use Rattle.model.specs.NearestTram.{nearest_of, nearest_on, nearest_answer, NoTram, Tram, NearestAnswer}
 use Rattle.model.specs.declared.Stretch.{Stretch}
-use Rattle.code_theory.proofs.RefusalRows.{none_past_card, past_card, served_if_none}
+use Rattle.code_theory.proofs.RefusalRows.{none_past_card, past_card, served_if_none, status_and_values}
 use Rattle.tram_theory.specs.Stretches.{Holds, WithinMarks, Between, OnTrack, StandsFrom, WidenedHoldsBoth}
-use Rattle.tram_theory.specs.TramPromises.{YesExactlyIf, NoneMissed, TrulyWithin, CrossingPromises, WithinPromises}
-use Rattle.tram_theory.specs.TramPromises.{NearestOfAll, ZeroExactlyIfCrossing, NoneCloser, NearestPromises}
-use Rattle.tram_theory.proofs.Stretches.{on_track, widened_in_order, widened_holds_both}
-use Rattle.tram_theory.proofs.Stretches.{crosses_if, crosses_only_if, within_if, within_only_if}
+use Rattle.tram_theory.specs.TramPromises.{YesExactlyIf, NoneMissed, TrulyWithin, CrossingPromises, WithinPromises, NearestOfAll}
+use Rattle.tram_theory.specs.TramPromises.{ZeroExactlyIfCrossing, NoneCloser, NearestPromises}
+use Rattle.tram_theory.proofs.Stretches.{on_track, widened_in_order, widened_holds_both, crosses_if, crosses_only_if, within_if}
+use Rattle.tram_theory.proofs.Stretches.{within_only_if}
 use Rattle.tram_theory.proofs.ServedTrams.{yes_if, yes_only_if, each_refusal, each_answers, each_status, served_if_told}
 use Rattle.tram_theory.proofs.NearestTrams.{crossing_at_0, at_0_crossing, no_farther, found, some_found, none_found, of_no_trams}
-use Rattle.model.specs.Trams.{Trams}
-use Rattle.model.specs.NearestTram.{NoTram, Tram}
-use Rattle.model.specs.Refusals.{Refused, status_of}
-use Rattle.std.specs.Prelude.{length}
-use Rattle.std.specs.Prelude.{Option, Some, None, Ok, []}
-use Rattle.code_theory.proofs.RefusalRows.{status_and_values}
-use Rattle.model.specs.NearestTram.{NearestAnswer, NoTram}
 
 -- ---- trams of a search that is served
 

@@ -5,26 +5,27 @@ use mathlib.Core.List.{List, [], ◌∷◌}
 use mathlib.Core.Logic.{inl, inr, ⊎_elim}
 use Prim.Native.Nat.{ℕ, ◌≤◌}
 use native.Mathlib.Omega.{arith}
+use Rattle.std.specs.Prelude.{None, Ok, Some}
 use Rattle.bits.specs.Sums.{sum_below, distance, join_at}
 use Rattle.bits.specs.Walk.{walk}
 use Rattle.bits.specs.Places.{weight, place, cut, byte_of, list_of, pack}
 use Rattle.bits.specs.Searches.{any_below, first, least_at, greatest}
 use Rattle.bits.proofs.Numbers.{zero_or_one}
-use Rattle.model.specs.Refusals.{first_refusal, unless_refused}
+use Rattle.model.specs.Refusals.{first_refusal, unless_refused, status_of}
 use Rattle.model.specs.Card.{high_first, row_of, sum_of_rows, least_weight, code_of}
 use Rattle.model.specs.CardBytes.{bytes_of, row_bytes, sealed, card_of}
+use Rattle.model.specs.CardsToTry.{card_a, card_b}
 use Rattle.model.specs.Order.{gray, last_codeword, codeword, changed_row, changed_weight, start, last_position}
 use Rattle.model.specs.Words.{chunk_size, places_before, five_chunks, word, block_of, word_at, word_bytes}
 use Rattle.model.specs.Reading.{majority, chunk_distance, within_radius, read_first, chunk_reading, unreadable, number_read, seen}
 use Rattle.model.specs.Reading.{rule_of, number_by, separator_of, parity_differs, two_ends, rows_9_to_12, rows_seen, rule_named, rows_of}
 use Rattle.model.specs.Reading.{allowed, residual, nearest_in, bits_needed, nearest_reading}
-use Rattle.model.specs.ReadWord.{spare_set, rows_of_word, read_word}
-use Rattle.model.specs.CardsToTry.{card_a, card_b}
 use Rattle.model.specs.Trams.{widened, widened_at}
 use Rattle.model.specs.TramsCrossing.{crosses}
-use Rattle.model.specs.NearestTram.{distance_to}
+use Rattle.model.specs.NearestTram.{distance_to, Tram}
 use Rattle.model.specs.declared.Reading.{Reading}
 use Rattle.model.specs.declared.Stretch.{Stretch}
+use Rattle.model.specs.ReadWord.{spare_set, rows_of_word, read_word}
 use Rattle.code_theory.proofs.CodeWitnesses.{card_b_sound}
 use Rattle.position_theory.specs.Damage.{damaged_in, WithinRadius}
 use Rattle.position_theory.specs.Margin.{ReadFrom}
@@ -34,9 +35,6 @@ use Rattle.position_theory.proofs.SoundCards.{read_sound}
 use Rattle.tram_theory.specs.Stretches.{StandsFrom, WidenedHoldsBoth}
 use Rattle.tram_theory.specs.TramPromises.{NoneMissed, TrulyWithin, IsNearest, ZeroExactlyIfCrossing, NoneCloser}
 use Rattle.tram_theory.specs.TramWitnesses.{from_to, at15, from12, from11, exchanged, TramsWitnessed}
-use Rattle.std.specs.Prelude.{None, Ok, Some}
-use Rattle.model.specs.NearestTram.{Tram}
-use Rattle.model.specs.Refusals.{status_of}
 
 -- ---- positions of card B that are read from words within the radius
 

@@ -1,13 +1,11 @@
 -- Stretches of a track: what lies in them, the stretches of trams that are not refused, and the true positions that the ends of a stretch
 -- were read from. Assumes nothing.
-use Rattle.std.specs.Prelude.{List, ◌⊎◌, ℕ, ◌≤◌, ◌<◌}
+use Rattle.std.specs.Prelude.{List, ◌⊎◌, ℕ, ◌≤◌, ◌<◌, length}
 use Rattle.model.specs.Card.{code_of, SoundCard}
 use Rattle.model.specs.Order.{last_position}
-use Rattle.model.specs.Trams.{most_trams, stretch_at, margin, widened}
+use Rattle.model.specs.Trams.{most_trams, stretch_at, margin, widened, Trams}
 use Rattle.model.specs.declared.Stretch.{Stretch}
 use Rattle.position_theory.specs.Margin.{ReadFrom}
-use Rattle.model.specs.Trams.{Trams}
-use Rattle.std.specs.Prelude.{length}
 
 -- a position lies in a stretch; and a stretch lies within two marks
 abbrev pub Holds : Stretch → (position : ℕ) → Type 0

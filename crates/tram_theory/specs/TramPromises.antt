@@ -1,16 +1,12 @@
 -- What is promised of the searches among trams, as the contracts of the calls state it of the card, the trams, the marks and the answer.
 -- (That a search is refused by the table's number is the equation with its answer.) Assumes nothing.
-use Rattle.std.specs.Prelude.{◌≡◌, true, false, List, ℕ, ◌≤◌, ◌<◌, get_or}
+use Rattle.std.specs.Prelude.{◌≡◌, true, false, List, ℕ, ◌≤◌, ◌<◌, get_or, length}
+use Rattle.model.specs.Refusals.{status_of}
 use Rattle.model.specs.Card.{code_of}
-use Rattle.model.specs.Trams.{stretch_at, widened_at}
-use Rattle.model.specs.NearestTram.{apart, distance_to}
+use Rattle.model.specs.Trams.{stretch_at, widened_at, Trams, TramsAnswer, answers_of}
+use Rattle.model.specs.NearestTram.{apart, distance_to, NearestAnswer, NoTram, Tram}
 use Rattle.model.specs.declared.Stretch.{Stretch}
 use Rattle.tram_theory.specs.Stretches.{Holds, WithinMarks, Between, StandsFrom}
-use Rattle.model.specs.Trams.{Trams, TramsAnswer}
-use Rattle.model.specs.NearestTram.{NearestAnswer, NoTram, Tram}
-use Rattle.model.specs.Refusals.{status_of}
-use Rattle.std.specs.Prelude.{length}
-use Rattle.model.specs.Trams.{answers_of}
 
 -- ---- yes or no for each tram
 

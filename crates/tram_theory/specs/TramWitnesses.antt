@@ -2,17 +2,15 @@
 -- whatever is answered, and says what the promise alone then gives, at the border of its premise or of its bound. So a premise that nobody
 -- can meet, or a bound looser than the documents', no longer gives its row. Assumes nothing.
 use Rattle.std.specs.Prelude.{◌≡◌, [], ◌∷◌, ℕ, replicate}
+use Rattle.model.specs.Refusals.{status_of}
 use Rattle.model.specs.CardsToTry.{card_a, card_b}
-use Rattle.model.specs.Trams.{widened}
-use Rattle.model.specs.NearestTram.{distance_to}
+use Rattle.model.specs.Trams.{widened, TramsAnswer}
+use Rattle.model.specs.NearestTram.{distance_to, NearestAnswer, NoTram, Tram}
 use Rattle.model.specs.declared.Stretch.{Stretch}
 use Rattle.position_theory.specs.Margin.{ReadFrom}
 use Rattle.tram_theory.specs.Stretches.{Holds, WithinMarks, StandsFrom, WidenedHoldsBoth}
-use Rattle.tram_theory.specs.TramPromises.{AnsweredYes, YesExactlyIf, NoneMissed, TrulyWithin}
-use Rattle.tram_theory.specs.TramPromises.{NearestOfAll, ZeroExactlyIfCrossing, NoneCloser}
-use Rattle.model.specs.Trams.{TramsAnswer}
-use Rattle.model.specs.NearestTram.{NearestAnswer, NoTram, Tram}
-use Rattle.model.specs.Refusals.{status_of}
+use Rattle.tram_theory.specs.TramPromises.{AnsweredYes, YesExactlyIf, NoneMissed, TrulyWithin, NearestOfAll, ZeroExactlyIfCrossing}
+use Rattle.tram_theory.specs.TramPromises.{NoneCloser}
 
 -- ---- trams. On card B, t is 1 and the last position 15, so a stretch is widened by 10; on card A, t is 0 and the last position 30
 

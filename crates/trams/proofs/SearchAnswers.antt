@@ -3,8 +3,7 @@ use mathlib.Core.Path.{◌≡◌, sym, ◌∙◌}
 use mathlib.Core.Bool.{Bool}
 use mathlib.Core.List.{List}
 use mathlib.Core.Logic.{⊎_elim}
-use Prim.Native.Nat.{ℕ, ◌+◌, ◌≤◌, ◌<◌}
-use native.Mathlib.Omega.{arith}
+use Prim.Native.Nat.{ℕ}
 use Rattle.std.specs.Prelude.{length, Option, Result, Ok, Err}
 use Rattle.bits.proofs.Numbers.{eq_or_ne}
 use Rattle.model.specs.Refusals.{first_refusal, Refused, unless_refused}
@@ -14,9 +13,7 @@ use Rattle.model.specs.Trams.{Trams, stretch_at, margin, widened, widened_at, ro
 use Rattle.model.specs.NearestTram.{nearest_of, nearest_on}
 use Rattle.model.specs.declared.Refusal.{Refusal}
 use Rattle.model.specs.declared.Stretch.{Stretch}
-use Rattle.code_theory.specs.Promise.{Sound}
 use Rattle.code_theory.proofs.RefusalRows.{served_if_none, refused_if_some}
-use Rattle.code_theory.proofs.Starts.{last_position_bound}
 use Rattle.tram_theory.specs.Stretches.{OnTrack}
 use Rattle.tram_theory.proofs.Stretches.{on_track}
 
@@ -48,11 +45,8 @@ module _ (C : Code) (trams : Trams) (first second : ℕ) {last : ℕ} (last_is :
   Tested tested = tested ≡ unless_refused number Refused (Ok tt)
 
   -- what the passes through the list ask for
-  pub placed : Sound C → {done : Unit {0}} → Tested (Ok done) → {reach : ℕ} → reach ≤ 310 → OnTrack last trams × (last + reach < 4294967296)
-  placed sound {done} tested bound = (
-    on_track last trams first second (not_refused number done tt tested),
-    omega (arith, last_is, last_position_bound C sound),
-  )
+  pub placed : {done : Unit {0}} → Tested (Ok done) → OnTrack last trams
+  placed {done} tested = on_track last trams first second (not_refused number done tt tested)
 
   module _ (test : Stretch → Bool) where
     pub each_refused : (refusal : Refusal) → Tested (Err refusal) → Err refusal ≡ each_tram_on test C trams first second

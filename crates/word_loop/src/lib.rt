@@ -6,7 +6,6 @@
 
 ghost use Rattle.std.specs.Prelude.{◌≡◌, length};
 ghost use Rattle.model.specs.Decoded.{meaning};
-ghost use Rattle.code_theory.specs.Promise.{Sound};
 ghost use Rattle.report.specs.Filled.{capacity};
 ghost use Rattle.report.specs.Report.{words_report};
 ghost use Rattle.word_loop.specs.Parts.{FromCard, PartOfReport, LastPart, OnlyAtEnd};
@@ -49,7 +48,6 @@ pub fn read_words(
     input: &mut [u8; INPUT],
     out: &mut Text,
 ) -> Result<Received, Failure>
-    requires sound { Sound (meaning code) }
     requires from_card { FromCard (meaning code) }
     requires room { capacity out.old ≡ 230400 }
     ensures last { LastPart (words_report (meaning code)) out.new.text result }

@@ -11,7 +11,9 @@ pub fn first_for(yard: Yard, track: u32) -> Option<usize>
     ensures { result ≡ position (λ w. w.track == track) (entries yard) }
 {
     let entries = &yard.waiting[..yard.count];
-    entries.iter().position(|entry| entry.track as u32 == track)
+    entries
+        .iter()
+        .position(|entry| u32::from(entry.track) == track)
 }
 
 // The entries without the one at a place: those after it move up, and the last place is empty.

@@ -11,7 +11,7 @@ fn any_for_free(yard: Yard, entries: &[Waiting]) -> bool
 {
     entries
         .iter()
-        .any(|entry| !tracks::is_held(yard, entry.track as usize))
+        .any(|entry| !tracks::is_held(yard, usize::from(entry.track)))
 }
 
 // Whether the yard is refused by 26.

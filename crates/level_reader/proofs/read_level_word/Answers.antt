@@ -84,7 +84,7 @@ returns-in_err-named c =
 pub by_rule-requires : goal.by_rule-requires
 by_rule-requires c =
     let after = (goal.at.by_rule-requires c).After-rule_by_sums in
-    (c.requires, c.layout_of-at.ensures, nothing_past (C after) (word after) _ c.word_of_levels-received.ensures)
+    (c.layout_of-at.ensures, nothing_past (C after) (word after) _ c.word_of_levels-received.ensures)
 
 pub returns : goal.returns
 returns c =

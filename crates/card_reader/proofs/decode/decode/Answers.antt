@@ -3,17 +3,19 @@
 -- decide between refusals 4, 14 and 5 and a sound card, whose code and offset they are. Assumes nothing.
 use mathlib.Core.Path.{◌≡◌, sym, ◌∙◌}
 use mathlib.Core.Bool.{true}
+use lib.ListN.{get_or}
 use native.Mathlib.Omega.{arith}
 use mir.Facts.{to_z-of_z}
 use mir.Syntax.{w32}
 use mir.Val.{to_z, of_z}
-use Rattle.model.specs.Card.{length_of, row_count_of, row_of, offset_of, stored_check, computed_check, within_limits, misplaced, offset_outside}
-use Rattle.code_theory.proofs.SoundCard.{limits_of_test}
+use Rattle.model.specs.Card.{length_of, row_count_of, row_of, code_of, offset_of, stored_check, computed_check, within_limits, misplaced}
+use Rattle.model.specs.Card.{offset_outside, SoundCard}
+use Rattle.code_theory.proofs.SoundCard.{limits_of_test, sound_card}
 use Rattle.card_reader.proofs.CardDecoding.{least, least_of_card, refusal_4, refusal_14, refusal_5, not_refused, code_of_least}
 use Rattle.card_reader.proofs.CardDecoding.{decoded_from}
 use Rattle.card_reader.proofs.SplitRows.{Narrow}
 use Rattle.card_reader.proofs.CardRefusals.{refusal_1, refusal_2, refusal_3, misplaced_of_card}
-use Rattle.card_reader.proofs.decode.decode.Goals.{After-has_misplaced, After-least_weight-distance, After-offset_is_outside}
+use Rattle.card_reader.proofs.decode.decode.Goals.{After-has_misplaced, After-least_weight-distance, After-offset_is_outside, After-track_of-track}
 use Rattle.card_reader.proofs.decode.decode.Goals.{After-offset_of-offset, After-within_limits, Else-not-within_limits, Else-stored_check-computed_check}
 use Rattle.card_reader.proofs.decode.decode.Goals as goal
 
@@ -95,14 +97,28 @@ returns-then-distance-eq0 c =
       not_zero = λ e. omega arith;
     }
 
+-- past the last test: the card is sound, and its code is that of the numbers read
+is_sound : (c : After-track_of-track) → SoundCard c.args.card.now
+is_sound c =
+    let at = goal.at.invariant_of-result c in
+    not_refused _ (within at.Else-not-within_limits) c.if-card-ne-CARD_BYTES.false (checked at.Else-stored_check-computed_check)
+    (sym (is_misplaced at.After-has_misplaced) ∙ c.if-has_misplaced.false)
+    (sym (offset_is_outside at.After-offset_is_outside) ∙ c.if-offset_is_outside.false) _ (is_least at.After-least_weight-distance)
+    c.if-distance-eq0.false
+
+is_code : (c : After-track_of-track)
+    → record { n = c.byte_at-n.result; k = c.byte_at-k.result; row = λ z. get_or c.rows_of-rows.result z 0; D = c.least_weight-distance.result }
+    ≡ code_of c.args.card.now
+is_code c =
+    code_of_least _ (is_sound c) _ _ _ c.rows_of-rows.result c.byte_at-n.ensures.0 c.byte_at-k.ensures.0 c.rows_of-rows.ensures
+    (is_least (goal.at.invariant_of-result c).After-least_weight-distance)
+
+-- so the code that is built is a sound card's
+pub invariant_of-result : goal.invariant_of-result
+invariant_of-result c = record { sound = rw (is_code c) (sound_card _ (is_sound c)) }
+
 pub returns : goal.returns
 returns c =
     let at = goal.at.returns c in
-    let placed = sym (is_misplaced at.After-has_misplaced) ∙ c.if-has_misplaced.false in
-    let in_range = sym (offset_is_outside at.After-offset_is_outside) ∙ c.if-offset_is_outside.false in
-    let weighed = is_least at.After-least_weight-distance in
-    let sound =
-    not_refused _ (within at.Else-not-within_limits) c.if-card-ne-CARD_BYTES.false (checked at.Else-stored_check-computed_check) placed in_range _
-    weighed c.if-distance-eq0.false in
-    decoded_from _ _ sound c.track_of-track.ensures (is_offset at.After-offset_of-offset)
-    (code_of_least _ sound _ _ _ c.rows_of-rows.result c.byte_at-n.ensures.0 c.byte_at-k.ensures.0 c.rows_of-rows.ensures weighed)
+    decoded_from _ _ (is_sound at.After-track_of-track) c.track_of-track.ensures (is_offset at.After-offset_of-offset)
+    (is_code at.After-track_of-track)

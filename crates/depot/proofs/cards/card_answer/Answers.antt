@@ -1,5 +1,5 @@
--- `depot::cards::card_answer` meets its contract: a refusal is answered as it stands, and where there is none the code is sound,
--- so its values are those of the card. Assumes nothing.
+-- `depot::cards::card_answer` meets its contract: a refusal is answered as it stands, and where there is none the values are those
+-- of the card. Assumes nothing.
 use mathlib.Core.Path.{◌∙◌}
 use Rattle.std.proofs.lemmas.Result.{err_from_is_err_and}
 use Rattle.depot.proofs.CheckContract.{card_refused, card_sound}
@@ -9,15 +9,6 @@ pub returns-in_err-decoded : goal.returns-in_err-decoded
 returns-in_err-decoded c card from =
     let p = err_from_is_err_and c.from_residual.result c.from_residual.ensures.1 in
     p.1 ∙ rw p.2 (card_refused card _ (rw c.in_err-decoded.was at from))
-
-pub radius_of-requires : goal.radius_of-requires
-radius_of-requires c = rw c.in_ok-decoded.was at c.requires
-
-pub layout_of-requires : goal.layout_of-requires
-layout_of-requires c = rw c.in_ok-decoded.was at c.requires
-
-pub last_position-requires : goal.last_position-requires
-last_position-requires c = rw c.in_ok-decoded.was at c.requires
 
 pub returns : goal.returns
 returns c card from =

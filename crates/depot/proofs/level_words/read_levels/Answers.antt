@@ -1,6 +1,5 @@
--- `depot::level_words::read_levels` meets its contract: a card that is refused is answered by its refusal, and past the card's test the
--- code is sound, as the reader asks; either answer is the one that the definition gives, of which the clauses are theorems. Assumes
--- nothing.
+-- `depot::level_words::read_levels` meets its contract: a card that is refused is answered by its refusal, and past the card's test by
+-- what the reader answers on its code; either is the one that the definition gives, of which the clauses are theorems. Assumes nothing.
 use mathlib.Core.Path.{◌∙◌}
 use Rattle.std.proofs.lemmas.Result.{err_from_is_err_and}
 use Rattle.depot.proofs.LevelsContract.{levels_by_card, levels_read, levels_answered_lem}
@@ -10,9 +9,6 @@ pub returns-in_err-code : goal.returns-in_err-code
 returns-in_err-code c =
     let p = err_from_is_err_and c.from_residual.result c.from_residual.ensures.1 in
     levels_answered_lem _ _ (p.1 ∙ rw p.2 (levels_by_card _ _ _ c.in_err-code.ensures))
-
-pub read_level_word-requires : goal.read_level_word-requires
-read_level_word-requires c = c.in_ok-code.ensures.sound
 
 pub returns : goal.returns
 returns c = levels_answered_lem _ _ (c.read_level_word.ensures ∙ levels_read _ _ _ c.in_ok-code.ensures)

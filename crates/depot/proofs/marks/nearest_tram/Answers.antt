@@ -1,5 +1,5 @@
--- `depot::marks::nearest_tram` meets its contract: a card that is refused is answered by its refusal, and past the card's test the code is
--- sound, as the search asks; either answer is the one that the definition gives, of which the clauses are theorems. Assumes nothing.
+-- `depot::marks::nearest_tram` meets its contract: a card that is refused is answered by its refusal, and past the card's test by
+-- what the search answers on its code; either is the one that the definition gives, of which the clauses are theorems. Assumes nothing.
 use mathlib.Core.Path.{◌∙◌}
 use Rattle.std.proofs.lemmas.Result.{err_from_is_err_and}
 use Rattle.depot.proofs.TramsContract.{nearest_by_card, nearest_found, nearest_answered}
@@ -9,9 +9,6 @@ pub returns-in_err-code : goal.returns-in_err-code
 returns-in_err-code c =
     let p = err_from_is_err_and c.from_residual.result c.from_residual.ensures.1 in
     nearest_answered _ _ _ (p.1 ∙ rw p.2 (nearest_by_card _ _ _ _ c.in_err-code.ensures))
-
-pub nearest-requires : goal.nearest-requires
-nearest-requires c = c.in_ok-code.ensures.sound
 
 pub returns : goal.returns
 returns c = nearest_answered _ _ _ (c.nearest.ensures ∙ nearest_found _ _ _ _ c.in_ok-code.ensures)

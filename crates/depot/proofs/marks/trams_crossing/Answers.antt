@@ -1,5 +1,5 @@
--- `depot::marks::trams_crossing` meets its contract: a card that is refused is answered by its refusal, and past the card's test the code is
--- sound, as the search asks; either answer is the one that the definition gives, of which the clauses are theorems. Assumes nothing.
+-- `depot::marks::trams_crossing` meets its contract: a card that is refused is answered by its refusal, and past the card's test by
+-- what the search answers on its code; either is the one that the definition gives, of which the clauses are theorems. Assumes nothing.
 use mathlib.Core.Path.{◌∙◌}
 use Rattle.std.proofs.lemmas.Result.{err_from_is_err_and}
 use Rattle.model.specs.TramsCrossing.{crosses}
@@ -12,11 +12,10 @@ use Rattle.depot.proofs.marks.trams_crossing.Goals as goal
 pub returns-in_err-code : goal.returns-in_err-code
 returns-in_err-code c =
     let p = err_from_is_err_and c.from_residual.result c.from_residual.ensures.1 in
-    each_answered (crosses c.args.mark) _ _ _ _ (CrossingPromises _ _ _) (crossing_promises _ _ _) (p.1 ∙ rw p.2 (each_by_card _ _ _ _ _ _ c.in_err-code.ensures))
-
-pub crossing-requires : goal.crossing-requires
-crossing-requires c = c.in_ok-code.ensures.sound
+    each_answered (crosses c.args.mark) _ _ _ _ (CrossingPromises _ _ _) (crossing_promises _ _ _)
+    (p.1 ∙ rw p.2 (each_by_card _ _ _ _ _ _ c.in_err-code.ensures))
 
 pub returns : goal.returns
 returns c =
-    each_answered (crosses c.args.mark) _ _ _ _ (CrossingPromises _ _ _) (crossing_promises _ _ _) (c.crossing.ensures ∙ each_asked _ _ _ _ _ _ c.in_ok-code.ensures)
+    each_answered (crosses c.args.mark) _ _ _ _ (CrossingPromises _ _ _) (crossing_promises _ _ _)
+    (c.crossing.ensures ∙ each_asked _ _ _ _ _ _ c.in_ok-code.ensures)

@@ -1,5 +1,5 @@
 -- `depot::words::block_start` meets its contract: one law for each way out, of a card that is refused, a block above the last, and a
--- block of the code. Past the card's test the code is sound, as is asked of it. Assumes nothing.
+-- block of the code. Assumes nothing.
 use mathlib.Core.Path.{◌∙◌}
 use Rattle.std.proofs.lemmas.Result.{err_from_is_err_and}
 use Rattle.depot.proofs.StartContract.{start_by_card, start_above, start_within, start_answered}
@@ -10,15 +10,12 @@ returns-in_err-code c =
     let p = err_from_is_err_and c.from_residual.result c.from_residual.ensures.1 in
     start_answered _ _ (p.1 ∙ rw p.2 (start_by_card _ _ _ c.in_err-code.ensures))
 
-pub last_codeword-requires : goal.last_codeword-requires
-last_codeword-requires c = c.in_ok-code.ensures.sound
-
 pub returns-then-last_codeword-block : goal.returns-then-last_codeword-block
 returns-then-last_codeword-block c =
     start_answered _ _ (start_above _ _ _ c.in_ok-code.ensures _ c.last_codeword.ensures c.if-last_codeword-block.true)
 
 pub start_of_block-requires : goal.start_of_block-requires
-start_of_block-requires c = (c.in_ok-code.ensures.sound, rw c.last_codeword.ensures at c.if-last_codeword-block.false)
+start_of_block-requires c = rw c.last_codeword.ensures at c.if-last_codeword-block.false
 
 pub returns : goal.returns
 returns c =

@@ -18,9 +18,6 @@ returns-in_err-decoded c =
     let p = err_from_is_err_and c.from_residual.result c.from_residual.ensures.1 in
     millimetres_answered _ _ (p.1 ∙ rw p.2 (millimetres_by_card _ _ _ c.in_err-decoded.ensures))
 
-pub last_position-requires : goal.last_position-requires
-last_position-requires c = c.in_ok-decoded.ensures.sound
-
 pub returns-then-last_position-position : goal.returns-then-last_position-position
 returns-then-last_position-position c =
     millimetres_answered _ _

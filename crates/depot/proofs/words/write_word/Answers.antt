@@ -18,9 +18,6 @@ returns-in_err-code c =
     let (answered, left) = write_by_card _ c.args.position c.args.word.now _ c.in_err-code.ensures in
     write_answered _ _ _ (p.1 ∙ rw p.2 answered, left)
 
-pub word_length-requires : goal.word_length-requires
-word_length-requires c = c.in_ok-code.ensures.sound
-
 pub returns-then-word-word_length : goal.returns-then-word-word_length
 returns-then-word-word_length c =
     write_answered _ _ _
@@ -29,9 +26,6 @@ returns-then-word-word_length c =
 -- past the test of the length: the lent word has the length of a word
 whole : (c : Else-word-word_length) → length c.args.word.now ≡ word_length (meaning c.in_ok-code.field-0.code)
 whole c = c.if-word-word_length.false ∙ c.word_length.ensures.0
-
-pub last_position-requires : goal.last_position-requires
-last_position-requires c = c.in_ok-code.ensures.sound
 
 pub returns-then-last_position-position : goal.returns-then-last_position-position
 returns-then-last_position-position c =
@@ -46,7 +40,7 @@ on_track c = rw c.last_position.ensures at c.if-last_position-position.false
 pub write-requires : goal.write-requires
 write-requires c =
     let at = goal.at.write-requires c in
-    record { sound = (c.in_ok-code.ensures.sound, on_track at.Else-last_position-position); lent_len = whole at.Else-word-word_length }
+    record { on_track = on_track at.Else-last_position-position; lent_len = whole at.Else-word-word_length }
 
 pub returns : goal.returns
 returns c =

@@ -1,11 +1,8 @@
--- `depot::yards::release` meets its contract: a card that is refused is answered by its refusal, and past the card's test the code is
--- sound, as the release asks; either answer is the one that the definition gives, of which the clauses are theorems. Assumes nothing.
+-- `depot::yards::release` meets its contract: a card that is refused is answered by its refusal, and past the card's test by
+-- what the release answers on its code; either is the one that the definition gives, of which the clauses are theorems. Assumes nothing.
 use Rattle.std.proofs.Common.{arith}
 use Rattle.depot.proofs.YardContract.{release_answered, release_by_refused_card, release_on_card}
 use Rattle.depot.proofs.yards.release.Goals as goal
-
-pub release-requires : goal.release-requires
-release-requires c = c.in-Ok.ensures.sound
 
 pub returns-in-Ok : goal.returns-in-Ok
 returns-in-Ok c =

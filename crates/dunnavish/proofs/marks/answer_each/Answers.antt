@@ -13,4 +13,5 @@ returns-then-highs-lows g c = λ answer given.
 pub returns : goal.returns
 returns g c = λ answer given.
     let is = given _ c.ask_of_lent.ensures in
-    all_counted _ _ _ answer c.if-highs-lows.false c.if-yes-lows.false (rw is at c.put_answer.ensures.status) (rw is at c.put_answer.ensures.left)
+    all_counted _ _ _ answer c.if-highs-lows.false c.if-yes-lows.false
+    (rw is at c.put_answer.ensures.status) (rw is at c.put_answer.ensures.left)

@@ -15,4 +15,4 @@ returns c =
     let entries =
     from_fn_list _ _ (entry_lent numbers) (λ i y q called. search rules) (λ i y q called. search rules) no_entry _ most_waiting
     c.from_fn-2.ensures.items in
-    rw (slots, entries)
+    rw (slots, c.from.ensures, entries)

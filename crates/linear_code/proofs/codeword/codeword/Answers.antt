@@ -23,4 +23,4 @@ returns c =
     let all : loop.z ≡ c.args.code.k = omega arith in
     let is_codeword : loop.word ≡ codeword (meaning c.args.code) c.args.i =
     loop.invariant ∙ rw (all, c.gray_number-gray.ensures) in
-    (is_codeword, rw is_codeword (codeword_narrow _ c.requires c.args.i))
+    (is_codeword, rw is_codeword (codeword_narrow _ c.args.code.sound c.args.i))

@@ -5,4 +5,4 @@ use Rattle.code_theory.proofs.LeastDistance.{D-low}
 use Rattle.linear_code.proofs.search.radius_of.Goals as goal
 
 pub overflow_sub-result : goal.overflow_sub-result
-overflow_sub-result c = omega (arith, D-low (meaning c.args.code) c.requires)
+overflow_sub-result c = omega (arith, D-low (meaning c.args.code) c.args.code.sound)

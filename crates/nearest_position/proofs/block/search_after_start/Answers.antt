@@ -10,7 +10,8 @@ use Rattle.nearest_position.proofs.block.search_after_start.Goals as goal
 pub pass_places-requires : goal.pass_places-requires
 pass_places-requires c =
     let C = meaning c.args.code in
-    let (sound, spare, inside) = c.requires.sound in
+    let sound = c.args.code.sound in
+    let (spare, inside) = c.requires.received in
     let (position, here) = c.requires.at_start in (
       omega arith,
       omega (arith, word_bits_bound C sound),
@@ -22,7 +23,8 @@ pass_places-requires c =
 pub returns : goal.returns
 returns c =
     let C = meaning c.args.code in
-    let (sound, spare, inside) = c.requires.sound in
+    let sound = c.args.code.sound in
+    let (spare, inside) = c.requires.received in
     let (position, here) = c.requires.at_start in
     record {
       ends = passed_ends C sound _ _ _ _ c.word_of-u.ensures c.word_of-v.ensures _ spare _ position here _ (omega arith) _

@@ -13,7 +13,7 @@ use Rattle.nearest_position.proofs.block.search_block.Goals as goal
 pub search_places-requires : goal.search_places-requires
 search_places-requires c =
     let C = meaning c.args.code in
-    let (sound, spare) = c.requires.sound in
+    let sound = c.args.code.sound in
     let (inside, is, forward, room) = c.requires.part in (
       forward,
       omega (arith, room, word_bits_bound C sound),
@@ -30,7 +30,8 @@ search_places-requires c =
 pub returns : goal.returns
 returns c =
     let C = meaning c.args.code in
-    let (sound, spare) = c.requires.sound in
+    let sound = c.args.code.sound in
+    let spare = c.requires.received in
     let (inside, is, forward, room) = c.requires.part in
     record {
       ends = block_ends C sound _ _ _ _ c.word_of-u.ensures c.word_of-v.ensures _ spare _ _ _ _ is forward room c.search_places.ensures;

@@ -11,13 +11,13 @@ use Rattle.nearest_position.proofs.two_ends.nearest_after.Goals as goal
 
 pub overflow_add-p : goal.overflow_add-p
 overflow_add-p c =
-    let ((sound, laid, spare), inside) = c.requires in omega (arith, inside, last_codeword_bound _ sound)
+    omega (arith, c.requires.1, last_codeword_bound _ c.args.code.sound)
 
 pub search_block-requires-clause-part : goal.search_block-requires-clause-part
 search_block-requires-clause-part c =
-    let ((sound, laid, spare), inside) = c.requires in (
+    let ((laid, spare), inside) = c.requires in (
       omega (arith, inside),
-      c.start_of_block-low.ensures ∙ sym (at_start _ sound _ _ refl inside),
+      c.start_of_block-low.ensures ∙ sym (at_start _ c.args.code.sound _ _ refl inside),
       omega arith,
       omega (arith, laid.chunk₂_at),
     )
@@ -25,7 +25,8 @@ search_block-requires-clause-part c =
 pub returns : goal.returns
 returns c =
     let C = meaning c.args.code in
-    let ((sound, laid, spare), inside) = c.requires in
+    let sound = c.args.code.sound in
+    let ((laid, spare), inside) = c.requires in
     let (low, position) = c.search_block.ensures.ends in
     record {
       low_is = low ∙ c.start_of_block-low.ensures;

@@ -29,13 +29,13 @@ search_after_start-requires-clause-at_start c =
     let C = meaning c.args.code in
     let (low, position, scanned) = c.search_before_start-before.ensures in (
       position,
-      scanned.here ∙ ap (residual_in C c.args.x) position ∙ residual_of_start C c.requires.0.0 c.args.x _ c.requires.1,
+      scanned.here ∙ ap (residual_in C c.args.x) position ∙ residual_of_start C c.args.code.sound c.args.x _ c.requires.1,
     )
 
 pub returns : goal.returns
 returns c =
     let C = meaning c.args.code in
-    let sound = c.requires.0.0 in
+    let sound = c.args.code.sound in
     let (begun, stood, before) = c.search_before_start-before.ensures in
     let (low, position) = c.search_after_start.ensures.ends in
     let on = goes_on (goal.at.returns c).Else-p-last_codeword in

@@ -23,10 +23,10 @@ module _ (first : Start) where
   C = meaning first.args.code
 
   abbrev sound : Sound C
-  sound = first.requires.0.0
+  sound = first.args.code.sound
 
   abbrev laid : LayoutOf C first.args.at
-  laid = first.requires.0.1
+  laid = first.requires.0.0
 
   abbrev i : ℕ
   i = first.args.p - 1

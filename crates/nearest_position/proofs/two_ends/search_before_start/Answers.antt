@@ -20,10 +20,10 @@ use Rattle.nearest_position.proofs.two_ends.search_before_start.Goals as goal
 pub returns-then-p-eq0 : goal.returns-then-p-eq0
 returns-then-p-eq0 c =
     let C = meaning c.args.code in
-    let ((sound, laid, spare), inside) = c.requires in
+    let sound = c.args.code.sound in
     let zero_start : start C c.args.p ≡ 0 = rw c.if-p-eq0.true (start_zero C) in
     let counted =
-    distance_held C sound _ spare _ _ c.word_of.ensures
+    distance_held C sound _ c.requires.0.1 _ _ c.word_of.ensures
     ∙ sym (residual_of_start C sound c.args.x 0 (omega arith))
     ∙ ap (residual_in C c.args.x) (start_zero C) in
     rw c.begin.ensures (omega arith, sym zero_start, scanned_first _ 0 _ counted)
@@ -34,10 +34,10 @@ module _ (c : Else-p-eq0) where
   C = meaning c.args.code
 
   abbrev sound : Sound C
-  sound = c.requires.0.0
+  sound = c.args.code.sound
 
   abbrev laid : LayoutOf C c.args.at
-  laid = c.requires.0.1
+  laid = c.requires.0.0
 
   abbrev i : ℕ
   i = c.args.p - 1

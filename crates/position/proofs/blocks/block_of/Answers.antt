@@ -11,16 +11,16 @@ loop-low-init c =
 -- the sum of two of the track's blocks and one fits
 pub overflow_add-middle : goal.overflow_add-middle
 overflow_add-middle c =
-    omega (arith, last_codeword_bound _ c.requires)
+    omega (arith, last_codeword_bound _ c.args.code.sound)
 
 pub overflow_add-middle-in-loop-low : goal.overflow_add-middle-in-loop-low
 overflow_add-middle-in-loop-low c =
-    omega (arith, last_codeword_bound _ c.requires)
+    omega (arith, last_codeword_bound _ c.args.code.sound)
 
 pub loop-low-preserved : goal.loop-low-preserved
 loop-low-preserved c =
     let loop = c.loop-low in
-    before_middle _ _ loop.low loop.high _ loop.invariant c.requires (omega arith) (omega arith)
+    before_middle _ _ loop.low loop.high _ loop.invariant c.args.code.sound (omega arith) (omega arith)
     (rw c.start_by.ensures at c.if-start_by-position.false)
 
 pub returns : goal.returns

@@ -27,14 +27,14 @@ module _ (C : Code) (sound : Sound C) (i : ℕ) (inside : i < last_codeword C) w
   weighed = ap (λ (z : ℕ). weight C.n (C.row z)) (sym is_changed)
 
 pub overflow_add-z : goal.overflow_add-z
-overflow_add-z c = omega (arith, c.requires.1, last_codeword_bound (meaning c.args.code) c.requires.0)
+overflow_add-z c = omega (arith, c.requires, last_codeword_bound (meaning c.args.code) c.args.code.sound)
 
 pub bounds-rows-z : goal.bounds-rows-z
-bounds-rows-z c = of_twelve (meaning c.args.code) c.requires.0 _ c.requires.1
+bounds-rows-z c = of_twelve (meaning c.args.code) c.args.code.sound _ c.requires
 
 pub returns : goal.returns
 returns c =
     let C = meaning c.args.code in
-    let (sound, inside) = c.requires in
-    let is = c.row_weight.ensures C.n (sound.narrow _ (of_twelve C sound _ inside)) in
-    (is ∙ weighed C sound _ inside, omega (arith, is, weight_le C.n (C.row (count_trailing_zeros 32 (c.args.i + 1))), sound.n_high))
+    let sound = c.args.code.sound in
+    let is = c.row_weight.ensures C.n (sound.narrow _ (of_twelve C sound _ c.requires)) in
+    (is ∙ weighed C sound _ c.requires, omega (arith, is, weight_le C.n (C.row (count_trailing_zeros 32 (c.args.i + 1))), sound.n_high))

@@ -15,7 +15,7 @@ loop-z-init c = sym (before_any_row (meaning c.args.code) c.args.i)
 pub loop-z-preserved : goal.loop-z-preserved
 loop-z-preserved c =
     let z = c.loop-z.z in
-    c.sum_after_row-sum.ensures ∙ row_added (meaning c.args.code) c.args.i z (c.requires.2 z (omega arith)) c.loop-z.invariant
+    c.sum_after_row-sum.ensures ∙ row_added (meaning c.args.code) c.args.i z (c.requires.1 z (omega arith)) c.loop-z.invariant
 
 pub returns : goal.returns
 returns c =
@@ -26,20 +26,20 @@ returns c =
 
 -- ---- what fits
 pub overflow_mul-sum : goal.overflow_mul-sum
-overflow_mul-sum c = omega (arith, D-high _ c.requires.0)
+overflow_mul-sum c = omega (arith, D-high _ c.args.code.sound)
 
 pub overflow_mul-sum-2 : goal.overflow_mul-sum-2
 overflow_mul-sum-2 c =
     let C : Code = meaning c.args.code in
-    omega (arith, before_any_row C c.args.i, sum_bound C c.args.i c.requires.0 c.requires.1 0 (omega arith))
+    omega (arith, before_any_row C c.args.i, sum_bound C c.args.i c.args.code.sound c.requires.0 0 (omega arith))
 
 pub sum_after_row-sum-requires : goal.sum_after_row-sum-requires
 sum_after_row-sum-requires c =
     let z = c.loop-z.z in
     let C : Code = meaning c.args.code in
-    let sound = c.requires.0 in (
-      omega (arith, c.requires.2 z (omega arith), weight_le C.n (C.row z), sound.n_high),
-      omega (arith, c.requires.1, last_codeword_bound C sound),
+    let sound = c.args.code.sound in (
+      omega (arith, c.requires.1 z (omega arith), weight_le C.n (C.row z), sound.n_high),
+      omega (arith, c.requires.0, last_codeword_bound C sound),
       omega (arith, sound.k_high),
-      omega (arith, c.loop-z.invariant, sum_bound C c.args.i sound c.requires.1 z (omega arith)),
+      omega (arith, c.loop-z.invariant, sum_bound C c.args.i sound c.requires.0 z (omega arith)),
     )

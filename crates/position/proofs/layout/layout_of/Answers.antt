@@ -10,7 +10,7 @@ use Rattle.position.proofs.layout.layout_of.Goals.{Start}
 use Rattle.position.proofs.layout.layout_of.Goals as goal
 
 short : (c : Start) → word_bits (meaning c.args.code) ≤ 320
-short c = word_bits_bound (meaning c.args.code) c.requires
+short c = word_bits_bound (meaning c.args.code) c.args.code.sound
 
 pub overflow_add-separator2 : goal.overflow_add-separator2
 overflow_add-separator2 c = omega (arith, short c)
@@ -33,6 +33,6 @@ returns c =
       separator₃_at = refl;
       bits_are = omega arith;
       fits = short c;
-      separator_fits = omega (arith, D-high (meaning c.args.code) c.requires);
-      chunk_fits = c.requires.n_high;
+      separator_fits = omega (arith, D-high (meaning c.args.code) c.args.code.sound);
+      chunk_fits = c.args.code.sound.n_high;
     }

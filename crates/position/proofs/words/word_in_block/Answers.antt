@@ -18,7 +18,7 @@ place_after-requires c =
     let d = word_bits C in
     let u = word C c.args.i in
     let v = word C c.args.next in
-    let longer = distance_longer (cut d u) (cut d v) {a = d} {d = 320} (word_bits_bound C c.requires.sound) in
+    let longer = distance_longer (cut d u) (cut d v) {a = d} {d = 320} (word_bits_bound C c.args.code.sound) in
     rw (fun_ext c.word_of-u.ensures, fun_ext c.word_of-v.ensures)
     (omega (arith, longer, distance_cut d d u v (omega arith)))
 

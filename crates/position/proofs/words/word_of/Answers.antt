@@ -20,13 +20,13 @@ five : (c : After-codeword-c)
 five c = chunks_of_word _ _ _ _ c.separator-parity.ensures c.codeword-c.ensures
 
 pub separator-parity-requires : goal.separator-parity-requires
-separator-parity-requires c = omega (arith, D-high (meaning c.args.code) c.requires)
+separator-parity-requires c = omega (arith, D-high (meaning c.args.code) c.args.code.sound)
 
 pub put_down-requires : goal.put_down-requires
 put_down-requires c =
     let C = meaning c.args.code in
     record {
-      room = (c.requires.n_high, omega (arith, D-high C c.requires), omega (arith, word_bits_bound C c.requires));
+      room = (c.args.code.sound.n_high, omega (arith, D-high C c.args.code.sound), omega (arith, word_bits_bound C c.args.code.sound));
       five = (_, five c);
     }
 

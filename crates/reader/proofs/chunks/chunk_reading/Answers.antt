@@ -14,13 +14,13 @@ use Rattle.reader.proofs.chunks.chunk_reading.Goals as goal
 
 pub bits_at-bits-requires : goal.bits_at-bits-requires
 bits_at-bits-requires c =
-    let sound = c.requires.0 in
-    (omega (arith, c.requires.1, word_bits_bound (meaning c.args.code) sound), sound.n_high)
+    let sound = c.args.code.sound in
+    (omega (arith, c.requires, word_bits_bound (meaning c.args.code) sound), sound.n_high)
 
 pub bits_at-unerased-requires : goal.bits_at-unerased-requires
 bits_at-unerased-requires c =
-    let sound = c.requires.0 in
-    (omega (arith, c.requires.1, word_bits_bound (meaning c.args.code) sound), sound.n_high)
+    let sound = c.args.code.sound in
+    (omega (arith, c.requires, word_bits_bound (meaning c.args.code) sound), sound.n_high)
 
 pub returns : goal.returns
 returns c =

@@ -2,7 +2,6 @@
 -- codeword, its number is within the code, by the chunk promise. Assumes nothing.
 use mathlib.Core.Path.{◌≡◌, refl, sym, ap, ◌∙◌}
 use Prim.Native.Nat.{ℕ, ◌+◌}
-use native.Mathlib.Omega.{arith}
 use Rattle.bits.specs.Sums.{from_place, marked}
 use Rattle.bits.specs.Places.{place}
 use Rattle.model.specs.Card.{Code}
@@ -46,67 +45,55 @@ told_none (Some read) is = cc
 told_none None is = (refl, cc)
 
 -- by rule 1
-pub chunk_reading-requires : goal.chunk_reading-requires
-chunk_reading-requires c = let (sound, laid) = c.requires in (sound, omega (arith, laid.chunk₁_at))
-
 pub returns-in_err-read-in-First : goal.returns-in_err-read-in-First
 unfolding ReadsNamed
 returns-in_err-read-in-First c =
     let p = err_from_is_err_and c.from_residual.result c.from_residual.ensures.1 in
     let (unread, refused) = told_none _ c.in_err-read-in-First.ensures in
     rw (p.1, p.2, refused, c.in-First.is)
-    (λ s sees R residual. rule₁_unreadable s R residual (sees.first ∙ chunk₁_read _ _ _ c.requires.1 _ refl ∙ unread))
+    (λ s sees R residual. rule₁_unreadable s R residual (sees.first ∙ chunk₁_read _ _ _ c.requires _ refl ∙ unread))
 
 pub returns-in_ok-read-in-First : goal.returns-in_ok-read-in-First
 unfolding ReadsNamed
 returns-in_ok-read-in-First c =
-    let codeword = chunk₁_read _ _ _ c.requires.1 _ refl ∙ told_some _ c.in_ok-read-in-First.ensures in
+    let codeword = chunk₁_read _ _ _ c.requires _ refl ∙ told_some _ c.in_ok-read-in-First.ensures in
     rw c.in-First.is (
-      (((promise (meaning c.args.code) c.requires.0).chunks _).within _ _ _ codeword).0,
+      (((promise (meaning c.args.code) c.args.code.sound).chunks _).within _ _ _ codeword).0,
       λ s sees. rule₁_read s _ _ (sees.first ∙ codeword),
     )
 
 -- by rule 2
-pub chunk_reading-requires-in-Second : goal.chunk_reading-requires-in-Second
-chunk_reading-requires-in-Second c = let (sound, laid) = c.requires in (sound, omega (arith, laid.chunk₂_at))
-
 pub returns-in_err-read-in-Second : goal.returns-in_err-read-in-Second
 unfolding ReadsNamed
 returns-in_err-read-in-Second c =
     let p = err_from_is_err_and c.from_residual-in_err-read-in-Second.result c.from_residual-in_err-read-in-Second.ensures.1 in
     let (unread, refused) = told_none _ c.in_err-read-in-Second.ensures in
     rw (p.1, p.2, refused, c.in-Second.is)
-    (λ s sees R residual. rule₂_unreadable s R residual (sees.second ∙ chunk₂_read _ _ _ c.requires.1 _ refl ∙ unread))
+    (λ s sees R residual. rule₂_unreadable s R residual (sees.second ∙ chunk₂_read _ _ _ c.requires _ refl ∙ unread))
 
 pub returns-in_ok-read-in-Second : goal.returns-in_ok-read-in-Second
 unfolding ReadsNamed
 returns-in_ok-read-in-Second c =
-    let codeword = chunk₂_read _ _ _ c.requires.1 _ refl ∙ told_some _ c.in_ok-read-in-Second.ensures in
+    let codeword = chunk₂_read _ _ _ c.requires _ refl ∙ told_some _ c.in_ok-read-in-Second.ensures in
     rw c.in-Second.is (
-      (((promise (meaning c.args.code) c.requires.0).chunks _).within _ _ _ codeword).0,
+      (((promise (meaning c.args.code) c.args.code.sound).chunks _).within _ _ _ codeword).0,
       λ s sees. rule₂_read s _ _ (sees.second ∙ codeword),
     )
 
 -- by rule 3
-pub chunk_reading-requires-in-Third : goal.chunk_reading-requires-in-Third
-chunk_reading-requires-in-Third c = let (sound, laid) = c.requires in (sound, omega (arith, laid.chunk₁_at))
-
 pub returns-in_err-first-in-Third : goal.returns-in_err-first-in-Third
 unfolding ReadsNamed
 returns-in_err-first-in-Third c =
     let p = err_from_is_err_and c.from_residual-in_err-first-in-Third.result c.from_residual-in_err-first-in-Third.ensures.1 in
     let (unread, refused) = told_none _ c.in_err-first-in-Third.ensures in
     rw (p.1, p.2, refused, c.in-Third.is)
-    (λ s sees R residual. rule₃_unreadable s R residual (sees.first ∙ chunk₁_read _ _ _ c.requires.1 _ refl ∙ unread))
+    (λ s sees R residual. rule₃_unreadable s R residual (sees.first ∙ chunk₁_read _ _ _ c.requires _ refl ∙ unread))
 
 -- where chunk 1 reads as a codeword
 module _ (c : In_ok-first-in-Third) where
-  codeword₁ : reading_at (meaning c.args.code) c.args.x c.args.at c.requires.1 (meaning c.args.code).D
+  codeword₁ : reading_at (meaning c.args.code) c.args.x c.args.at c.requires (meaning c.args.code).D
       ≡ Codeword c.in_ok-first-in-Third.first.number c.in_ok-first-in-Third.first.differing
-  codeword₁ = chunk₁_read _ _ _ c.requires.1 _ refl ∙ told_some _ c.in_ok-first-in-Third.ensures
-
-pub chunk_reading-requires-in-Third-2 : goal.chunk_reading-requires-in-Third-2
-chunk_reading-requires-in-Third-2 c = let (sound, laid) = c.requires in (sound, omega (arith, laid.chunk₂_at))
+  codeword₁ = chunk₁_read _ _ _ c.requires _ refl ∙ told_some _ c.in_ok-first-in-Third.ensures
 
 pub returns-in_err-second-in-Third : goal.returns-in_err-second-in-Third
 unfolding ReadsNamed
@@ -117,14 +104,14 @@ returns-in_err-second-in-Third c =
     rw (p.1, p.2, refused, c.in-Third.is)
     (λ s sees R residual.
     rule₃_second_unreadable s R residual _ _ (sees.first ∙ codeword₁ at)
-    (sees.second ∙ chunk₂_read _ _ _ c.requires.1 _ refl ∙ unread))
+    (sees.second ∙ chunk₂_read _ _ _ c.requires _ refl ∙ unread))
 
 -- where both do
 module _ (c : In_ok-second-in-Third) where
-  codeword₂ : reading_at (meaning c.args.code) c.args.x c.args.at c.requires.1
+  codeword₂ : reading_at (meaning c.args.code) c.args.x c.args.at c.requires
       ((meaning c.args.code).D + (meaning c.args.code).n + (meaning c.args.code).D)
       ≡ Codeword c.in_ok-second-in-Third.second.number c.in_ok-second-in-Third.second.differing
-  codeword₂ = chunk₂_read _ _ _ c.requires.1 _ refl ∙ told_some _ c.in_ok-second-in-Third.ensures
+  codeword₂ = chunk₂_read _ _ _ c.requires _ refl ∙ told_some _ c.in_ok-second-in-Third.ensures
 
 pub returns-then-first-second : goal.returns-then-first-second
 unfolding ReadsNamed
@@ -139,7 +126,7 @@ unfolding ReadsNamed
 returns-else-first-second c =
     let at = goal.at.returns-else-first-second c in
     rw c.in-Third.is (
-      (((promise (meaning c.args.code) c.requires.0).chunks _).within _ _ _ (codeword₁ at.In_ok-first-in-Third)).0,
+      (((promise (meaning c.args.code) c.args.code.sound).chunks _).within _ _ _ (codeword₁ at.In_ok-first-in-Third)).0,
       λ s sees.
           rule₃_read s _ _ _ _ (sees.first ∙ codeword₁ at.In_ok-first-in-Third) (sees.second ∙ codeword₂ at.In_ok-second-in-Third)
           c.if-first-second.false,

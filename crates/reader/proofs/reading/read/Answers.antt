@@ -97,11 +97,11 @@ by_rule-requires c =
     let counted = (goal.at.by_rule-requires c).After-ones_from in
     let held = c.plain-x in
     let unset = none_spare _ _ (whole counted) _ (spare counted) c.if-ones_from-ne0.false in
-    (c.requires, laid counted, nothing_spare (C counted) (received counted) held.result held.ensures (whole counted) unset)
+    (laid counted, nothing_spare (C counted) (received counted) held.result held.ensures (whole counted) unset)
 
 pub returns : goal.returns
 returns c =
     let counted = (goal.at.returns c).After-ones_from in
     let found = (goal.at.returns c).In_ok-named in
-    read_by_rule _ _ (whole counted) _ (spare counted) c.if-ones_from-ne0.false c.requires _ c.plain-x.ensures _
+    read_by_rule _ _ (whole counted) _ (spare counted) c.if-ones_from-ne0.false c.args.code.sound _ c.plain-x.ensures _
     (rw ((named found).separator, rule found) at c.by_rule.ensures)

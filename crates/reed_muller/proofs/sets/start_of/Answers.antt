@@ -17,4 +17,4 @@ unfolding sum_below weight those sets_of sets_up_to count_of_sets sets_before li
 entry c = entry_of_table (0 ∷ 1 ∷ 7 ∷ 22 ∷ 42 ∷ []) 5 sets_before refl c.args.size (omega (arith, c.requires))
 
 pub returns : goal.returns
-returns c = entry (goal.at.returns c).Start
+returns c = rw c.from.ensures (entry (goal.at.returns c).Start)

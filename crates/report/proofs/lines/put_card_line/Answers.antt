@@ -8,9 +8,9 @@ use Rattle.report.proofs.lines.put_card_line.Goals as goal
 pub returns-in-Ok : goal.returns-in-Ok
 unfolding ascii card_line
 returns-in-Ok c =
-    rw c.in-Ok.is
+    rw (c.in-Ok.is, ← c.from.ensures, ← c.from-in-Ok.ensures, ← c.from-in-Ok-2.ensures)
     (puts_within (puts_then (puts_then c.put_field.ensures c.put_field-in-Ok.ensures) c.put_last_field.ensures) (omega arith))
 
 pub returns-in-Err : goal.returns-in-Err
 unfolding ascii card_line
-returns-in-Err c = rw c.in-Err.is (puts_within c.put_last_field-in-Err.ensures (omega arith))
+returns-in-Err c = rw (c.in-Err.is, ← c.from-in-Err.ensures) (puts_within c.put_last_field-in-Err.ensures (omega arith))

@@ -8,4 +8,5 @@ use Rattle.report.proofs.lines.put_rule_and_bits.Goals as goal
 pub returns : goal.returns
 unfolding ascii rule_and_bits
 returns c =
-    puts_then (puts_then (puts_then c.put_field.ensures c.put_bits.ensures) c.put_bits-2.ensures) c.put_line_end.ensures
+    rw (← c.from.ensures)
+    (puts_then (puts_then (puts_then c.put_field.ensures c.put_bits.ensures) c.put_bits-2.ensures) c.put_line_end.ensures)

@@ -4,4 +4,4 @@ use Rattle.slot_queue.proofs.releases.is_clear.Goals as goal
 
 pub returns : goal.returns
 unfolding is_clear
-returns c = rw c.margin_of.ensures.0
+returns c = rw (c.from.ensures, c.from-2.ensures, c.from-3.ensures, c.margin_of.ensures.0)

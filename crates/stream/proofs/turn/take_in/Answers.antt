@@ -46,7 +46,6 @@ put_words-read-requires c =
     let room : c.args.n / c.word_length-w.result * 144 ≤ length args.out.now.text + length args.out.now.rest =
     rw (each measured) at c.requires.room in
     record {
-      sound = c.requires.sound;
       fits = (
         rw (each measured, length-take-le (args.start + args.n) args.input.now c.requires.within.1)
             (omega (arith, div-mul-le_self args.n c.word_length-w.result)),

@@ -7,6 +7,6 @@ loop-i-init g c = λ asked computes. no_answers _ _
 
 pub loop-i-preserved : goal.loop-i-preserved
 loop-i-preserved g c = λ asked computes.
-    let few = c.requires.placed.0.few in
+    let few = c.requires.placed.few in
     rw (c.loop-i.invariant asked computes, computes _ _ c.test.ensures, c.widened_stretch.ensures)
-    (one_answer_more asked (wide_at c.args.margin c.args.last c.args.trams.now) c.loop-i.i (omega arith))
+    (one_answer_more asked (wide_at c.args.track.margin c.args.track.last c.args.trams.now) c.loop-i.i (omega arith))

@@ -10,4 +10,4 @@ use Rattle.trams.proofs.each_tram.answers.Given as goal
 abbrev pub invariant-loop-i : goal.invariant-loop-i
 invariant-loop-i g l =
     (asked : Stretch → Bool) → Computes (goal.F-post g l.test) asked
-    → l.yes ≡ answers_by asked (wide_at l.margin l.last l.trams) l.i
+    → l.yes ≡ answers_by asked (wide_at l.track.margin l.track.last l.trams) l.i

@@ -6,4 +6,4 @@ use Rattle.trams.proofs.nearest.nearest.Goals as goal
 pub returns-in_err-refusal_of : goal.returns-in_err-refusal_of
 returns-in_err-refusal_of c =
     let p = err_from_is_err_and c.from_residual.result c.from_residual.ensures.1 in
-    rw (p.1, p.2) (nearest_refused _ _ _ c.last_position-last.ensures _ c.in_err-refusal_of.ensures)
+    rw (p.1, p.2) (nearest_refused _ _ _ c.of-track.ensures.last _ c.in_err-refusal_of.ensures)

@@ -17,7 +17,7 @@ loop-i-init c = (omega arith, search (rules, gets), refl)
 
 pub goes_before-requires : goal.goes_before-requires
 goes_before-requires c =
-    let placed = c.requires.0 in (
+    let placed = c.requires in (
       rw c.widened_stretch-s.ensures (wide_in_order _ _ _ placed c.loop-i.i (omega arith)),
       rw c.loop-i.invariant.1 (wide_in_order _ _ _ placed c.loop-i.place (omega arith)),
     )

@@ -9,5 +9,5 @@ use Rattle.trams.proofs.nearest.nearest_of.Given as goal
 
 abbrev pub invariant-loop-i : goal.invariant-loop-i
 invariant-loop-i l =
-    (l.place < l.i) × (l.kept ≡ wide_at l.margin l.last l.trams l.place)
-    × (nearest_of l.mark (wide_at l.margin l.last l.trams) l.i ≡ Some l.place)
+    (l.place < l.i) × (l.kept ≡ wide_at l.track.margin l.track.last l.trams l.place)
+    × (nearest_of l.mark (wide_at l.track.margin l.track.last l.trams) l.i ≡ Some l.place)

@@ -12,5 +12,6 @@ unfolding any_misplaced
 returns-else-misplaced c =
     let test : Stretch → Bool = λ s. misplaced_pair c.args.last s.low s.high in
     rw (sym c.misplaced.ensures ∙ c.if-misplaced.false)
-    (any_from_yields_List test _ _ c.any.result c.any.ensures.ran (YieldsList-from_slice c.args.trams.now c.iter.ensures.rest) (λ s answer after given. (search rules, search (rules, tests)))
+    (any_from_yields_List test _ _ c.any.result c.any.ensures.ran (YieldsList-from_slice c.args.trams.now c.iter.ensures.rest)
+    (λ s answer after given. (search rules, search (rules, tests)))
     ∙ any_of_all test c.args.trams.now _)

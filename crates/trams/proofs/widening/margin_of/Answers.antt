@@ -6,7 +6,7 @@ use Rattle.trams.proofs.widening.margin_of.Goals.{After-radius_of}
 use Rattle.trams.proofs.widening.margin_of.Goals as goal
 
 radius_bound : (c : After-radius_of) → c.radius_of.result ≤ 31
-radius_bound c = omega (arith, c.radius_of.ensures, D-high _ c.requires, c.requires.n_high)
+radius_bound c = omega (arith, c.radius_of.ensures, D-high _ c.args.code.sound, c.args.code.sound.n_high)
 
 pub overflow_mul-result : goal.overflow_mul-result
 overflow_mul-result c = omega (arith, radius_bound c)
