@@ -11,8 +11,8 @@ ghost use Rattle.card_request.specs.Request.{refusal_text, request_status, reque
 use std::error::Error;
 use std::fmt;
 
-// Why no card is made: a text is no number, or one that does not fit, or the code is outside the limits. Each has a number: 101, 102 and
-// 103 for the texts, and 13 of document 02.
+// Why no card is made: a text is no number, or one that does not fit, or the code is outside the limits. The definitions number them: 101,
+// 102 and 103 for the texts, and 13 of document 02.
 #[derive(Clone, Copy, Debug, PartialEq, Eq)]
 pub enum RequestRefusal {
     NotATrack,

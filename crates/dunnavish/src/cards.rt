@@ -8,6 +8,9 @@ ghost use Rattle.dunnavish.specs.Decoding.{card_left};
 
 use super::WRONG_COUNT;
 
+// How many numbers a card's check answers.
+const CARD_VALUES: usize = 7;
+
 // Checks a card: n, k, track, D, t, d and last position into seven numbers.
 #[unsafe(no_mangle)]
 pub extern "C" fn dunnavish_check_card(card: &[u8], values: &mut [u32]) -> u32
@@ -17,7 +20,7 @@ pub extern "C" fn dunnavish_check_card(card: &[u8], values: &mut [u32]) -> u32
     ensures promises { length values.old ≡ card_count
         → CheckPromises card.now (card_left result values.new) }
 {
-    if values.len() != 7 {
+    if values.len() != CARD_VALUES {
         return WRONG_COUNT;
     }
     match depot::check_card(card) {

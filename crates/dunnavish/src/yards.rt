@@ -130,14 +130,11 @@ fn release_value(release: Release) -> u32
 }
 
 // Whether a release is accepted.
+#[tactic(auto, unfolding(model::specs::ReleaseTrack::accepted_release))]
 fn is_accepted(release: Release) -> bool
     ensures { result ≡ accepted_release release }
 {
-    match release {
-        Release::NotClear => false,
-        Release::Freed => true,
-        Release::HandedTo(_) => true,
-    }
+    !matches!(release, Release::NotClear)
 }
 
 // A tram releases the track of a card by its word: 0 if it is not clear, 1 if the track is freed, 2 if it is handed on, into one number.

@@ -3,13 +3,12 @@
 ghost use Rattle.std.specs.Prelude.{◌≡◌, ◌+◌, ◌≤◌};
 ghost use Rattle.bits.specs.Sums.{from_place};
 ghost use Rattle.bits.specs.Places.{place};
-ghost use Rattle.model.specs.Decoded.{meaning};
+ghost use Rattle.model.specs.Card.{Code};
 ghost use Rattle.model.specs.Reading.{majority, seen, rule_of, separator_of, parity_differs};
 ghost use Rattle.position.specs.LayoutOf.{LayoutOf};
 ghost use Rattle.nearest_position.specs.RuleNumbers.{rule_number, number_or_0};
 ghost use Rattle.reader.specs.Naming.{Names, NamesOf};
 
-use model::DecodedCode;
 use nearest_position::rule::Rule;
 use position::layout::Layout;
 use position::places;
@@ -65,14 +64,14 @@ fn separator_at(w: [u8; 40], at: u32, distance: u32) -> u32
     u32::from(distance < 2 * places::ones_from(w, at, distance))
 }
 
-// What the separators of a plain word name, by its bits.
-pub fn named_rule(code: DecodedCode, at: Layout, bits: [u8; 40]) -> Option<NamedRule>
-    requires { LayoutOf (meaning code) at }
-    ensures { NamesOf (seen (meaning code) (place bits)) result }
+// What the separators of a plain word name, by its bits. It takes D and the layout of any code, also of one that no sound card gives.
+pub fn named_rule(distance: u32, at: Layout, bits: [u8; 40]) -> Option<NamedRule>
+    requires { (C : Code) × (distance ≡ C.D) × LayoutOf C at }
+    ensures { (C : Code) → distance ≡ C.D → LayoutOf C at → NamesOf (seen C (place bits)) result }
 {
-    let s1 = separator_at(bits, 0, code.distance);
-    let s2 = separator_at(bits, at.separator2, code.distance);
-    let s3 = separator_at(bits, at.separator3, code.distance);
+    let s1 = separator_at(bits, 0, distance);
+    let s2 = separator_at(bits, at.separator2, distance);
+    let s3 = separator_at(bits, at.separator3, distance);
     named_by(s1, s2, s3)
 }
 

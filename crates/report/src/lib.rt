@@ -1,4 +1,4 @@
-// The text that tramread prints: each function puts its text into a lent buffer and answers the next place.
+// The text that tramread prints: each function puts a line behind those that stand in a lent buffer.
 #![tactic(auto)]
 
 pub mod lines;

@@ -17,15 +17,12 @@ use report::text::Text;
 fn count_if_read(answer: Result<Reading, Refusal>) -> u64
     ensures { (result ≡ count_if_read answer) × (result ≤ 1) }
 {
-    match answer {
-        Ok(_) => 1,
-        Err(_) => 0,
-    }
+    u64::from(answer.is_ok())
 }
 
 // Puts the lines of the `words` words that stand in the lent bytes from place `start` on, numbered on from `met`, the number of words
-// before them, and answers how many of the words were read. The form is that of a part from the middle: for each word `&bytes[from..to]`
-// is lent, a part that starts in the middle of the lent bytes, and the reader's promise names that part.
+// before them, and answers how many of the words were read. Document 01 names the form, a part from the
+// middle: for each word `&bytes[from..to]` is lent, which starts in the middle of the lent bytes, and the reader's promise names that part.
 pub fn put_words(
     out: &mut Text,
     code: DecodedCode,

@@ -23,10 +23,7 @@ use word_loop::{INPUT, LINES};
 // Whether the program was given an argument. The name that it was called by stands before them. (tramcard's, of any number of arguments,
 // is its own: a crate for both would hold this one function, of which no contract can speak.)
 fn has_argument(rt: &HostRuntime) -> bool {
-    match rt.arg(1, &mut []) {
-        Err(FillError::NotPresent) => false,
-        _ => true,
-    }
+    !matches!(rt.arg(1, &mut []), Err(FillError::NotPresent))
 }
 
 // Prints on standard error how the program is used.

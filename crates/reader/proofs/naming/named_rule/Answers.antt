@@ -8,11 +8,10 @@ use Rattle.reader.proofs.naming.named_rule.Goals as goal
 
 pub returns : goal.returns
 unfolding seen
-returns c =
-    let at = c.requires in
+returns c C is laid =
     let args = c.args in
-    let s₁ : c.separator_at-s1.result ≡ majority args.code.distance (place args.bits) =
-    c.separator_at-s1.ensures ∙ ap (majority args.code.distance) (from_place_zero (place args.bits)) in
-    let s₂ = rw at.separator₂_at at c.separator_at-s2.ensures in
-    let s₃ = rw at.separator₃_at at c.separator_at-s3.ensures in
+    let s₁ : c.separator_at-s1.result ≡ majority C.D (place args.bits) =
+    (rw is at c.separator_at-s1.ensures) ∙ ap (majority C.D) (from_place_zero (place args.bits)) in
+    let s₂ = rw (is, laid.separator₂_at) at c.separator_at-s2.ensures in
+    let s₃ = rw (is, laid.separator₃_at) at c.separator_at-s3.ensures in
     rw (s₁, s₂, s₃) at c.named_by.ensures

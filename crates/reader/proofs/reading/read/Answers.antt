@@ -1,6 +1,6 @@
 -- `reader::reading::read` meets its contract: refusals 6, 8 and 9, and then what the named rule answers, for the struct that holds the
 -- word. Assumes nothing.
-use mathlib.Core.Path.{◌≡◌, ◌∙◌, sym, fun_ext}
+use mathlib.Core.Path.{◌≡◌, ◌∙◌, refl, sym, fun_ext}
 use mathlib.Core.Bool.{not}
 use mathlib.Core.List.{List}
 use Prim.Native.Nat.{ℕ, ◌+◌, ◌*◌, ◌≤◌}
@@ -68,7 +68,7 @@ named : (c : In_ok-named)
     NamedBy s.s₁ s.s₂ s.s₃ c.in_ok-named.named
 named c =
     let is : c.named_rule.result ≡ Some c.in_ok-named.named = grind arith in
-    rw (fun_ext c.plain-x.ensures.bits_held) at (MatchOption-at_some _ _ _ is c.named_rule.ensures)
+    rw (fun_ext c.plain-x.ensures.bits_held) at (MatchOption-at_some _ _ _ is (c.named_rule.ensures (meaning c.args.code) refl c.layout_of-at.ensures))
 
 rule : (c : In_ok-named) → rule_number c.in_ok-named.named.rule ≡ rule_named (meaning c.args.code) (place c.args.word.now)
 unfolding rule_named
@@ -87,7 +87,7 @@ unfolding rule_named
 returns-in_err-named c =
     let counted = (goal.at.returns-in_err-named c).After-ones_from in
     let none : c.named_rule.result ≡ None = grind arith in
-    let unnamed = rw (fun_ext c.plain-x.ensures.bits_held) at (MatchOption-at_none _ _ none c.named_rule.ensures) in
+    let unnamed = rw (fun_ext c.plain-x.ensures.bits_held) at (MatchOption-at_none _ _ none (c.named_rule.ensures (meaning c.args.code) refl c.layout_of-at.ensures)) in
     let refused : c.in_err-named.field-0.0 ≡ record { number = 9 } = grind arith in
     let p = err_from_is_err_and c.from_residual.result c.from_residual.ensures.1 in
     rw (p.1, p.2, refused) (refused_9 _ _ (whole counted) _ (spare counted) c.if-ones_from-ne0.false unnamed)
