@@ -4,7 +4,7 @@ ghost use Rattle.model.specs.Levels.{outside, any_outside};
 
 use super::magnitudes;
 
-// Is a level outside? An infinite one is above the limit like any other, and only what is not a number differs from itself.
+// Is a level outside? An infinite one is above the limit like any other.
 fn level_is_outside(level: f32) -> bool
     ensures { result ≡ outside level }
 {

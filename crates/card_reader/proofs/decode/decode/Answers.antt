@@ -72,7 +72,9 @@ pub returns-then-has_misplaced : goal.returns-then-has_misplaced
 returns-then-has_misplaced c =
     let at = goal.at.returns-then-has_misplaced c in
     let test = sym (is_misplaced at.After-has_misplaced) ∙ c.if-has_misplaced.true in
-    record { number = refusal_4 _ (within at.Else-not-within_limits) c.if-card-ne-CARD_BYTES.false (checked at.Else-stored_check-computed_check) test; not_zero = λ e. omega arith }
+    let checked_card = checked at.Else-stored_check-computed_check in
+    let number = refusal_4 _ (within at.Else-not-within_limits) c.if-card-ne-CARD_BYTES.false checked_card test in
+    record { number = number; not_zero = λ e. omega arith }
 
 pub least_weight-distance-requires : goal.least_weight-distance-requires
 least_weight-distance-requires c =
@@ -84,7 +86,9 @@ returns-then-offset_is_outside c =
     let at = goal.at.returns-then-offset_is_outside c in
     let placed = sym (is_misplaced at.After-has_misplaced) ∙ c.if-has_misplaced.false in
     let test = sym (offset_is_outside at.After-offset_is_outside) ∙ c.if-offset_is_outside.true in
-    record { number = refusal_14 _ (within at.Else-not-within_limits) c.if-card-ne-CARD_BYTES.false (checked at.Else-stored_check-computed_check) placed test; not_zero = λ e. omega arith }
+    let checked_card = checked at.Else-stored_check-computed_check in
+    let number = refusal_14 _ (within at.Else-not-within_limits) c.if-card-ne-CARD_BYTES.false checked_card placed test in
+    record { number = number; not_zero = λ e. omega arith }
 
 pub returns-then-distance-eq0 : goal.returns-then-distance-eq0
 returns-then-distance-eq0 c =
