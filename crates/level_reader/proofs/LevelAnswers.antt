@@ -37,7 +37,7 @@ use Rattle.nearest_position.specs.Residuals.{residual_in}
 use Rattle.level_reader.specs.LevelWords.{LevelWordOf}
 use Rattle.level_reader.specs.declared.level_word.LevelWord.{LevelWord}
 use Rattle.model.specs.ReadWord.{ReadAnswer}
-use Rattle.std.specs.Prelude.{Ok, Err, Option}
+use Rattle.std.specs.Prelude.{Result, Ok, Err}
 use Rattle.model.specs.Refusals.{Refused}
 use Rattle.model.specs.declared.Refusal.{Refusal}
 
@@ -65,7 +65,7 @@ module _ (C : Code) (word : ℕ → ReceivedLevel) (w : LevelWord) (holds : Leve
   nothing_past p l unerased = holds.bits_are p ∙ cut_above (word_bits C) (bits_in word) p l
 
   -- the separators read by their sums name what they name by their levels
-  pub named_by_levels : (named : Option NamedRule) → Names (read_by_sum w.sum1) (read_by_sum w.sum2) (read_by_sum w.sum3) named
+  pub named_by_levels : (named : Result NamedRule ℕ) → Names (read_by_sum w.sum1) (read_by_sum w.sum2) (read_by_sum w.sum3) named
       → NamesOf (seen_in_levels C word) named
   unfolding seen_in_levels separator_reading
   named_by_levels named names = rw (holds.sum₁, holds.sum₂, holds.sum₃) at names

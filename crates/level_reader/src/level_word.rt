@@ -28,9 +28,10 @@ pub struct LevelWord {
 }
 
 impl LevelWord {
-    // What its three separators name, read by the sums of their levels: a rule with what the rule's separator reads, or none.
-    pub fn rule_by_sums(&self) -> Option<NamedRule>
-        ensures { Names (read_by_sum self.now.sum1) (read_by_sum self.now.sum2) (read_by_sum self.now.sum3) result }
+    // What its three separators name, read by the sums of their levels: a rule with what the rule's separator reads, or
+    // none with what separator 1 reads.
+    pub fn rule_by_sums(self) -> Result<NamedRule, u32>
+        ensures { Names (read_by_sum self.sum1) (read_by_sum self.sum2) (read_by_sum self.sum3) result }
     {
         let s1 = separators::read_by(self.sum1);
         let s2 = separators::read_by(self.sum2);

@@ -25,7 +25,7 @@ pub fn read_level_word(code: DecodedCode, levels: &[f32]) -> Result<LevelsReadin
         return Err(Refusal::LEVEL_LIMITS);
     }
     let received = level_word::word_of_levels(code, at, levels);
-    let named = received.rule_by_sums().ok_or(Refusal::NO_RULE)?;
+    let named = received.rule_by_sums().map_err(|_| Refusal::NO_RULE)?;
     let reading = reading::by_rule(code, at, received.word, named)?;
     Ok(LevelsReading {
         reading,

@@ -44,12 +44,13 @@ fn separator_of(rule: Rule, s1: u32, s3: u32) -> u32
     }
 }
 
-// What three separators name, by what they read.
-pub fn named_by(s1: u32, s2: u32, s3: u32) -> Option<NamedRule>
+// What three separators name, by what they read; where they name no rule, what separator 1 reads.
+#[tactic(auto, unfolding(model::specs::Reading::separator_of))]
+pub fn named_by(s1: u32, s2: u32, s3: u32) -> Result<NamedRule, u32>
     ensures { Names s1 s2 s3 result }
 {
-    let rule = rule_of(s1, s2, s3)?;
-    Some(NamedRule {
+    let rule = rule_of(s1, s2, s3).ok_or(s1)?;
+    Ok(NamedRule {
         rule,
         separator: separator_of(rule, s1, s3),
     })
@@ -65,7 +66,7 @@ fn separator_at(w: [u8; 40], at: u32, distance: u32) -> u32
 }
 
 // What the separators of a plain word name, by its bits. It takes D and the layout of any code, also of one that no sound card gives.
-pub fn named_rule(distance: u32, at: Layout, bits: [u8; 40]) -> Option<NamedRule>
+pub fn named_rule(distance: u32, at: Layout, bits: [u8; 40]) -> Result<NamedRule, u32>
     requires { (C : Code) × (distance ≡ C.D) × LayoutOf C at }
     ensures { (C : Code) → distance ≡ C.D → LayoutOf C at → NamesOf (seen C (place bits)) result }
 {

@@ -88,6 +88,6 @@ pub fn read(code: DecodedCode, word: &[u8]) -> Result<Reading, Refusal>
     if places::ones_from(x.bits, at.bits, 8 * len as u32 - at.bits) != 0 {
         return Err(Refusal::SPARE_BIT_SET);
     }
-    let named = naming::named_rule(code.distance, at, x.bits).ok_or(Refusal::NO_RULE)?;
+    let named = naming::named_rule(code.distance, at, x.bits).map_err(|_| Refusal::NO_RULE)?;
     by_rule(code, at, x, named)
 }

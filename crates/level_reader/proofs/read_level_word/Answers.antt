@@ -15,15 +15,14 @@ use Rattle.model.specs.Reading.{rule_seen, two_ends}
 use Rattle.model.specs.declared.ReceivedLevel.{ReceivedLevel}
 use Rattle.nearest_position.specs.Residuals.{residual_in}
 use Rattle.nearest_position.specs.RuleNumbers.{rule_number}
-use Rattle.std.specs.Prelude.{Some, None}
-use Rattle.std.proofs.lemmas.Option.{MatchOption-at_some, MatchOption-at_none}
+use Rattle.std.specs.Prelude.{Ok}
 use Rattle.reader.specs.declared.naming.NamedRule.{NamedRule}
 use Rattle.reader.specs.Naming.{NamesOf}
 use Rattle.reader.specs.RuleAnswers.{AnswersRule}
 use Rattle.level_reader.proofs.LevelAnswers.{answer_in_levels, nothing_past, named_by_levels, rule_of_levels}
 use Rattle.level_reader.proofs.LevelAnswers.{refused_15, refused_16, refused_9, word_read, rule_refused}
 use Rattle.level_reader.proofs.read_level_word.Goals.{After-rule_by_sums}
-use Rattle.std.proofs.lemmas.Result.{err_from_is_err_and}
+use Rattle.std.proofs.lemmas.Result.{MatchResult-at_ok, err_from_is_err_and}
 use Rattle.level_reader.proofs.read_level_word.Goals as goal
 use Rattle.model.specs.ReadWord.{ReadAnswer}
 
@@ -61,14 +60,14 @@ module _ (c : After-rule_by_sums) where
   names : NamesOf (seen_in_levels C word) c.rule_by_sums.result
   names = named_by_levels C word _ c.word_of_levels-received.ensures _ c.rule_by_sums.ensures
 
-  module _ (named : NamedRule) (is : c.rule_by_sums.result ≡ Some named) where
+  module _ (named : NamedRule) (is : c.rule_by_sums.result ≡ Ok named) where
     -- what the rule answers
     answered : (answer : ReadAnswer)
         → let received = c.word_of_levels-received.result.word in
         AnswersRule (two_ends C) C (residual_in C received) received (rule_number named.rule) named.separator answer
         → answer_in_levels C word (rule_seen (seen_in_levels C word)) ≡ answer
     answered answer by_named =
-        let known = MatchOption-at_some _ _ _ is names in
+        let known = MatchResult-at_ok _ _ _ is names in
         let by_rule = rw known.separator at by_named in
         ap (answer_in_levels C word) (sym known.rule)
         ∙ sym (rule_of_levels C word _ c.word_of_levels-received.ensures _ _ by_rule)
@@ -76,10 +75,10 @@ module _ (c : After-rule_by_sums) where
 pub returns-in_err-named : goal.returns-in_err-named
 returns-in_err-named c =
     let after = (goal.at.returns-in_err-named c).After-rule_by_sums in
-    let none : c.rule_by_sums.result ≡ None = grind arith in
+    let unnamed : rule_seen (seen_in_levels (C after) (word after)) ≡ 0 = grind (arith, names after) in
     let refused : c.in_err-named.field-0.0 ≡ record { number = 9 } = grind arith in
     let p = err_from_is_err_and c.from_residual.result c.from_residual.ensures.1 in
-    rw (p.1, p.2, refused) (refused_9 _ _ (whole after) (inside after) (MatchOption-at_none _ _ none (names after)))
+    rw (p.1, p.2, refused) (refused_9 _ _ (whole after) (inside after) unnamed)
 
 pub by_rule-requires : goal.by_rule-requires
 by_rule-requires c =
@@ -89,13 +88,13 @@ by_rule-requires c =
 pub returns : goal.returns
 returns c =
     let after = (goal.at.returns c).After-rule_by_sums in
-    let is : c.rule_by_sums.result ≡ Some c.in_ok-named.named = grind arith in
+    let is : c.rule_by_sums.result ≡ Ok c.in_ok-named.named = grind arith in
     rw c.word_of_levels-received.ensures.strength_is
     (word_read _ _ (whole after) (inside after) _ (answered after _ is _ c.by_rule.ensures ∙ c.in_ok-reading.was))
 
 pub returns-in_err-reading : goal.returns-in_err-reading
 returns-in_err-reading c =
     let after = (goal.at.returns-in_err-reading c).After-rule_by_sums in
-    let is : c.rule_by_sums.result ≡ Some c.in_ok-named.named = grind arith in
+    let is : c.rule_by_sums.result ≡ Ok c.in_ok-named.named = grind arith in
     let p = err_from_is_err_and c.from_residual-in_err-reading.result c.from_residual-in_err-reading.ensures.1 in
     rw (p.1, p.2) (rule_refused _ _ (whole after) (inside after) _ (answered after _ is _ c.by_rule.ensures ∙ c.in_err-reading.was))

@@ -16,9 +16,8 @@ use Rattle.model.specs.Reading.{seen, rule_named}
 use Rattle.position.specs.LayoutOf.{LayoutOf}
 use Rattle.reader.specs.Naming.{NamedBy}
 use Rattle.nearest_position.specs.RuleNumbers.{rule_number}
-use Rattle.std.specs.Prelude.{None, Some}
-use Rattle.std.proofs.lemmas.Option.{MatchOption-at_some, MatchOption-at_none}
-use Rattle.std.proofs.lemmas.Result.{err_from_is_err_and}
+use Rattle.std.specs.Prelude.{Ok}
+use Rattle.std.proofs.lemmas.Result.{MatchResult-at_ok, err_from_is_err_and}
 use Rattle.reader.proofs.ReadRefusals.{refused_6, none_spare, refused_8, refused_9, read_by_rule}
 use Rattle.reader.proofs.SpareBits.{spare_test, nothing_spare}
 use Rattle.reader.proofs.reading.read.Goals.{After-plain-x, After-ones_from, In_ok-named}
@@ -67,8 +66,8 @@ named : (c : In_ok-named)
     → let s = seen (meaning c.args.code) (place c.args.word.now) in
     NamedBy s.s₁ s.s₂ s.s₃ c.in_ok-named.named
 named c =
-    let is : c.named_rule.result ≡ Some c.in_ok-named.named = grind arith in
-    rw (fun_ext c.plain-x.ensures.bits_held) at (MatchOption-at_some _ _ _ is (c.named_rule.ensures (meaning c.args.code) refl c.layout_of-at.ensures))
+    let is : c.named_rule.result ≡ Ok c.in_ok-named.named = grind arith in
+    rw (fun_ext c.plain-x.ensures.bits_held) at (MatchResult-at_ok _ _ _ is (c.named_rule.ensures (meaning c.args.code) refl c.layout_of-at.ensures))
 
 rule : (c : In_ok-named) → rule_number c.in_ok-named.named.rule ≡ rule_named (meaning c.args.code) (place c.args.word.now)
 unfolding rule_named
@@ -86,8 +85,8 @@ pub returns-in_err-named : goal.returns-in_err-named
 unfolding rule_named
 returns-in_err-named c =
     let counted = (goal.at.returns-in_err-named c).After-ones_from in
-    let none : c.named_rule.result ≡ None = grind arith in
-    let unnamed = rw (fun_ext c.plain-x.ensures.bits_held) at (MatchOption-at_none _ _ none (c.named_rule.ensures (meaning c.args.code) refl c.layout_of-at.ensures)) in
+    let names = rw (fun_ext c.plain-x.ensures.bits_held) at (c.named_rule.ensures (meaning c.args.code) refl c.layout_of-at.ensures) in
+    let unnamed : rule_named (meaning c.args.code) (place c.args.word.now) ≡ 0 = grind (arith, names) in
     let refused : c.in_err-named.field-0.0 ≡ record { number = 9 } = grind arith in
     let p = err_from_is_err_and c.from_residual.result c.from_residual.ensures.1 in
     rw (p.1, p.2, refused) (refused_9 _ _ (whole counted) _ (spare counted) c.if-ones_from-ne0.false unnamed)
