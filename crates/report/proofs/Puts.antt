@@ -3,6 +3,7 @@ use Rattle.std.proofs.Common.{ℕ, ◌+◌, ◌-◌, ◌≤◌, ◌≡◌, refl,
 use Rattle.std.proofs.lemmas.Slice.{take-put_mid, drop-put_mid}
 use borrow.Rule.Slice.PartMut.{put_mid}
 use lib.Seq.{drop-drop}
+use Rattle.std.specs.Borrow.{GName}
 use Rattle.report.specs.Filled.{Filled}
 use Rattle.report.specs.Puts.{Puts}
 
@@ -13,24 +14,26 @@ module _ {a b : Filled} {text : List ℕ} {most : ℕ} (p : Puts a text most b) 
         bytes = q.bytes ∙ rw (p.bytes, append_assoc) refl;
         beyond = q.beyond ∙ rw (p.beyond, drop-drop, length-append) refl;
         short = omega arith;
-        same_buffer = omega arith;
+        same_capacity = omega arith;
+        same_buffer = q.same_buffer ∙ p.same_buffer;
       }
 
   pub puts_within : {limit : ℕ} → most ≤ limit → Puts a text limit b
-  puts_within within = record { bytes = p.bytes; beyond = p.beyond; short = omega arith; same_buffer = p.same_buffer }
+  puts_within within =
+      record { bytes = p.bytes; beyond = p.beyond; short = omega arith; same_capacity = p.same_capacity; same_buffer = p.same_buffer }
 
 pub puts_nothing : (a : Filled) (most : ℕ) → Puts a [] most a
-puts_nothing a most = record { bytes = rw append-nil; beyond = refl; short = omega arith; same_buffer = refl }
+puts_nothing a most = record { bytes = rw append-nil; beyond = refl; short = omega arith; same_capacity = refl; same_buffer = refl }
 
 -- one text put, or none
 pub ruleset puts_once = (puts_within, puts_nothing)
 
-pub puts_copied : (buffer text : List ℕ) (filled : ℕ) → filled + length text ≤ length buffer
+pub puts_copied : (buffer text : List ℕ) (filled : ℕ) (lent : GName) → filled + length text ≤ length buffer
     → let end : ℕ = filled + length text in
     let copied : List ℕ = put_mid filled (end - filled) buffer text in
-    Puts (record { text = take filled buffer; rest = drop filled buffer }) text (length text)
-    (record { text = take end copied; rest = drop end copied })
-puts_copied buffer text filled room =
+    Puts (record { text = take filled buffer; rest = drop filled buffer; lent = lent }) text (length text)
+    (record { text = take end copied; rest = drop end copied; lent = lent })
+puts_copied buffer text filled lent room =
     let end : ℕ = filled + length text in
     let copied : List ℕ = put_mid filled (end - filled) buffer text in
     let bytes : take end copied ≡ take filled buffer ++ text = take-put_mid filled (end - filled) buffer text end refl (omega arith) in
@@ -40,5 +43,6 @@ puts_copied buffer text filled room =
       bytes = bytes;
       beyond = beyond;
       short = rw bytes (simp length-append (omega arith));
-      same_buffer = rw (bytes, beyond) (simp (length-append, length-drop) (omega arith));
+      same_capacity = rw (bytes, beyond) (simp (length-append, length-drop) (omega arith));
+      same_buffer = refl;
     }

@@ -8,4 +8,5 @@ pub record Puts (before : Filled) (text : List ℕ) (most : ℕ) (after : Filled
   pub bytes : after.text ≡ before.text ++ text
   pub beyond : after.rest ≡ drop (length text) before.rest
   pub short : length after.text ≤ length before.text + most
-  pub same_buffer : capacity after ≡ capacity before
+  pub same_capacity : capacity after ≡ capacity before
+  pub same_buffer : after.lent ≡ before.lent

@@ -1,43 +1,35 @@
 // A text in a lent buffer, put together piece by piece: bytes as they are, a number in decimal, a label with a number, and a line's end.
 // The buffer is lent and not a `String`, since the programs use no heap.
 ghost use Rattle.std.specs.Prelude.{◌≡◌, [], ◌++◌, ◌+◌, ◌≤◌, length};
-ghost use Rattle.report.specs.Text.{decimal};
-ghost use Rattle.report.specs.Lines.{line_end};
-ghost use Rattle.report.specs.Filled.{unfilled};
-ghost use Rattle.report.specs.Puts.{Puts};
 
 use itoa::Buffer;
-use std::marker::Model;
 
-// The buffer, of which the first `filled` bytes are the text. A contract sees the text and the rest of the buffer.
+// The buffer, of which the first `filled` bytes are the text. A contract sees it as `filled_of` says: the text, the rest of the buffer,
+// and which buffer it is. So whoever lent the buffer knows what stands in it once the text has ended.
 #[derive(Drop)]
 pub struct Text<'a> {
     buffer: &'a mut [u8],
     filled: usize,
-}
-
-impl<'a> Model for Text<'a> {
-    ghost use Rattle.std.specs.Prelude.{◌≤◌, length, take, drop};
-    ghost use Rattle.report.specs.Filled.{Filled};
-
-    ghost Value = { Filled };
-
-    ghost view = { λ t. record { text = take t.filled t.buffer.now; rest = drop t.filled t.buffer.now } };
-
-    ghost invariant = { λ t. t.filled ≤ length t.buffer.now };
+    ghost inside: { filled ≤ length buffer.now },
 }
 
 impl<'a> Text<'a> {
+    ghost use Rattle.report.specs.Text.{decimal};
+    ghost use Rattle.report.specs.Lines.{line_end};
+    ghost use Rattle.report.specs.Filled.{filled_of, unfilled};
+    ghost use Rattle.report.specs.Puts.{Puts};
+
     // No text yet.
     pub fn new(buffer: &'a mut [u8]) -> Text<'a>
-        ensures { (result.text ≡ []) × (result.rest ≡ buffer.old) }
+        ensures no_text { ((filled_of result).text ≡ []) × ((filled_of result).rest ≡ buffer.old) }
+        ensures same_buffer { (filled_of result).lent ≡ buffer.entry.ghost_name }
     {
         Text { buffer, filled: 0 }
     }
 
     // The bytes of the text.
     pub fn as_bytes(&self) -> &[u8]
-        ensures { result.now ≡ self.now.text }
+        ensures { result.now ≡ (filled_of self.now).text }
     {
         let filled = self.filled;
         &self.buffer[..filled]
@@ -45,15 +37,15 @@ impl<'a> Text<'a> {
 
     // Begins again with no text.
     pub fn clear(&mut self)
-        ensures { self.new ≡ unfilled self.old }
+        ensures { filled_of self.new ≡ unfilled (filled_of self.old) }
     {
         self.filled = 0;
     }
 
     // Bytes as they are.
     pub fn put_bytes(&mut self, bytes: &[u8])
-        requires { length bytes.now ≤ length self.old.rest }
-        ensures { Puts self.old bytes.now (length bytes.now) self.new }
+        requires { length bytes.now ≤ length (filled_of self.old).rest }
+        ensures { Puts (filled_of self.old) bytes.now (length bytes.now) (filled_of self.new) }
     {
         let start = self.filled;
         let end = start + bytes.len();
@@ -64,8 +56,8 @@ impl<'a> Text<'a> {
 
     // A number in decimal.
     pub fn put_number(&mut self, value: u64)
-        requires { 20 ≤ length self.old.rest }
-        ensures { Puts self.old (decimal value) 20 self.new }
+        requires { 20 ≤ length (filled_of self.old).rest }
+        ensures { Puts (filled_of self.old) (decimal value) 20 (filled_of self.new) }
     {
         let mut digits = Buffer::new();
         self.put_bytes(digits.format(value).as_bytes());
@@ -73,8 +65,8 @@ impl<'a> Text<'a> {
 
     // A label and a number.
     pub fn put_field(&mut self, label: &[u8], value: u64)
-        requires { length label.now + 20 ≤ length self.old.rest }
-        ensures { Puts self.old (label.now ++ decimal value) (length label.now + 20) self.new }
+        requires { length label.now + 20 ≤ length (filled_of self.old).rest }
+        ensures { Puts (filled_of self.old) (label.now ++ decimal value) (length label.now + 20) (filled_of self.new) }
     {
         self.put_bytes(label);
         self.put_number(value);
@@ -83,17 +75,17 @@ impl<'a> Text<'a> {
     // The end of a line.
     #[tactic(auto, unfolding(crate::specs::Text::ascii))]
     pub fn put_line_end(&mut self)
-        requires { 1 ≤ length self.old.rest }
-        ensures { Puts self.old line_end 1 self.new }
+        requires { 1 ≤ length (filled_of self.old).rest }
+        ensures { Puts (filled_of self.old) line_end 1 (filled_of self.new) }
     {
         self.put_bytes(b"\n");
     }
 
     // The last label and number of a line, and the line's end.
     pub fn put_last_field(&mut self, label: &[u8], value: u64)
-        requires { length label.now + 21 ≤ length self.old.rest }
-        ensures { Puts self.old (label.now ++ decimal value ++ line_end) (length label.now + 21)
-            self.new }
+        requires { length label.now + 21 ≤ length (filled_of self.old).rest }
+        ensures { Puts (filled_of self.old) (label.now ++ decimal value ++ line_end) (length label.now + 21)
+            (filled_of self.new) }
     {
         self.put_field(label, value);
         self.put_line_end();

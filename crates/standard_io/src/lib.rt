@@ -1,6 +1,6 @@
 // Standard input and standard output of a program. A call of the system's that was interrupted is made again; any other failure goes to
-// the caller, and a program ends with a line on standard error that says what failed and why. What a call reads or writes is the
-// system's: no contract speaks of it.
+// the caller, and a program ends with a line on standard error that says what failed and why (`Failure::tell`). What a call reads or
+// writes is the system's: no contract speaks of it.
 #![tactic(auto)]
 
 ghost use Rattle.std.specs.Prelude.{◌≡◌, ◌≤◌, ◌<◌, length, IfOk};
@@ -35,12 +35,33 @@ pub enum Failure {
     Writing(io::Error),
 }
 
+impl Failure {
+    // What was being done, and the system's reason.
+    fn parts(self) -> (&'static str, Reason) {
+        match self {
+            Failure::Reading(error) => ("reading standard input", Reason(error)),
+            Failure::Writing(error) => ("writing standard output", Reason(error)),
+        }
+    }
+
+    // Tells of the failure on standard error: a line behind the program's name. Each piece of it is tried, also where standard error
+    // did not take one before it; where it takes none, nothing is left to say so on.
+    pub fn tell(self, rt: &HostRuntime, program: &str) {
+        let (doing, reason) = self.parts();
+        let mut begun = Cursor::new([0; 64]);
+        let _ = write!(begun, "{program}: {doing}");
+        let end = (begun.position() as usize).min(64);
+        let _ = Write::write_all(&mut rt.stderr(), &begun.get_ref()[..end]);
+        let _ = Write::write_all(&mut rt.stderr(), b": ");
+        let _ = write!(rt.stderr(), "{reason}");
+        let _ = Write::write_all(&mut rt.stderr(), b"\n");
+    }
+}
+
 impl fmt::Display for Failure {
     fn fmt<W: fmt::Write>(&self, f: &mut fmt::Formatter<W>) -> fmt::Result {
-        match self {
-            Failure::Reading(error) => write!(f, "reading standard input: {}", Reason(*error)),
-            Failure::Writing(error) => write!(f, "writing standard output: {}", Reason(*error)),
-        }
+        let (doing, reason) = self.parts();
+        write!(f, "{doing}: {reason}")
     }
 }
 

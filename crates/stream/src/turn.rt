@@ -3,7 +3,7 @@
 ghost use Rattle.std.specs.Prelude.{◌≡◌, ◌++◌, ◌+◌, ◌*◌, ◌/◌, ◌^◌, ◌≤◌, ◌<◌, length, take, drop};
 ghost use Rattle.model.specs.Words.{word_length};
 ghost use Rattle.model.specs.Decoded.{meaning};
-ghost use Rattle.report.specs.Filled.{capacity, unfilled};
+ghost use Rattle.report.specs.Filled.{filled_of, capacity, unfilled};
 ghost use Rattle.report.specs.Lines.{short_line, last_line, line_room};
 ghost use Rattle.report.specs.Puts.{Puts};
 ghost use Rattle.stream.specs.Streamed.{Follows, Completes};
@@ -35,11 +35,11 @@ pub fn take_in(
     before: Progress,
 ) -> Progress
     requires within { (before.held ≤ n) × (start + n ≤ length input.old) × (before.read ≤ before.met) }
-    requires room { n / word_length (meaning code) * line_room ≤ capacity out.old }
+    requires room { n / word_length (meaning code) * line_room ≤ capacity (filled_of out.old) }
     requires met_fits { before.met + n / word_length (meaning code) < 2 ^ 64 }
     ensures taken { TakenIn (meaning code) (take n (drop start input.old)) before
-        (drop start input.new) (unfilled out.old) out.new result }
-    ensures follows { Follows (meaning code) (drop start input.old) n before out.new.text
+        (drop start input.new) (unfilled (filled_of out.old)) (filled_of out.new) result }
+    ensures follows { Follows (meaning code) (drop start input.old) n before (filled_of out.new).text
         (drop start input.new) result }
 {
     let w = layout::word_length(code);
@@ -57,12 +57,25 @@ pub fn take_in(
 
 // The end of the report, which is all that is then in `out`: the bytes short of a word, and the last line.
 pub fn put_end(out: &mut Text, progress: Progress)
-    requires { 2 * line_room ≤ capacity out.old }
-    ensures put { Puts (unfilled out.old) (short_line progress.held ++ last_line progress.met progress.read)
-        (2 * line_room) out.new }
-    ensures whole { Completes progress out.new.text }
+    requires { 2 * line_room ≤ capacity (filled_of out.old) }
+    ensures put { Puts (unfilled (filled_of out.old)) (short_line progress.held ++ last_line progress.met progress.read)
+        (2 * line_room) (filled_of out.new) }
+    ensures whole { Completes progress (filled_of out.new).text }
 {
     out.clear();
     lines::put_short_line(out, progress.held as u64);
     lines::put_last_line(out, progress.met, progress.read);
+}
+
+// The end of the report alone, at the front of a buffer: how many bytes it takes. What a `Text` is filled with stands in the buffer that
+// was lent, and whoever lent it knows so once the text has ended. No program needs this function: it shows that the promises above say it.
+fn end_in(buffer: &mut [u8], progress: Progress) -> usize
+    requires { 2 * line_room ≤ length buffer.old }
+    ensures end { take result buffer.new ≡ short_line progress.held ++ last_line progress.met progress.read }
+    ensures behind { drop result buffer.new ≡ drop result buffer.old }
+    ensures whole { Completes progress (take result buffer.new) }
+{
+    let mut out = Text::new(buffer);
+    put_end(&mut out, progress);
+    out.as_bytes().len()
 }

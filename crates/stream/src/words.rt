@@ -2,6 +2,7 @@
 ghost use Rattle.std.specs.Prelude.{◌≡◌, ◌+◌, ◌*◌, ◌^◌, ◌≤◌, ◌<◌, length, drop};
 ghost use Rattle.model.specs.Words.{word_length};
 ghost use Rattle.model.specs.Decoded.{meaning};
+ghost use Rattle.report.specs.Filled.{filled_of};
 ghost use Rattle.report.specs.Lines.{line_room};
 ghost use Rattle.report.specs.Puts.{Puts};
 ghost use Rattle.report.specs.Report.{count_if_read, word_lines, words_read};
@@ -31,10 +32,10 @@ pub fn put_words(
     met: u64,
     words: usize,
 ) -> u64
-    requires fits { (start + words * word_length (meaning code) ≤ length bytes.now) × (words * line_room ≤ length out.old.rest)
-        × (met + words < 2 ^ 64) }
-    ensures puts { Puts out.old (word_lines (meaning code) (drop start bytes.now) met words)
-        (words * line_room) out.new }
+    requires fits { (start + words * word_length (meaning code) ≤ length bytes.now)
+        × (words * line_room ≤ length (filled_of out.old).rest) × (met + words < 2 ^ 64) }
+    ensures puts { Puts (filled_of out.old) (word_lines (meaning code) (drop start bytes.now) met words)
+        (words * line_room) (filled_of out.new) }
     ensures counted { (result ≡ words_read (meaning code) (drop start bytes.now) words) × (result ≤ words) }
 {
     let w = layout::word_length(code);

@@ -4,11 +4,10 @@
 // The stored args are track 14, r 1 and m 4, and stdout is that card: n is 16, k is 5 and D is 8.
 #![tactic(auto)]
 
-ghost use Rattle.std.specs.Prelude.{◌≡◌};
+ghost use Rattle.std.specs.Prelude.{◌≡◌, ◌≤◌, length};
 ghost use Rattle.card_request.specs.Request.{request_answer};
 
 use std::env::FillError;
-use std::io::Write;
 use std::rt::Env;
 
 // How many bytes an argument has at most: the system hands a program no longer one.
@@ -21,7 +20,9 @@ fn has_argument(rt: &HostRuntime, number: usize) -> bool {
 
 // An argument's text, put at the front of the buffer. One that is missing, or has no room in the buffer, counts as an empty one, which
 // is no number.
-fn argument<'a>(rt: &HostRuntime, number: usize, buffer: &'a mut [u8]) -> &'a [u8] {
+fn argument<'a>(rt: &HostRuntime, number: usize, buffer: &'a mut [u8]) -> &'a [u8]
+    ensures { length result.now ≤ length buffer.old }
+{
     let end = rt.arg(number, buffer).unwrap_or(0);
     &buffer[..end]
 }
@@ -31,7 +32,7 @@ fn put_out_card(rt: &HostRuntime, track: &[u8], r: &[u8], m: &[u8], card: &[u8; 
     requires { request_answer track.now r.now m.now ≡ Ok card.now }
 {
     if let Err(failure) = standard_io::put_all(rt, card) {
-        let _ = writeln!(rt.stderr(), "tramcard: {failure}");
+        failure.tell(rt, "tramcard");
     }
 }
 

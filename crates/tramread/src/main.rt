@@ -6,7 +6,7 @@
 
 ghost use Rattle.std.specs.Prelude.{◌≡◌, [], ◌++◌, ◌≤◌, length, take, IfOk};
 ghost use Rattle.model.specs.Card.{SoundCard};
-ghost use Rattle.report.specs.Filled.{capacity};
+ghost use Rattle.report.specs.Filled.{filled_of, capacity};
 ghost use Rattle.report.specs.Report.{report_of};
 ghost use Rattle.word_loop.specs.Parts.{LastPart, OnlyAtEnd};
 
@@ -47,10 +47,12 @@ fn report_on(
     out: &mut Text,
 ) -> Result<Received, Failure>
     requires card { came.count ≤ 512 }
-    requires room { capacity out.old ≡ 230400 }
-    requires anew { out.old.text ≡ [] }
-    ensures last { LastPart (λ more. report_of (take came.count input.old ++ more)) out.new.text result }
+    requires room { capacity (filled_of out.old) ≡ 230400 }
+    requires anew { (filled_of out.old).text ≡ [] }
+    ensures last { LastPart (λ more. report_of (take came.count input.old ++ more)) (filled_of out.new).text result }
     ensures ended { SoundCard (take came.count input.old) → OnlyAtEnd result }
+    ensures same_buffer { (filled_of out.new).lent ≡ (filled_of out.old).lent }
+    ensures same_capacity { capacity (filled_of out.new) ≡ capacity (filled_of out.old) }
 {
     let n = came.count();
     let decoded = decode::decode(&input[..n]);
@@ -79,7 +81,6 @@ fn main(rt: HostRuntime) {
         return;
     }
     if let Err(failure) = run(&rt) {
-        // Where this fails too, nothing is left to say so on.
-        let _ = writeln!(rt.stderr(), "tramread: {failure}");
+        failure.tell(&rt, "tramread");
     }
 }

@@ -6,7 +6,7 @@
 
 ghost use Rattle.std.specs.Prelude.{◌≡◌, length};
 ghost use Rattle.model.specs.Decoded.{meaning};
-ghost use Rattle.report.specs.Filled.{capacity};
+ghost use Rattle.report.specs.Filled.{filled_of, capacity};
 ghost use Rattle.report.specs.Report.{words_report};
 ghost use Rattle.word_loop.specs.Parts.{FromCard, PartOfReport, LastPart, OnlyAtEnd};
 
@@ -49,9 +49,11 @@ pub fn read_words(
     out: &mut Text,
 ) -> Result<Received, Failure>
     requires from_card { FromCard (meaning code) }
-    requires room { capacity out.old ≡ 230400 }
-    ensures last { LastPart (words_report (meaning code)) out.new.text result }
+    requires room { capacity (filled_of out.old) ≡ 230400 }
+    ensures last { LastPart (words_report (meaning code)) (filled_of out.new).text result }
     ensures ended { OnlyAtEnd result }
+    ensures same_buffer { (filled_of out.new).lent ≡ (filled_of out.old).lent }
+    ensures same_capacity { capacity (filled_of out.new) ≡ capacity (filled_of out.old) }
 {
     let full = START + WORDS * layout::word_length(code);
     let mut progress = Progress::default();

@@ -8,6 +8,7 @@ use lib.ListN.{length, take}
 use lib.Seq.{length-take-le}
 use Rattle.model.specs.Card.{SoundCard}
 use Rattle.model.specs.CheckCard.{card_answer}
+use Rattle.report.specs.Filled.{filled_of}
 use Rattle.report.specs.Lines.{card_line}
 use Rattle.tramread.proofs.PartsPutOut.{card_line_part, refused_card_line, words_behind_card}
 use Rattle.tramread.proofs.report_on.Goals.{Start, After-put_card_line}
@@ -22,7 +23,7 @@ short c = rw (length-take-le c.args.came.count c.args.input.now (omega arith)) c
 
 -- what is put is the card's line
 is_card_line : (c : After-put_card_line)
-    → c.put_card_line.new.out.text ≡ card_line (card_answer (take c.args.came.count c.args.input.now))
+    → (filled_of c.put_card_line.new.out).text ≡ card_line (card_answer (take c.args.came.count c.args.input.now))
 is_card_line c =
     c.put_card_line.ensures.bytes
     ∙ rw c.requires.anew (ap card_line (c.card_answer.ensures _ (rw c.count-n.ensures at c.decode-decoded.ensures)))

@@ -1,5 +1,5 @@
 use Prim.Native.Nat.{ℕ, ◌+◌, ◌-◌, ◌*◌, ◌/◌, ◌≤◌}
-use mathlib.Core.Path.{◌≡◌, ◌∙◌}
+use mathlib.Core.Path.{◌≡◌, refl, ◌∙◌}
 use mathlib.Core.List.{List}
 use native.Mathlib.Nat.{div-le_of_le-mul}
 use native.Mathlib.Omega.{arith}
@@ -21,6 +21,7 @@ loop-turn-init c =
     record {
       input_long = omega arith;
       out_long = c.requires.room;
+      same_buffer = refl;
       numbered = omega arith;
       reached = reached_first _ _ begun.0 begun.1.0 begun.1.1;
     }
@@ -84,7 +85,8 @@ loop-turn-preserved c =
     let came : length (take (arrived at) (drop 512 (buffer at))) ≡ arrived at = length-take-le _ _ within in
     record {
       input_long = c.take_in-progress.auto.input ∙ long;
-      out_long = omega (arith, simp length-append at taken.lines.same_buffer);
+      out_long = omega (arith, simp length-append at taken.lines.same_capacity);
+      same_buffer = taken.lines.same_buffer ∙ c.loop-turn.invariant.same_buffer;
       numbered = omega (arith, rw came at taken.met, few at);
       reached = reached_turn _ _ _ _ _ _ _ c.take_in-progress.ensures.follows (omega arith) within (again at);
     }

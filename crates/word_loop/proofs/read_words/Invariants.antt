@@ -5,14 +5,15 @@ use Prim.Native.Nat.{◌*◌, ◌≤◌}
 use mathlib.Core.Path.{◌≡◌}
 use lib.ListN.{length, drop}
 use Rattle.model.specs.Decoded.{meaning}
-use Rattle.report.specs.Filled.{capacity}
+use Rattle.report.specs.Filled.{filled_of, capacity}
 use Rattle.word_loop.proofs.Reached.{Reached}
 use Rattle.word_loop.proofs.read_words.Given as goal
 
 abbrev pub invariant-loop-turn : goal.invariant-loop-turn
 invariant-loop-turn l = record {
   input_long : length l.input ≡ 64512;
-  out_long : capacity l.out ≡ 230400;
+  out_long : capacity (filled_of l.out) ≡ 230400;
+  same_buffer : (filled_of l.out).lent ≡ (filled_of l.initial.out).lent;
   numbered : l.progress.met ≤ 1600 * l._turn;
   reached : Reached (meaning l.code) (drop 512 l.input) l.progress l._turn;
 }

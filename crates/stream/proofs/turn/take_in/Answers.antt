@@ -10,7 +10,7 @@ use lib.ListN.{length, take, drop, length-drop, length-append}
 use lib.Seq.{length-take-le}
 use Rattle.model.specs.Decoded.{meaning}
 use Rattle.model.specs.Words.{word_length}
-use Rattle.report.specs.Filled.{unfilled}
+use Rattle.report.specs.Filled.{Filled, filled_of, capacity, unfilled}
 use Rattle.stream.specs.TakenIn.{TakenIn}
 use Rattle.stream.proofs.Behind.{behind_of_front, part_put_back}
 use Rattle.stream.proofs.Streaming.{follows}
@@ -43,13 +43,13 @@ pub put_words-read-requires : goal.put_words-read-requires
 put_words-read-requires c =
     let measured = (goal.at.put_words-read-requires c).After-word_length-w in
     let args = c.args in
-    let room : c.args.n / c.word_length-w.result * 144 ≤ length args.out.now.text + length args.out.now.rest =
+    let room : c.args.n / c.word_length-w.result * 144 ≤ capacity (filled_of args.out.now) =
     rw (each measured) at c.requires.room in
     record {
       fits = (
         rw (each measured, length-take-le (args.start + args.n) args.input.now c.requires.within.1)
             (omega (arith, div-mul-le_self args.n c.word_length-w.result)),
-        rw (c.clear.ensures, length-append) room,
+        rw (ap (λ (b : Filled). b.rest) c.clear.ensures, length-append) room,
         omega (arith, met_fits measured),
       );
     }
@@ -82,7 +82,7 @@ returns c =
     let tail = c.keep_tail-held in
     let lent : length (take (args.start + n - args.start) (words_of measured)) ≡ n = rw add-sub_cancel_left (arrived measured) in
     let held : tail.result ≡ n - n / w * w = rw lent at tail.ensures.count in
-    let taken : TakenIn (meaning args.code) (take n (words_of measured)) args.before _ (unfilled args.out.now) _ _ =
+    let taken : TakenIn (meaning args.code) (take n (words_of measured)) args.before _ (unfilled (filled_of args.out.now)) _ _ =
     record {
       met = rw (arrived measured, ← is_length);
       read =

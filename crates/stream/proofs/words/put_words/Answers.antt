@@ -4,6 +4,7 @@ use lib.ListN.{length, drop}
 use native.Mathlib.Omega.{arith}
 use Rattle.bits.specs.Sums.{sum_below}
 use Rattle.model.specs.Decoded.{meaning}
+use Rattle.report.specs.Filled.{filled_of}
 use Rattle.report.specs.Report.{answer_at, word_lines, words_read}
 use Rattle.report.proofs.Puts.{puts_then, puts_within, puts_nothing}
 use Rattle.stream.proofs.Pieces.{within}
@@ -13,7 +14,7 @@ use Rattle.stream.proofs.words.put_words.Goals as goal
 
 pub loop-i-init : goal.loop-i-init
 unfolding word_lines words_read sum_below
-loop-i-init c = record { lines = puts_nothing c.args.out.now _; counted = refl; few = omega arith }
+loop-i-init c = record { lines = puts_nothing (filled_of c.args.out.now) _; counted = refl; few = omega arith }
 
 -- the word that a turn reads lies within the lent bytes
 lent : (c : In-loop-i) → c.args.start + c.loop-i.i * c.word_length-w.result + c.word_length-w.result ≤ length c.args.bytes.now

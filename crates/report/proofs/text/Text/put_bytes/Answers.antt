@@ -5,8 +5,8 @@ use Rattle.report.proofs.text.Text.put_bytes.Goals as goal
 
 pub returns : goal.returns
 returns c =
-    let inside = c.self.inside in
-    let room : inside.filled + length c.args.bytes.now ≤ length inside.buffer.now =
-    omega (arith, rw (← c.self.view_is, length-drop) at c.requires, c.self.invariant) in
-    rw (← c.self.view_is, c.copy_from_slice.ensures.after)
-    (puts_copied inside.buffer.now c.args.bytes.now inside.filled room)
+    let before = c.args.self.now in
+    let room : before.filled + length c.args.bytes.now ≤ length before.buffer.now =
+    omega (arith, rw length-drop at c.requires, before.inside) in
+    rw c.copy_from_slice.ensures.after
+    (puts_copied before.buffer.now c.args.bytes.now before.filled before.buffer.ghost_name room)
