@@ -1,7 +1,7 @@
 -- Rows of the table of refusals, for every call: where no row holds there is no refusal, the first row that holds is the answer, and
 -- where there is no refusal no row holds, since no row has the number 0. A call whose refusal is 0 is served, and one with any other
 -- is answered by it. Assumes nothing.
-use mathlib.Core.Path.{◌≡◌, refl, sym}
+use mathlib.Core.Path.{◌≡◌, refl, sym, ◌∙◌}
 use mathlib.Core.Bool.{Bool, true, false, cond, false≢true}
 use mathlib.Core.List.{List, [], ◌∷◌, ◌++◌}
 use mathlib.Core.Logic.{⊎_elim}
@@ -101,15 +101,30 @@ none_past_card card rows none =
 
 -- ---- answers
 
--- the status of a call's answer is the refusal's number; its values are those of what is served, where that is 0
-pub status_and_values : {A B : Type 0} (values : A → List B) (refusal : ℕ) (served : A)
+-- what a contract says of an answer's status and values
+abbrev pub StatusAndValues : {A B : Type 0} (status : A → ℕ) (values : A → List B) (refusal : ℕ) (expected : List B) (answer : A) → Type 0
+StatusAndValues status values refusal expected answer = (status answer ≡ refusal) × (values answer ≡ if_served (status answer) expected)
+
+-- one law for every call: its answer is what it serves where the refusal's number is 0, and is the refusal otherwise
+pub status_and_values : {A B : Type 0} (status : A → ℕ) (values : A → List B) (refusal : ℕ) (expected : List B) (refused : ℕ → A) (served : A)
+    → ((number : ℕ) → status (refused number) ≡ number) → ((number : ℕ) → values (refused number) ≡ [])
+    → status served ≡ 0 → values served ≡ expected
+    → StatusAndValues status values refusal expected (unless_refused refusal refused served)
+unfolding if_served
+status_and_values status values refusal expected refused served number none zero values-are =
+    ⊎_elim
+    (λ (e : refusal ≡ 0). rw (served_if_none refusal refused served e) (zero ∙ sym e, values-are ∙ rw zero))
+    (λ (ne : refusal ≡ 0 → ⊥).
+    rw (refused_if_some refusal refused served ne) (number refusal, none refusal ∙ rw (number refusal, ne_eqb refusal 0 ne)))
+    (eq_or_ne refusal 0)
+
+-- of an answer with nothing beside it: its values are those of what is served, where its status is 0
+pub status_and_values_alone : {A B : Type 0} (values : A → List B) (refusal : ℕ) (served : A)
     → let answer : Result A Refusal = unless_refused refusal Refused (Ok served) in
     (status_of answer ≡ refusal) × (values_by values answer ≡ if_served (status_of answer) (values served))
-unfolding status_of values_by if_served
-status_and_values values refusal served =
-    ⊎_elim (λ (e : refusal ≡ 0). rw (served_if_none refusal Refused (Ok served) e) (sym e, refl))
-    (λ (ne : refusal ≡ 0 → ⊥). rw (refused_if_some refusal Refused (Ok served) ne) (refl, rw (ne_eqb refusal 0 ne)))
-    (eq_or_ne refusal 0)
+unfolding status_of values_by
+status_and_values_alone values refusal served =
+    status_and_values status_of (values_by values) refusal (values served) Refused (Ok served) (λ number. refl) (λ number. refl) refl refl
 
 -- a call with a card that is refused is answered by the card's refusal
 pub err_by_card : {A : Type 0} (card : List ℕ) (refusal : Refusal) (rows : List Row) (served : A) → RefusalOf card refusal

@@ -14,7 +14,7 @@ use Rattle.model.specs.declared.DecodedCard.{DecodedCard}
 use Rattle.model.specs.declared.Refusal.{Refusal}
 use Rattle.code_theory.specs.Offsets.{CheckPromises}
 use Rattle.code_theory.proofs.Offsets.{check_promises}
-use Rattle.code_theory.proofs.RefusalRows.{served_if_none, refused_if_some, status_and_values}
+use Rattle.code_theory.proofs.RefusalRows.{served_if_none, refused_if_some, status_and_values_alone}
 use Rattle.card_reader.specs.DecodedFrom.{DecodedCardOf}
 use Rattle.code_theory.specs.Promise.{RefusalOf}
 
@@ -53,5 +53,5 @@ module _ (card : List ℕ) where
   pub card_checked : {answer : CardAnswer} → answer ≡ card_answer card → CheckMeets answer
   unfolding card_answer card_expected summary_of
   card_checked e =
-      let (status, values) = status_and_values summary_values (card_refusal card) (summary_of card) in
+      let (status, values) = status_and_values_alone summary_values (card_refusal card) (summary_of card) in
       rw e (record { answer = refl; status = status; values = values; promises = check_promises card })

@@ -16,7 +16,7 @@ use Rattle.model.specs.ReadLevels.{strength_expected, position_answer, levels_va
 use Rattle.model.specs.declared.DecodedCard.{DecodedCard}
 use Rattle.model.specs.declared.LevelsReading.{LevelsReading}
 use Rattle.model.specs.declared.Refusal.{Refusal}
-use Rattle.code_theory.proofs.RefusalRows.{err_by_card, status_and_values}
+use Rattle.code_theory.proofs.RefusalRows.{err_by_card, status_and_values_alone}
 use Rattle.card_reader.specs.DecodedFrom.{DecodedCardOf}
 use Rattle.level_theory.specs.LevelPromises.{OffByAtMostTwiceWrongAndErased, LevelPromises}
 use Rattle.level_theory.proofs.LevelsAnswered.{position_answered, levels_sound}
@@ -55,9 +55,9 @@ module _ (card : List ℕ) (levels : List Float) where
   pub levels_answered_lem : {answer : LevelsAnswer} → answer ≡ levels_answer card levels → LevelsMeet answer
   unfolding levels_answer levels_answered levels_expected strength_expected
   levels_answered_lem e =
-      let (same, values) = status_and_values reading_values (levels_refusal card levels) served.reading in
+      let (same, values) = status_and_values_alone reading_values (levels_refusal card levels) served.reading in
       let (status, strength) =
-      status_and_values (λ (read : LevelsReading). read.strength.sum ∷ read.strength.greatest ∷ []) (levels_refusal card levels) served in
+      status_and_values_alone (λ (read : LevelsReading). read.strength.sum ∷ read.strength.greatest ∷ []) (levels_refusal card levels) served in
       rw e
       (record {
         answer = refl;

@@ -1,3 +1,4 @@
+pub mod Contracts
 pub mod CheckContract
 pub mod StartContract
 pub mod MillimetresContract

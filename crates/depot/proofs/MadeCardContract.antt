@@ -12,7 +12,7 @@ use Rattle.model.specs.ReedMuller.{reed_muller_card, order_within_limits}
 use Rattle.model.specs.MakeCard.{MadeCard, make_refusal, make_answer}
 use Rattle.reed_muller_theory.specs.MadeCards.{IsReedMullerCard}
 use Rattle.reed_muller_theory.proofs.MadeCards.{is_reed_muller_card}
-use Rattle.code_theory.proofs.RefusalRows.{status_and_values}
+use Rattle.code_theory.proofs.RefusalRows.{status_and_values_alone}
 
 -- no refusal: the code is within the limits
 pub limits_passed : (r m : ℕ) → make_refusal r m ≡ 0 → order_within_limits r m ≡ true
@@ -46,7 +46,7 @@ module _ (track r m : ℕ) where
   pub make_answered : track < 65536 → {answer : MadeCard} → answer ≡ make_answer track r m → MakeMeets answer
   unfolding make_answer
   make_answered fits e =
-      let (status, _) = status_and_values (λ (card : List ℕ). card) (make_refusal r m) (reed_muller_card track r m) in
+      let (status, _) = status_and_values_alone (λ (card : List ℕ). card) (make_refusal r m) (reed_muller_card track r m) in
       let made : CardIfWithinLimits (make_answer track r m) =
       λ within. rw (← (card_made within)) (is_reed_muller_card track r m within fits) in
       rw e (record { answer = refl; status = status; made = made })

@@ -24,7 +24,7 @@ use Rattle.model.specs.Words.{millimetres_of}
 use Rattle.model.specs.Millimetres.{MillimetresAnswer, millimetres_refusal, millimetres_answer, millimetres_values}
 use Rattle.code_theory.specs.Offsets.{MillimetresPromises}
 use Rattle.code_theory.proofs.Offsets.{millimetres_promises}
-use Rattle.code_theory.proofs.RefusalRows.{err_by_card, status_and_values}
+use Rattle.code_theory.proofs.RefusalRows.{err_by_card, status_and_values_alone}
 use Rattle.code_theory.proofs.SoundCard.{card_tests, offset_of_test}
 use Rattle.card_reader.specs.DecodedFrom.{DecodedCardOf}
 use Rattle.code_theory.specs.Promise.{RefusalOf}
@@ -80,5 +80,5 @@ module _ (card : List ℕ) (position : ℕ) where
   unfolding millimetres_answer
   millimetres_answered e =
       let (status, values) =
-      status_and_values (λ (distance : ℤ). distance ∷ []) (millimetres_refusal card position) (millimetres_of (offset_of card) position) in
+      status_and_values_alone (λ (distance : ℤ). distance ∷ []) (millimetres_refusal card position) (millimetres_of (offset_of card) position) in
       rw e (record { answer = refl; status = status; values = values; promises = millimetres_promises card position })

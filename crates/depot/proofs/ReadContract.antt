@@ -11,7 +11,7 @@ use Rattle.model.specs.Reading.{reading_values}
 use Rattle.model.specs.ReadWord.{ReadAnswer, reading_of, read_word, read_refusal, read_answer, read_values, read_expected}
 use Rattle.model.specs.declared.DecodedCard.{DecodedCard}
 use Rattle.model.specs.declared.Refusal.{Refusal}
-use Rattle.code_theory.proofs.RefusalRows.{err_by_card, status_and_values}
+use Rattle.code_theory.proofs.RefusalRows.{err_by_card, status_and_values_alone}
 use Rattle.card_reader.specs.DecodedFrom.{DecodedCardOf}
 use Rattle.position_theory.specs.ReadPromises.{OffByAtMostTwiceDamaged, OffByAtMostDamagedAndResidual, ReadPromises}
 use Rattle.position_theory.proofs.ReadPromises.{off_by_at_most_twice_damaged, off_by_at_most_damaged_and_residual, read_promises}
@@ -43,7 +43,7 @@ module _ (card received : List ℕ) where
   unfolding read_answer read_expected
   read_answered e =
       let (status, values) =
-      status_and_values reading_values (read_refusal card received) (reading_of (code_of card) received) in
+      status_and_values_alone reading_values (read_refusal card received) (reading_of (code_of card) received) in
       rw e
       (record {
         answer = refl;

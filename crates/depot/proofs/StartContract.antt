@@ -12,7 +12,7 @@ use Rattle.model.specs.Order.{last_codeword, start}
 use Rattle.model.specs.BlockStart.{NumberAnswer, start_refusal, start_answer, number_values}
 use Rattle.model.specs.declared.DecodedCard.{DecodedCard}
 use Rattle.model.specs.declared.Refusal.{Refusal}
-use Rattle.code_theory.proofs.RefusalRows.{err_by_card, status_and_values}
+use Rattle.code_theory.proofs.RefusalRows.{err_by_card, status_and_values_alone}
 use Rattle.card_reader.specs.DecodedFrom.{DecodedCardOf}
 use Rattle.code_theory.specs.Promise.{RefusalOf}
 use Rattle.model.specs.Refusals.{Refused}
@@ -45,5 +45,5 @@ module _ (card : List ℕ) (block : ℕ) where
   unfolding start_answer
   start_answered e =
       let (status, values) =
-      status_and_values (λ (number : ℕ). number ∷ []) (start_refusal card block) (start (code_of card) block) in
+      status_and_values_alone (λ (number : ℕ). number ∷ []) (start_refusal card block) (start (code_of card) block) in
       rw e (record { answer = refl; status = status; values = values })

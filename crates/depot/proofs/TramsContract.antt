@@ -16,7 +16,7 @@ use Rattle.model.specs.declared.DecodedCard.{DecodedCard}
 use Rattle.model.specs.declared.Refusal.{Refusal}
 use Rattle.model.specs.declared.Stretch.{Stretch}
 use Rattle.code_theory.specs.Promise.{RefusalOf}
-use Rattle.code_theory.proofs.RefusalRows.{err_by_card, status_and_values}
+use Rattle.code_theory.proofs.RefusalRows.{err_by_card, status_and_values_alone}
 use Rattle.tram_theory.specs.TramPromises.{NearestPromises}
 use Rattle.tram_theory.proofs.ServedTrams.{each_status, each_sound}
 use Rattle.tram_theory.proofs.TramPromises.{nearest_promises, nearest_sound}
@@ -69,6 +69,6 @@ module _ (card : List ℕ) (trams : Trams) (mark : ℕ) where
   unfolding nearest_answer nearest_expected
   nearest_answered e =
       let (status, values) =
-      status_and_values (λ (place : Option ℕ). place_value place ∷ []) (nearest_refusal card trams mark)
+      status_and_values_alone (λ (place : Option ℕ). place_value place ∷ []) (nearest_refusal card trams mark)
       (nearest_among (code_of card) trams mark) in
       rw e (record { answer = refl; status = status; values = values; promises = nearest_promises card trams mark })

@@ -14,7 +14,7 @@ use Rattle.model.specs.ReedMuller.{order_within_limits, voted_number, voted_dist
 use Rattle.model.specs.VoteChunk.{VoteAnswer, vote_refusal, vote_answer, vote_expected, vote_values}
 use Rattle.model.specs.Reading.{Chunk}
 use Rattle.model.specs.declared.ReadChunk.{ReadChunk}
-use Rattle.code_theory.proofs.RefusalRows.{status_and_values}
+use Rattle.code_theory.proofs.RefusalRows.{status_and_values_alone}
 use Rattle.reed_muller_theory.specs.Votes.{VotePromises}
 use Rattle.reed_muller_theory.proofs.VoteAnswers.{answer_for, answer_is, vote_promises}
 
@@ -54,6 +54,6 @@ module _ (r m chunk : ℕ) where
   unfolding vote_answer vote_expected
   vote_answered e =
       let (status, values) =
-      status_and_values (λ (read : ReadChunk). read.number ∷ read.differing ∷ []) (vote_refusal r m chunk)
+      status_and_values_alone (λ (read : ReadChunk). read.number ∷ read.differing ∷ []) (vote_refusal r m chunk)
       (record { number = voted_number r m (bit chunk); differing = voted_distance r m (bit chunk) }) in
       rw e (record { answer = refl; status = status; values = values; promises = vote_promises r m chunk })

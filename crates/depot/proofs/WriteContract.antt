@@ -19,7 +19,7 @@ use Rattle.model.specs.WriteWord.{WriteAnswer, Written, write_refusal, write_ans
 use Rattle.model.specs.declared.DecodedCard.{DecodedCard}
 use Rattle.model.specs.declared.Refusal.{Refusal}
 use Rattle.code_theory.specs.Promise.{RefusalOf}
-use Rattle.code_theory.proofs.RefusalRows.{served_if_none, refused_if_some, status_and_values}
+use Rattle.code_theory.proofs.RefusalRows.{served_if_none, refused_if_some, status_and_values_alone}
 use Rattle.card_reader.specs.DecodedFrom.{DecodedCardOf}
 use Rattle.position_theory.specs.WritePromises.{NeighboursDifferInOneBit, NoOtherPositionsWord, WritePromises}
 use Rattle.position_theory.proofs.WritePromises.{written_neighbours, written_alone, write_promises}
@@ -87,7 +87,7 @@ module _ (card : List ℕ) (position : ℕ) (lent : List ℕ) where
   pub write_answered : {answer : WriteAnswer} {left : List ℕ} → Defined answer left → WriteMeets answer left
   unfolding write_answer
   write_answered (answered, leaves) =
-      let (status, _) = status_and_values {B = ℕ} (λ (served : Unit). []) (write_refusal card position lent) tt in
+      let (status, _) = status_and_values_alone {B = ℕ} (λ (served : Unit). []) (write_refusal card position lent) tt in
       rw (answered, leaves)
       (record {
         answer = refl;

@@ -1,21 +1,18 @@
 -- What the calls on the yard answer: the answer is the one that the definition gives, of which the clauses of the contract are theorems; and
 -- the definition of a release answers by the card's refusal, or on the code and the track of a sound card. Assumes nothing.
-use Rattle.std.proofs.Common.{◌≡◌, refl, sym, ◌∙◌, ap, List, ◌∷◌, [], ℕ, Result, Err}
-use Rattle.std.proofs.lemmas.Bool.{cases_eq}
-use borrow.Author.Tests.{ne_eqb}
-use mathlib.Core.Logic.{⊎_elim}
-use Rattle.model.specs.Refusals.{Refused, status_of, values_by, unless_refused, if_served}
+use Rattle.std.proofs.Common.{◌≡◌, refl, ◌∙◌, ap, List, ℕ, Err}
+use Rattle.model.specs.Refusals.{Refused, status_of, values_by, if_served}
 use Rattle.model.specs.Decoded.{meaning}
 use Rattle.model.specs.Card.{code_of, track_of}
 use Rattle.model.specs.ReadWord.{reading_of}
-use Rattle.model.specs.RequestTrack.{request_refusal, request_served, request_answer, request_expected, request_values, request_value}
-use Rattle.model.specs.ReleaseTrack.{release_refusal, release_on, release_answer, release_expected, release_values, release_value}
+use Rattle.model.specs.RequestTrack.{request_refusal, request_served, request_answer, request_expected, request_values}
+use Rattle.model.specs.ReleaseTrack.{release_refusal, release_on, release_answer, release_expected, release_values}
 use Rattle.model.specs.declared.Refusal.{Refusal}
 use Rattle.model.specs.declared.Yard.{Yard}
 use Rattle.model.specs.declared.Requested.{Requested}
 use Rattle.model.specs.declared.Released.{Released}
 use Rattle.model.specs.declared.DecodedCard.{DecodedCard}
-use Rattle.code_theory.proofs.RefusalRows.{served_if_none, refused_if_some}
+use Rattle.code_theory.proofs.RefusalRows.{status_and_values}
 use Rattle.code_theory.specs.Promise.{RefusalOf}
 use Rattle.yard_theory.specs.YardPromises.{RequestPromises, ReleasePromises}
 use Rattle.yard_theory.proofs.OrderlyYards.{Sized}
@@ -23,19 +20,7 @@ use Rattle.yard_theory.proofs.RequestPromises.{request_promises}
 use Rattle.yard_theory.proofs.ReleasePromises.{release_promises}
 use Rattle.yard_theory.proofs.ReleaseStatus.{request_served_status, released_status, released_by_word, by_one_refusal, release_sound, release_by_card}
 use Rattle.card_reader.specs.DecodedFrom.{DecodedCardOf}
-
--- status and values of an answer beside a yard, as of one alone
-status_and_values_beside : {S A : Type 0} (answer_in : S → Result A Refusal) (values : A → List ℕ) (refusal : ℕ) (refused : ℕ → S) (served : S)
-    → ((number : ℕ) → answer_in (refused number) ≡ Refused number) → status_of (answer_in served) ≡ 0
-    → let answer = answer_in (unless_refused refusal refused served) in
-    (status_of answer ≡ refusal) × (values_by values answer ≡ if_served (status_of answer) (values_by values (answer_in served)))
-unfolding status_of values_by if_served
-status_and_values_beside answer_in values refusal refused served is zero =
-    ⊎_elim
-    (λ (none : refusal ≡ 0). rw (served_if_none refusal refused served none) (zero ∙ sym none, rw zero))
-    (λ (some : refusal ≡ 0 → ⊥).
-    rw (refused_if_some refusal refused served some, is refusal) (refl, rw (ne_eqb refusal 0 some)))
-    (cases_eq refusal 0)
+use Rattle.depot.proofs.Contracts.{met}
 
 -- ---- a request
 
@@ -50,13 +35,13 @@ module _ (yard : Yard) (tram track : ℕ) where
       }
 
   pub request_answered : Sized yard → {r : Requested} → r ≡ request_answer yard tram track → RequestMeets r
-  unfolding request_answer request_expected
+  unfolding request_answer request_expected status_of values_by
   request_answered sized e =
       let (status, values) =
-      status_and_values_beside (λ (r : Requested). r.answer) (λ request. request_value request ∷ []) (request_refusal yard tram track)
-      (λ number. record { answer = Refused number; yard = yard }) (request_served yard tram track) (λ number. refl)
-      (request_served_status yard tram track) in
-      rw e (record { answer = refl; status = status; values = values; promises = request_promises yard tram track sized })
+      status_and_values (λ (r : Requested). status_of r.answer) (λ r. request_values r.answer) (request_refusal yard tram track)
+      (request_expected yard tram track) (λ number. record { answer = Refused number; yard = yard }) (request_served yard tram track)
+      (λ number. refl) (λ number. refl) (request_served_status yard tram track) refl in
+      (met RequestMeets (record { answer = refl; status = status; values = values; promises = request_promises yard tram track sized }) e).1
 
 -- ---- a release
 
@@ -71,19 +56,21 @@ module _ (yard : Yard) (tram : ℕ) (word : List ℕ) (mark : ℕ) (card : List 
       }
 
   pub release_answered : Sized yard → {r : Released} → r ≡ release_answer yard tram word mark card → ReleaseMeets r
-  unfolding release_expected
+  unfolding release_expected status_of values_by
   release_answered sized e =
       let (status, values) =
-      status_and_values_beside (λ (r : Released). r.answer) (λ release. release_value release ∷ []) (release_refusal yard tram word card)
-      (λ number. record { answer = Refused number; yard = yard }) (released_by_word yard tram word mark card) (λ number. refl)
-      (released_status (code_of card) (track_of card) yard (reading_of (code_of card) word).position mark) in
-      rw e
-      (record {
+      status_and_values (λ (r : Released). status_of r.answer) (λ r. release_values r.answer) (release_refusal yard tram word card)
+      (release_expected yard word mark card) (λ number. record { answer = Refused number; yard = yard })
+      (released_by_word yard tram word mark card) (λ number. refl) (λ number. refl)
+      (released_status (code_of card) (track_of card) yard (reading_of (code_of card) word).position mark) refl in
+      let meets : ReleaseMeets (release_answer yard tram word mark card) =
+      record {
         answer = refl;
         status = ap (λ (r : Released). status_of r.answer) (by_one_refusal yard tram word mark card) ∙ status;
         values = rw (by_one_refusal yard tram word mark card) values;
         promises = release_promises yard tram word mark card sized;
-      })
+      } in
+      (met ReleaseMeets meets e).1
 
   pub release_by_refused_card : (refusal : Refusal) → RefusalOf card refusal
       → ◌≡◌ {A = Released} (record { answer = Err refusal; yard = yard }) (release_answer yard tram word mark card)

@@ -24,7 +24,7 @@ use Rattle.model.specs.NearestTram.{NearestAnswer, no_tram, place_value, nearest
 use Rattle.model.specs.NearestTram.{nearest_expected}
 use Rattle.model.specs.declared.Refusal.{Refusal}
 use Rattle.model.specs.declared.Stretch.{Stretch}
-use Rattle.code_theory.proofs.RefusalRows.{served_if_none, refused_if_some, status_and_values}
+use Rattle.code_theory.proofs.RefusalRows.{served_if_none, refused_if_some, status_and_values_alone}
 use Rattle.tram_theory.specs.TramPromises.{NearestPromises}
 use Rattle.tram_theory.proofs.ServedTrams.{too_many, too_many_refused}
 use Rattle.tram_theory.proofs.TramPromises.{served, nearest_promises}
@@ -238,7 +238,7 @@ module _ (card lows highs lent : List ℕ) (mark : ℕ) where
     unfolding nearest_answer nearest_expected
     definition_served =
         let (status, values) =
-        status_and_values (λ (place : Option ℕ). place_value place ∷ []) (nearest_refusal card (trams_lent lows highs) mark)
+        status_and_values_alone (λ (place : Option ℕ). place_value place ∷ []) (nearest_refusal card (trams_lent lows highs) mark)
         (nearest_among (code_of card) (trams_lent lows highs) mark) in
         (refl, (status, (values, nearest_promises card (trams_lent lows highs) mark)))
 

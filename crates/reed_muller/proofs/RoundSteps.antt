@@ -10,9 +10,10 @@ use lib.Pow.{pow_mono}
 use borrow.Author.Tests.{lt-ltb, le-ltb, eqb-true}
 use Rattle.bits.specs.Sums.{sum_over, difference}
 use Rattle.bits.specs.Places.{bit, weight}
+use Rattle.bits.proofs.Sums.{sum_mono}
 use Rattle.bits.proofs.Binary.{bit_bit, bit_xor_lem, weight_zero, weight_wider}
 use Rattle.bits.proofs.Counting.{those_pass, kept, kept_below, kept_above, kept_append}
-use Rattle.model.specs.ReedMuller.{product, sets_of, sets_up_to, count_of_sets, product_row, classes, votes_for_one}
+use Rattle.model.specs.ReedMuller.{product, sets_of, sets_up_to, count_of_sets, product_row, class_sum, classes, votes_for_one}
 use Rattle.model.specs.ReedMuller.{coefficient, vote_round}
 use Rattle.reed_muller_theory.proofs.Vote.{vote_bit}
 use Rattle.reed_muller_theory.proofs.ReedMullerDistance.{classes_of_largest}
@@ -42,6 +43,18 @@ pub not_most_for_one : (m S : ℕ) (y : ℕ → ℕ) (twice classes' : ℕ) → 
     → coefficient m y S ≡ 0
 unfolding coefficient
 not_most_for_one m S y twice classes' is all no_more = rw (le-ltb (classes m S) (2 * votes_for_one m S y) (omega arith))
+
+sum_bit : (m S : ℕ) (y : ℕ → ℕ) (c : ℕ) → class_sum m S y c < 2
+unfolding class_sum
+sum_bit m S y c = omega arith
+
+-- no more classes sum to 1 than there are
+pub votes_bound : (m S : ℕ) (y : ℕ → ℕ) → votes_for_one m S y ≤ classes m S
+unfolding votes_for_one classes
+votes_bound m S y = sum_mono (2 ^ m) (λ c l. at_most (product S c) (class_sum m S y c) (sum_bit m S y c))
+  where
+    at_most : (a b : ℕ) → b < 2 → a * b ≤ a
+    at_most a b h = let m : a * b ≤ a * 1 = mul-le-mul_left a (omega arith) in omega arith
 
 -- ---- the sets of one size
 

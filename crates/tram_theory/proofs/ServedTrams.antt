@@ -19,7 +19,7 @@ use Rattle.model.specs.Trams.{Trams, most_trams, widened_at, rows_of_trams, tram
 use Rattle.model.specs.Trams.{each_tram_on, each_tram_answer}
 use Rattle.model.specs.declared.Stretch.{Stretch}
 use Rattle.model.specs.declared.Refusal.{Refusal}
-use Rattle.code_theory.proofs.RefusalRows.{served_if_none, refused_if_some, err_by_card, past_card, status_and_values}
+use Rattle.code_theory.proofs.RefusalRows.{served_if_none, refused_if_some, err_by_card, past_card, status_and_values_alone}
 use Rattle.code_theory.specs.Promise.{RefusalOf}
 use Rattle.tram_theory.specs.TramPromises.{AnsweredYes}
 
@@ -51,7 +51,7 @@ module _ (test : Stretch → Bool) (stretch : ℕ → Stretch) (count : ℕ) whe
 module _ (test : Stretch → Bool) (C : Code) (trams : Trams) (refusal : ℕ) where
   pub each_refusal : status_of (each_tram_unless refusal test C trams) ≡ refusal
   unfolding each_tram_unless
-  each_refusal = (status_and_values (λ answers. answers) refusal _).0
+  each_refusal = (status_and_values_alone (λ answers. answers) refusal _).0
 
   pub each_answers : refusal ≡ 0 → answers_of (each_tram_unless refusal test C trams) ≡ answers_by test (widened_at C trams) (length trams)
   unfolding each_tram_unless answers_of

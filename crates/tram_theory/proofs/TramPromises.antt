@@ -16,7 +16,7 @@ use Rattle.model.specs.TramsCrossing.{crosses, crossing_answer}
 use Rattle.model.specs.TramsWithin.{lies_within, within_answer}
 use Rattle.model.specs.NearestTram.{nearest_of, nearest_on, nearest_answer, NoTram, Tram, NearestAnswer}
 use Rattle.model.specs.declared.Stretch.{Stretch}
-use Rattle.code_theory.proofs.RefusalRows.{none_past_card, past_card, served_if_none, status_and_values}
+use Rattle.code_theory.proofs.RefusalRows.{none_past_card, past_card, served_if_none, status_and_values_alone}
 use Rattle.tram_theory.specs.Stretches.{Holds, WithinMarks, Between, OnTrack, StandsFrom, WidenedHoldsBoth}
 use Rattle.tram_theory.specs.TramPromises.{YesExactlyIf, NoneMissed, TrulyWithin, CrossingPromises, WithinPromises, NearestOfAll}
 use Rattle.tram_theory.specs.TramPromises.{ZeroExactlyIfCrossing, NoneCloser, NearestPromises}
@@ -123,7 +123,7 @@ module _ (card : List ℕ) (trams : Trams) (mark : ℕ) where
 
   status_0 : status_of (nearest_answer card trams mark) ≡ 0 → refusal ≡ 0
   unfolding nearest_answer
-  status_0 e = sym (status_and_values {B = ℕ} (λ (place : Option ℕ). []) refusal _).0 ∙ e
+  status_0 e = sym (status_and_values_alone {B = ℕ} (λ (place : Option ℕ). []) refusal _).0 ∙ e
 
   tram_answered : (place : ℕ) → nearest_answer card trams mark ≡ Tram place
       → (refusal ≡ 0) × (nearest_of mark stretch (length trams) ≡ Some place)

@@ -1,16 +1,17 @@
 -- A yard that is not refused by 26, as facts: each tram is in it at most once, nobody waits for a free track, and at most 32 wait. Assumes
 -- nothing.
-use mathlib.Core.Path.{◌≡◌, refl, sym, ap}
+use mathlib.Core.Path.{◌≡◌, refl, sym, ap, ◌∙◌}
 use mathlib.Core.Bool.{Bool, true, false, cond, not, ◌||◌, false≢true}
-use mathlib.Core.List.{List, [], ◌∷◌}
+use mathlib.Core.List.{List, [], ◌∷◌, map}
 use mathlib.Core.Logic.{⊎_elim}
 use Prim.Native.Nat.{ℕ, suc, ◌≤◌}
 use native.Mathlib.Omega.{arith}
 use borrow.Author.Tests.{eq-eqb, ne_eqb, le-ltb, ltb-false}
 use lib.Dec.{ltb, eqb}
-use lib.ListN.{length}
+use lib.ListN.{length, length-map}
 use Rattle.bits.proofs.Numbers.{eq_or_ne, true_or_false, or_false_left, or_false_right}
 use Rattle.model.specs.Yard.{track_count, most_waiting, is_held, entries, queue_in, queue, trams_of, any_twice, any_for_free, unsound}
+use Rattle.model.specs.declared.Slot.{Slot}
 use Rattle.model.specs.declared.Waiting.{Waiting}
 use Rattle.model.specs.declared.Yard.{Yard}
 use Rattle.yard_theory.proofs.TramCounts.{times, once, none_twice}
@@ -19,6 +20,12 @@ use Rattle.yard_theory.proofs.TramCounts.{times, once, none_twice}
 pub record Sized (yard : Yard) : Type 0 where
   pub tracks : length yard.slots ≡ track_count
   pub places : length yard.waiting ≡ most_waiting
+
+-- which may be known of the values that the structs are made of
+pub sized_by_type : {A B : Type 0} (yard : Yard) (slot : Slot → A) (entry : Waiting → B) → length (map slot yard.slots) ≡ track_count
+    → length (map entry yard.waiting) ≡ most_waiting → Sized yard
+sized_by_type yard slot entry tracks places =
+    record { tracks = sym (length-map yard.slots slot) ∙ tracks; places = sym (length-map yard.waiting entry) ∙ places }
 
 pub record Orderly (yard : Yard) : Type 0 where
   pub sized : Sized yard
