@@ -2,16 +2,18 @@
 ghost use Rattle.std.specs.Prelude.{◌≡◌, ◌≤◌};
 ghost use Rattle.model.specs.Yard.{most_waiting, trams_of, among, any_for_free, unsound};
 
-use super::{tracks, trams};
-use model::{MOST_WAITING, Waiting, Yard};
+use super::trams;
+use model::{MOST_WAITING, Slot, Waiting, Yard};
 
-// Whether one of these waits for a free track.
+// Whether one of these waits for a free track, as one above 15 is. (The tracks are looked at in place: a call that takes the yard by value
+// would copy it for each entry.)
 fn any_for_free(yard: Yard, entries: &[Waiting]) -> bool
     ensures { result ≡ any_for_free yard entries.now }
 {
-    entries
-        .iter()
-        .any(|entry| !tracks::is_held(yard, usize::from(entry.track)))
+    entries.iter().any(|entry| {
+        let slot = yard.slots.get(usize::from(entry.track));
+        !matches!(slot, Some(Slot::Held(_)))
+    })
 }
 
 // Whether the yard is refused by 26.

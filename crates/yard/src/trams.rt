@@ -8,7 +8,8 @@ use model::{Slot, Waiting};
 pub fn is_among(tram: u16, slots: &[Slot], entries: &[Waiting]) -> bool
     ensures { result ≡ among tram (holders slots.now ++ map (λ w. w.tram) entries.now) }
 {
-    slots.contains(&Slot::Held(tram)) || entries.iter().any(|entry| entry.tram == tram)
+    slots.iter().any(|slot| *slot == Slot::Held(tram))
+        || entries.iter().any(|entry| entry.tram == tram)
 }
 
 // Whether one of the trams that hold these tracks or wait by these entries is among those after it.
