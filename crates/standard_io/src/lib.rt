@@ -45,7 +45,7 @@ impl Failure {
     }
 
     // Tells of the failure on standard error: a line behind the program's name. Each piece of it is tried, also where standard error
-    // did not take one before it; where it takes none, nothing is left to say so on.
+    // did not take one before it; where it takes none, nothing is left to say so on. (A program's name has at most 39 bytes.)
     pub fn tell(self, rt: &HostRuntime, program: &str) {
         let (doing, reason) = self.parts();
         let mut begun = Cursor::new([0; 64]);
